@@ -20,7 +20,7 @@ use Rattle.call_rules.specs.CallResult.{CallResult, changes, done, needs, refuse
 use Rattle.call_rules.specs.Chain.{begun_anew, f_chain, with_program}
 use Rattle.call_rules.specs.Delivery.{after_delivery, delivered}
 use Rattle.call_rules.specs.Fork.{f_fork, forked_regs, with_child}
-use Rattle.call_rules.specs.Inner.{Inner, own_at, regs_at, with_regs_of}
+use Rattle.call_rules.specs.Processes.{Processes, own_at, regs_at, with_regs_of}
 use Rattle.call_rules.specs.ModuleLinks.{Entered, without_module_link, without_primary_link}
 use Rattle.call_rules.specs.Program.{Program, blocks_of_pages, most_pages, program_kind}
 use Rattle.call_rules.specs.Ready.{Act, act_of, attempts, delivers, executes}
@@ -56,25 +56,25 @@ use Rattle.isolation_laws.proofs.Programs.{room}
 use Rattle.area_laws.proofs.Groups.{goes-on, has-read, was-shared}
 
 -- a process may gain an area: it acts, or begins by F$Fork
-abbrev pub MayGain : Inner → ℕ → ℕ → Type 0
+abbrev pub MayGain : Processes → ℕ → ℕ → Type 0
 MayGain m q r = (r ≡ q) ⊎ AttemptsCall m q Call.Fork × (free_process m.records ≡ Some r)
 
 -- what appears in its area is of no module's group, or the one that acts had it
-abbrev pub AreasApart : Inner → ℕ → Inner → Type 0
+abbrev pub AreasApart : Processes → ℕ → Processes → Type 0
 AreasApart m q n =
     (r object : ℕ) → MayGain m q r → IsOfArea n r object → Appears m.memory n.memory object
     → NamesBlock (map_at m.memory q) object ⊎ (IsOfModule n.memory object → ⊥)
 
-abbrev AttemptApart : Inner → ℕ → CallResult → Type 0
+abbrev AttemptApart : Processes → ℕ → CallResult → Type 0
 AttemptApart m p result = AreasApart m p (after_attempt m p result)
 
 -- a process attempts one call at a time
-chains-alone : (m : Inner) (p : ℕ) → AttemptsCall m p Call.Chain → AttemptsCall m p Call.Fork → ⊥
+chains-alone : (m : Processes) (p : ℕ) → AttemptsCall m p Call.Chain → AttemptsCall m p Call.Fork → ⊥
 chains-alone m p (code, next, is) (other, next_too, is_too) = cc
 
 -- where no module is entered
-module _ (m : Inner) (p : ℕ) (names : NameAppeared m) where
-  apart-by : (n : Inner) → KeepsModules m.memory.modules n.memory.modules → AreasApart m p n
+module _ (m : Processes) (p : ℕ) (names : NameAppeared m) where
+  apart-by : (n : Processes) → KeepsModules m.memory.modules n.memory.modules → AreasApart m p n
   apart-by n keeps r object may area appears = inr (λ grouped. (
       let below = names.groups object (was-shared m.memory n.memory object keeps grouped) in
       let late = appears.0 in
@@ -134,36 +134,36 @@ module _ (m : MemoryState) (c number count : ℕ) (memory : MemoryState) (begins
 
 -- ---- a file that is loaded
 
-module _ (s : State) (p : ℕ) (names : NameAppeared s.inner) (file : ProgramFile) (loaded : Loaded) (it : LoadsFile s p file loaded) where
-  abbrev before : Inner
+module _ (s : State) (p : ℕ) (names : NameAppeared s.processes) (file : ProgramFile) (loaded : Loaded) (it : LoadsFile s p file loaded) where
+  abbrev before : Processes
   before = with-file s p file loaded it
 
   abbrev program : Program
-  program = loaded_program s.inner p file loaded.first
+  program = loaded_program s.processes p file loaded.first
 
   -- groups are of objects of the file and of older ones
   loaded-below : (object : ℕ) → IsOfModule loaded.memory object → object < length loaded.memory.objects
   loaded-below object grouped =
       by_place (shared-comes s p file loaded it before (omega arith) object (inr grouped))
     where
-      by_place : IsNewOrShared s.inner.memory loaded.memory object → object < length loaded.memory.objects
+      by_place : IsNewOrShared s.processes.memory loaded.memory object → object < length loaded.memory.objects
       by_place (inl appears) = appears.1
       by_place (inr shared) =
-          omega (arith, names.groups object shared, more-objects s.inner.memory file.bytes loaded (is-loaded s p file loaded it))
+          omega (arith, names.groups object shared, more-objects s.processes.memory file.bytes loaded (is-loaded s p file loaded it))
 
   late-apart : (n : MemoryState) → KeepsModules loaded.memory.modules n.modules → (object : ℕ) → length loaded.memory.objects ≤ object → IsOfModule n object → ⊥
   late-apart n keeps object late grouped =
       let below = loaded-below object (was-shared loaded.memory n object keeps grouped) in omega (arith, below, late)
 
   -- a child starts it
-  module _ (lives : IsLiving s.inner.records p) (call : AttemptsCall s.inner p Call.Fork)
-      (has : HasRoom before p program) (child : ℕ) (free : free_process s.inner.records ≡ Some child)
+  module _ (lives : IsLiving s.processes.records p) (call : AttemptsCall s.processes p Call.Fork)
+      (has : HasRoom before p program) (child : ℕ) (free : free_process s.processes.records ≡ Some child)
       (memory : MemoryState) (is : started loaded.memory child loaded.first.number (blocks_of_pages program.pages) ≡
       Ok memory) where
-    abbrev made : Inner
+    abbrev made : Processes
     made = with_regs_of (with_child before p child program memory) p (forked_regs (regs_at before p) child program)
 
-    abbrev forked : Inner
+    abbrev forked : Processes
     forked = goes_on made p (done_regs (regs_at made p))
 
     begins : Started loaded.memory child loaded.first.number (blocks_of_pages program.pages) memory
@@ -178,15 +178,15 @@ module _ (s : State) (p : ℕ) (names : NameAppeared s.inner) (file : ProgramFil
         late-apart forked.memory left.leaves.modules object (area-late loaded.memory child loaded.first.number (blocks_of_pages program.pages) memory begins slot object below at)
 
     -- its own map stays
-    parent-had : (r object : ℕ) → r ≡ p → p ≢ child → IsOfArea forked r object → NamesBlock (map_at s.inner.memory p) object
+    parent-had : (r object : ℕ) → r ≡ p → p ≢ child → IsOfArea forked r object → NamesBlock (map_at s.processes.memory p) object
     parent-had r object same differ area =
         let (slot, below, at) = subst (λ (r : ℕ). IsOfArea forked r object) same area in
-        let stays : map_at memory p ≡ map_at s.inner.memory p = map-kept loaded.memory child loaded.first.number
-        (blocks_of_pages program.pages) memory begins p differ ∙ map-same s.inner.memory file.bytes loaded
+        let stays : map_at memory p ≡ map_at s.processes.memory p = map-kept loaded.memory child loaded.first.number
+        (blocks_of_pages program.pages) memory begins p differ ∙ map-same s.processes.memory file.bytes loaded
         (is-loaded s p file loaded it) p in
         (slot, ap (λ (slots : Slots ℕ). block_at slots slot) (sym stays) ∙ at)
 
-    forked-apart : AttemptApart s.inner p (done made)
+    forked-apart : AttemptApart s.processes p (done made)
     forked-apart r object (inl same) area appears =
         elim (cases_eq p child) [
           | inl too ↦ inr (child-apart r object (same ∙ too) area)
@@ -195,12 +195,12 @@ module _ (s : State) (p : ℕ) (names : NameAppeared s.inner) (file : ProgramFil
     forked-apart r object (inr (forks_it, free_too)) area appears =
         inr (child-apart r object (same_Some r child (sym free_too ∙ free)) area)
 
-  fork-apart : IsLiving s.inner.records p → AttemptsCall s.inner p Call.Fork → HasRoom before p program → AttemptApart s.inner p (starts_first forks s.inner p file loaded)
+  fork-apart : IsLiving s.processes.records p → AttemptsCall s.processes p Call.Fork → HasRoom before p program → AttemptApart s.processes p (starts_first forks s.processes p file loaded)
   fork-apart lives call has =
-      of-refuses s.inner p names (not (loaded.first.entry.info.kind == program_kind)) E_NEMOD (forks before p program)
-      (of-needs s.inner p names (free_process s.inner.records) E_PRCFUL (λ child. refuses (nat_lt most_pages program.pages) E_MEMFUL (making child))
-      (λ child free. of-refuses s.inner p names (nat_lt most_pages program.pages) E_MEMFUL (making child)
-      (of-changes s.inner p names (started loaded.memory child loaded.first.number (blocks_of_pages program.pages)) (begins_so child)
+      of-refuses s.processes p names (not (loaded.first.entry.info.kind == program_kind)) E_NEMOD (forks before p program)
+      (of-needs s.processes p names (free_process s.processes.records) E_PRCFUL (λ child. refuses (nat_lt most_pages program.pages) E_MEMFUL (making child))
+      (λ child free. of-refuses s.processes p names (nat_lt most_pages program.pages) E_MEMFUL (making child)
+      (of-changes s.processes p names (started loaded.memory child loaded.first.number (blocks_of_pages program.pages)) (begins_so child)
       (λ memory is. forked-apart lives call has child free memory is))))
     where
       begins_so : ℕ → MemoryState → CallResult
@@ -212,12 +212,12 @@ module _ (s : State) (p : ℕ) (names : NameAppeared s.inner) (file : ProgramFil
           changes (started loaded.memory child loaded.first.number (blocks_of_pages program.pages)) (begins_so child)
 
   -- the process begins anew with it
-  module _ (call : AttemptsCall s.inner p Call.Chain) (has : HasRoom before p program) (memory : MemoryState)
+  module _ (call : AttemptsCall s.processes p Call.Chain) (has : HasRoom before p program) (memory : MemoryState)
       (is : started loaded.memory p loaded.first.number (blocks_of_pages program.pages) ≡ Ok memory) where
-    abbrev anew : Inner
+    abbrev anew : Processes
     anew = begun_anew (with_program before p program memory) p program
 
-    abbrev chained : Inner
+    abbrev chained : Processes
     chained = without_primary_link anew (own_at before p)
 
     chained-map : (primary : Option ModId) → map_at (option_map_or (λ (id : ModId). without_module_link anew id.0) primary anew).memory p ≡ map_at memory p
@@ -227,7 +227,7 @@ module _ (s : State) (p : ℕ) (names : NameAppeared s.inner) (file : ProgramFil
     chained-left : AttemptLeft before p (done chained)
     chained-left = chain-done before p call program memory has is
 
-    chained-apart : AttemptApart s.inner p (done chained)
+    chained-apart : AttemptApart s.processes p (done chained)
     chained-apart r object (inl same) area appears =
         let (slot, below, at) = subst (λ (r : ℕ). IsOfArea chained r object) same area in
         let map_is : map_at chained.memory p ≡ map_at memory p = chained-map (own_at before p).primary in
@@ -236,13 +236,13 @@ module _ (s : State) (p : ℕ) (names : NameAppeared s.inner) (file : ProgramFil
         (subst (λ (slots : Slots ℕ). slot < slots.low) map_is below)
         (subst (λ (slots : Slots ℕ). block_at slots slot ≡ Some object) map_is at) in
         inr (late-apart chained.memory chained-left.leaves.modules object late)
-    chained-apart r object (inr (forks_it, free)) area appears = absurd (chains-alone s.inner p call forks_it)
+    chained-apart r object (inr (forks_it, free)) area appears = absurd (chains-alone s.processes p call forks_it)
 
-  chain-apart : AttemptsCall s.inner p Call.Chain → HasRoom before p program → AttemptApart s.inner p (starts_first chains s.inner p file loaded)
+  chain-apart : AttemptsCall s.processes p Call.Chain → HasRoom before p program → AttemptApart s.processes p (starts_first chains s.processes p file loaded)
   chain-apart call has =
-      of-refuses s.inner p names (not (loaded.first.entry.info.kind == program_kind)) E_NEMOD (chains before p program)
-      (of-refuses s.inner p names (nat_lt most_pages program.pages) E_MEMFUL (changes (started loaded.memory p loaded.first.number (blocks_of_pages program.pages)) begins_so)
-      (of-changes s.inner p names (started loaded.memory p loaded.first.number (blocks_of_pages program.pages)) begins_so
+      of-refuses s.processes p names (not (loaded.first.entry.info.kind == program_kind)) E_NEMOD (chains before p program)
+      (of-refuses s.processes p names (nat_lt most_pages program.pages) E_MEMFUL (changes (started loaded.memory p loaded.first.number (blocks_of_pages program.pages)) begins_so)
+      (of-changes s.processes p names (started loaded.memory p loaded.first.number (blocks_of_pages program.pages)) begins_so
       (λ memory is. chained-apart call has memory is)))
     where
       begins_so : MemoryState → CallResult
@@ -251,68 +251,73 @@ module _ (s : State) (p : ℕ) (names : NameAppeared s.inner) (file : ProgramFil
 
 -- ---- attempts
 
-module _ (s : State) (p : ℕ) (names : NameAppeared s.inner) (now : TimePacket) (result : CallResult) (new : Files) where
-  forks-apart : IsLiving s.inner.records p → AttemptsCall s.inner p Call.Fork → ForkAttempts s.inner (asker_of s.inner p now) s.files (length s.terms) p result new → AttemptApart s.inner p result
-  forks-apart lives call it = by_named (named_program s.inner p) refl it
+module _ (s : State) (p : ℕ) (names : NameAppeared s.processes) (now : TimePacket) (result : CallResult) (new : Files) where
+  forks-apart : IsLiving s.processes.records p → AttemptsCall s.processes p Call.Fork → ForkAttempts s.processes (asker_of s.processes p now) s.files (length s.terms) p result new
+      → AttemptApart s.processes p result
+  forks-apart lives call it = by_named (named_program s.processes p) refl it
     where
-      by_named : (named : Option Entered) → named_program s.inner p ≡ named → MatchOption named
-          (StartsFile forks s.inner (asker_of s.inner p now) s.files (length s.terms) p result new)
-          (λ named. (result ≡ f_fork s.inner p) × (new ≡ s.files)) → AttemptApart s.inner p result
+      by_named : (named : Option Entered) → named_program s.processes p ≡ named → MatchOption named
+          (StartsFile forks s.processes (asker_of s.processes p now) s.files (length s.terms) p result new)
+          (λ named. (result ≡ f_fork s.processes p) × (new ≡ s.files)) → AttemptApart s.processes p result
       by_named None unnamed it =
-          goes-on s.inner (AttemptApart s.inner p) (refused-apart s.inner p names) it.reading (starts_first forks s.inner p) result
+          goes-on s.processes (AttemptApart s.processes p) (refused-apart s.processes p names) it.reading (starts_first forks s.processes p) result
           (λ file loaded is loading. (
           let read = has-read s p now result new file it.reading is it.reads in
           let found : LoadsFile s p file loaded = record { call = inr (inl (record { attempted = call; unnamed = unnamed })); found = read.found; loads = loading } in
           fork-apart s p names file loaded found lives call (room s p file loaded found (inl call) read.parameters read.given)))
           it.comes
       by_named (Some entered) named (is, same) =
-          subst (AttemptApart s.inner p) (sym is) (left-apart s.inner p names (f_fork s.inner p) (attempt-left s.inner p Call.Fork lives call))
+          subst (AttemptApart s.processes p) (sym is) (left-apart s.processes p names (f_fork s.processes p) (attempt-left s.processes p Call.Fork lives call))
 
-  chains-apart : IsLiving s.inner.records p → AttemptsCall s.inner p Call.Chain → ChainAttempts s.inner (asker_of s.inner p now) s.files (length s.terms) p result new → AttemptApart s.inner p result
-  chains-apart lives call it = by_named (named_program s.inner p) refl it
+  chains-apart : IsLiving s.processes.records p → AttemptsCall s.processes p Call.Chain → ChainAttempts s.processes (asker_of s.processes p now) s.files (length s.terms) p result new
+      → AttemptApart s.processes p result
+  chains-apart lives call it = by_named (named_program s.processes p) refl it
     where
-      by_named : (named : Option Entered) → named_program s.inner p ≡ named → MatchOption named
-          (StartsFile chains s.inner (asker_of s.inner p now) s.files (length s.terms) p result new)
-          (λ named. (result ≡ f_chain s.inner p) × (new ≡ s.files)) → AttemptApart s.inner p result
+      by_named : (named : Option Entered) → named_program s.processes p ≡ named → MatchOption named
+          (StartsFile chains s.processes (asker_of s.processes p now) s.files (length s.terms) p result new)
+          (λ named. (result ≡ f_chain s.processes p) × (new ≡ s.files)) → AttemptApart s.processes p result
       by_named None unnamed it =
-          goes-on s.inner (AttemptApart s.inner p) (refused-apart s.inner p names) it.reading (starts_first chains s.inner p) result
+          goes-on s.processes (AttemptApart s.processes p) (refused-apart s.processes p names) it.reading (starts_first chains s.processes p) result
           (λ file loaded is loading. (
           let read = has-read s p now result new file it.reading is it.reads in
           let found : LoadsFile s p file loaded = record { call = inr (inr (record { attempted = call; unnamed = unnamed })); found = read.found; loads = loading } in
           chain-apart s p names file loaded found call (room s p file loaded found (inr call) read.parameters read.given)))
           it.comes
       by_named (Some entered) named (is, same) =
-          subst (AttemptApart s.inner p) (sym is) (left-apart s.inner p names (f_chain s.inner p) (attempt-left s.inner p Call.Chain lives call))
+          subst (AttemptApart s.processes p) (sym is) (left-apart s.processes p names (f_chain s.processes p) (attempt-left s.processes p Call.Chain lives call))
 
 -- ---- events that are no F$Load
 
-module _ (s : State) (p code : ℕ) (names : NameAppeared s.inner) (next : act_of s.inner p ≡ attempts code)
-    (lives : IsLiving s.inner.records p) (other : act_of s.inner p ≢ attempts F_LOAD) (now : TimePacket) (rest : Rest)
+module _ (s : State) (p code : ℕ) (names : NameAppeared s.processes) (next : act_of s.processes p ≡ attempts code)
+    (lives : IsLiving s.processes.records p) (other : act_of s.processes p ≢ attempts F_LOAD) (now : TimePacket) (rest : Rest)
   where
-    serves-apart : (service : Service) (result : CallResult) → Asks code service → Serves service s now p result rest → AttemptApart s.inner p result
+    serves-apart : (service : Service) (result : CallResult) → Asks code service → Serves service s now p result rest → AttemptApart s.processes p result
     serves-apart loads result asked it = absurd (other (next ∙ ap attempts asked))
     serves-apart (on_processes Call.Fork) result asked (files, it, is) =
         forks-apart s p names now result files lives (code, next, asked) it
     serves-apart (on_processes Call.Chain) result asked (files, it, is) =
         chains-apart s p names now result files lives (code, next, asked) it
     serves-apart (on_processes call) result asked it =
-        subst (AttemptApart s.inner p) (sym it.0) (left-apart s.inner p names (attempted call s.inner p) (attempt-left s.inner p call lives (code, next, asked)))
+        subst (AttemptApart s.processes p) (sym it.0) (left-apart s.processes p names (attempted call s.processes p) (attempt-left s.processes p call lives (code, next, asked)))
     serves-apart (on_time call) result asked (clock, it, is) =
-        subst (AttemptApart s.inner p) (sym it.result_is) (left-apart s.inner p names (result_of s.inner p (time_step call s.inner now p)) (time-left s.inner p (time_step call s.inner now p)))
+        subst (AttemptApart s.processes p) (sym it.result_is)
+            (left-apart s.processes p names (result_of s.processes p (time_step call s.processes now p)) (time-left s.processes p (time_step call s.processes now p)))
     serves-apart (on_paths call) result asked (it, same) =
-        subst (AttemptApart s.inner p) (sym it.result_is) (left-apart s.inner p names (result_by it.effect.end s.inner p (io_effect it.effect)) (by-end s.inner p (io_effect it.effect) it.effect.end))
+        subst (AttemptApart s.processes p) (sym it.result_is)
+            (left-apart s.processes p names (result_by it.effect.end s.processes p (io_effect it.effect)) (by-end s.processes p (io_effect it.effect) it.effect.end))
     serves-apart no_call result asked (result_is, is) =
-        subst (AttemptApart s.inner p) (sym result_is) (refused-apart s.inner p names E_UNKSVC)
+        subst (AttemptApart s.processes p) (sym result_is) (refused-apart s.processes p names E_UNKSVC)
 
-pub acts-apart : (act : Act) (s : State) (p : ℕ) (end : EventEnd) (t : State) → NameAppeared s.inner
-    → IsLiving s.inner.records p → act_of s.inner p ≡ act → act_of s.inner p ≢ attempts F_LOAD → Acts act s p end t
-    → AreasApart s.inner p t.inner
+pub acts-apart : (act : Act) (s : State) (p : ℕ) (end : EventEnd) (t : State) → NameAppeared s.processes
+    → IsLiving s.processes.records p → act_of s.processes p ≡ act → act_of s.processes p ≢ attempts F_LOAD → Acts act s p end t
+    → AreasApart s.processes p t.processes
 acts-apart executes s p end t names lives next other (over, is) =
-    subst (λ (t : State). AreasApart s.inner p t.inner) (sym is)
-    (apart-by s.inner p names (after_instruction s.inner p (next_instruction s.inner p)) (instruction-left s.inner p (next_instruction s.inner p)).leaves.modules)
+    subst (λ (t : State). AreasApart s.processes p t.processes) (sym is)
+    (apart-by s.processes p names (after_instruction s.processes p (next_instruction s.processes p)) (instruction-left s.processes p (next_instruction s.processes p)).leaves.modules)
 acts-apart (delivers signal) s p end t names lives next other (over, is) =
-    subst (λ (t : State). AreasApart s.inner p t.inner) (sym is)
-    (apart-by s.inner p names (after_delivery (before_delivery s p) p (delivered (before_delivery s p) p signal)) (broken-left s.inner p signal (interrupted_count s.files.io p)).leaves.modules)
+    subst (λ (t : State). AreasApart s.processes p t.processes) (sym is)
+    (apart-by s.processes p names (after_delivery (before_delivery s p) p (delivered (before_delivery s p) p signal))
+        (broken-left s.processes p signal (interrupted_count s.files.io p)).leaves.modules)
 acts-apart (attempts code) s p end t names lives next other (result, rest, (now, is_now, it), over, is) =
-    subst (λ (t : State). AreasApart s.inner p t.inner) (sym is)
+    subst (λ (t : State). AreasApart s.processes p t.processes) (sym is)
     (serves-apart s p code names next lives other now rest (service_of code) result (asks code) it)

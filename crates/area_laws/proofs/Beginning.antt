@@ -127,9 +127,9 @@ module _ (boot : Boot) (s : State) (starts : Starts boot s) where
           let below = shared-below object (record { number = starts.number; entry = begins.entry; is = begins.is; stands = stands }) in
           let more = long in omega arith
 
-  pub start-appeared : NameAppeared s.inner
+  pub start-appeared : NameAppeared s.processes
   start-appeared =
-      subst (λ (s : State). NameAppeared s.inner) (sym starts.is)
+      subst (λ (s : State). NameAppeared s.processes) (sym starts.is)
       (subst (λ memory. NameAppeared (only_process memory (first_start starts.number starts.entry))) (sym begins.memory)
       (record { maps = λ q object has names. maps-appeared q object names; groups = groups-appeared }))
 
@@ -152,9 +152,9 @@ module _ (boot : Boot) (s : State) (starts : Starts boot s) where
         let late = low-new booted 2 count begins.entry.group begins.fits slot object (let long = low-long in omega (arith, within)) is in omega arith);
   }
 
-  pub start-own : (object : ℕ) → IsOfArea s.inner 2 object → IsOwn s.inner 2 object
+  pub start-own : (object : ℕ) → IsOfArea s.processes 2 object → IsOwn s.processes 2 object
   start-own object =
-      subst (λ (s : State). IsOfArea s.inner 2 object → IsOwn s.inner 2 object) (sym starts.is)
+      subst (λ (s : State). IsOfArea s.processes 2 object → IsOwn s.processes 2 object) (sym starts.is)
       (subst (λ memory. IsOfArea (only_process memory (first_start starts.number starts.entry)) 2 object
       → IsOwn (only_process memory (first_start starts.number starts.entry)) 2 object) (sym begins.memory)
       (λ of. area-own object of.0 of.1 of.2))

@@ -15,7 +15,7 @@ use Rattle.call_rules.specs.Attempts.{after_attempt, attempted}
 use Rattle.call_rules.specs.CallResult.{CallResult, changes, done, ends, needs, refused, refuses, waits}
 use Rattle.call_rules.specs.Chain.{begun_anew, f_chain, with_program}
 use Rattle.call_rules.specs.Fork.{f_fork, forked_regs, with_child}
-use Rattle.call_rules.specs.Inner.{Inner, own_at, regs_at, with_regs_of}
+use Rattle.call_rules.specs.Processes.{Processes, own_at, regs_at, with_regs_of}
 use Rattle.call_rules.specs.Link.{Mapped, after_link, links_at, mapped_group}
 use Rattle.call_rules.specs.ModuleLinks.{Entered, without_primary_link}
 use Rattle.call_rules.specs.Program.{Program, blocks_of_pages, most_pages, program_kind}
@@ -79,46 +79,46 @@ abbrev pub KeepsGroups : MemoryState → MemoryState → Type 0
 KeepsGroups m n = (object : ℕ) → IsOfModule n object → IsNewOrShared m n object
 
 -- where none is entered
-groups-by : (m : Inner) (p : ℕ) (end : EventEnd) (n : Inner) → LeavesOthers m p end n → KeepsGroups m.memory n.memory
+groups-by : (m : Processes) (p : ℕ) (end : EventEnd) (n : Processes) → LeavesOthers m p end n → KeepsGroups m.memory n.memory
 groups-by m p end n leaves object grouped = inr (was-shared m.memory n.memory object leaves.modules grouped)
 
-abbrev AttemptGroups : Inner → ℕ → CallResult → Type 0
+abbrev AttemptGroups : Processes → ℕ → CallResult → Type 0
 AttemptGroups m p result = KeepsGroups m.memory (after_attempt m p result).memory
 
-left-groups : (m : Inner) (p : ℕ) (result : CallResult) → AttemptLeft m p result → AttemptGroups m p result
+left-groups : (m : Processes) (p : ℕ) (result : CallResult) → AttemptLeft m p result → AttemptGroups m p result
 left-groups m p result left object grouped = inr (was-shared m.memory (after_attempt m p result).memory object left.leaves.modules grouped)
 
-refused-groups : (m : Inner) (p number : ℕ) → AttemptGroups m p (refused number)
+refused-groups : (m : Processes) (p number : ℕ) → AttemptGroups m p (refused number)
 refused-groups m p number = left-groups m p (refused number) (left-refused m p number)
 
 -- ---- a file that is loaded
 
 module _ (s : State) (p : ℕ) (file : ProgramFile) (loaded : Loaded) (it : LoadsFile s p file loaded) where
   -- the processes, with the file in memory
-  abbrev before : Inner
+  abbrev before : Processes
   before = with-file s p file loaded it
 
   abbrev program : Program
-  program = loaded_program s.inner p file loaded.first
+  program = loaded_program s.processes p file loaded.first
 
-  from-file : (n : MemoryState) → KeepsSizes loaded.memory n → KeepsModules loaded.memory.modules n.modules → KeepsGroups s.inner.memory n
+  from-file : (n : MemoryState) → KeepsSizes loaded.memory n → KeepsModules loaded.memory.modules n.modules → KeepsGroups s.processes.memory n
   from-file n sizes keeps object grouped =
-      shared-comes s p file loaded it (record s.inner { memory = n }) (longer loaded.memory n sizes) object (inr (was-shared loaded.memory n object keeps grouped))
+      shared-comes s p file loaded it (record s.processes { memory = n }) (longer loaded.memory n sizes) object (inr (was-shared loaded.memory n object keeps grouped))
 
-  from-before : (result : CallResult) → AttemptLeft before p result → AttemptGroups s.inner p result
+  from-before : (result : CallResult) → AttemptLeft before p result → AttemptGroups s.processes p result
   from-before (done t) left = from-file t.memory left.leaves.sizes left.leaves.modules
-  from-before (refused number) left = refused-groups s.inner p number
+  from-before (refused number) left = refused-groups s.processes p number
   from-before (waits t) left = from-file t.memory left.leaves.sizes left.leaves.modules
   from-before (ends status) left =
-      left-groups s.inner p (ends status) (ended-left s.inner p status)
+      left-groups s.processes p (ends status) (ended-left s.processes p status)
 
   -- it is linked
   abbrev linked-by : Mapped → CallResult
   linked-by mapped =
-      refuses (nat_le MOST_LINKS (links_at (own_at s.inner p) mapped.slot)) E_MEMFUL
-      (done (after_link s.inner p loaded.first mapped (file.next - (regs_at s.inner p).x)))
+      refuses (nat_le MOST_LINKS (links_at (own_at s.processes p) mapped.slot)) E_MEMFUL
+      (done (after_link s.processes p loaded.first mapped (file.next - (regs_at s.processes p).x)))
 
-  linked-groups : (mapped : Mapped) → mapped_group loaded.memory p loaded.first.entry.group ≡ Some mapped → KeepsGroups s.inner.memory (linked mapped.memory loaded.first.number)
+  linked-groups : (mapped : Mapped) → mapped_group loaded.memory p loaded.first.entry.group ≡ Some mapped → KeepsGroups s.processes.memory (linked mapped.memory loaded.first.number)
   linked-groups mapped is =
       from-file (linked mapped.memory loaded.first.number) grows.kept.sizes
       (keeps-more loaded.memory.modules (linked mapped.memory loaded.first.number).modules
@@ -128,29 +128,29 @@ module _ (s : State) (p : ℕ) (file : ProgramFile) (loaded : Loaded) (it : Load
     where
       grows : Grows loaded.memory (λ byte. Unit {0}) p mapped.memory
       grows =
-          mapped-grows loaded.memory p loaded.first.number loaded.first.entry mapped (first-there s.inner.memory file.bytes loaded (is-loaded s p file loaded it)) is
+          mapped-grows loaded.memory p loaded.first.number loaded.first.entry mapped (first-there s.processes.memory file.bytes loaded (is-loaded s p file loaded it)) is
 
-  link-groups : AttemptGroups s.inner p (links_first s.inner p file loaded)
+  link-groups : AttemptGroups s.processes p (links_first s.processes p file loaded)
   link-groups = by_mapped (mapped_group loaded.memory p loaded.first.entry.group) refl
     where
       by_links : (mapped : Mapped) → mapped_group loaded.memory p loaded.first.entry.group ≡ Some mapped
-          → (most : Bool) → AttemptGroups s.inner p
-          (refuses most E_MEMFUL (done (after_link s.inner p loaded.first mapped
-          (file.next - (regs_at s.inner p).x))))
-      by_links mapped is true = refused-groups s.inner p E_MEMFUL
+          → (most : Bool) → AttemptGroups s.processes p
+          (refuses most E_MEMFUL (done (after_link s.processes p loaded.first mapped
+          (file.next - (regs_at s.processes p).x))))
+      by_links mapped is true = refused-groups s.processes p E_MEMFUL
       by_links mapped is false = linked-groups mapped is
 
-      by_mapped : (mapped : Option Mapped) → mapped_group loaded.memory p loaded.first.entry.group ≡ mapped → AttemptGroups s.inner p (needs mapped E_MEMFUL linked-by)
-      by_mapped None is = refused-groups s.inner p E_MEMFUL
+      by_mapped : (mapped : Option Mapped) → mapped_group loaded.memory p loaded.first.entry.group ≡ mapped → AttemptGroups s.processes p (needs mapped E_MEMFUL linked-by)
+      by_mapped None is = refused-groups s.processes p E_MEMFUL
       by_mapped (Some mapped) is =
-          by_links mapped is (nat_le MOST_LINKS (links_at (own_at s.inner p) mapped.slot))
+          by_links mapped is (nat_le MOST_LINKS (links_at (own_at s.processes p) mapped.slot))
 
   -- a child starts it
-  fork-groups : IsLiving s.inner.records p → AttemptsCall s.inner p Call.Fork → HasRoom before p program → AttemptGroups s.inner p (starts_first forks s.inner p file loaded)
+  fork-groups : IsLiving s.processes.records p → AttemptsCall s.processes p Call.Fork → HasRoom before p program → AttemptGroups s.processes p (starts_first forks s.processes p file loaded)
   fork-groups lives call has =
-      from-before (starts_first forks s.inner p file loaded)
+      from-before (starts_first forks s.processes p file loaded)
       (of-refuses before p (not (loaded.first.entry.info.kind == program_kind)) E_NEMOD (forks before p program)
-      (λ kind. of-needs before p (free_process s.inner.records) E_PRCFUL (λ child. refuses (nat_lt most_pages program.pages) E_MEMFUL (making child))
+      (λ kind. of-needs before p (free_process s.processes.records) E_PRCFUL (λ child. refuses (nat_lt most_pages program.pages) E_MEMFUL (making child))
       (λ child free. of-refuses before p (nat_lt most_pages program.pages) E_MEMFUL (making child)
       (λ few. of-changes before p (started loaded.memory child loaded.first.number (blocks_of_pages program.pages)) (begins child)
       (λ memory is. fork-done before p lives call program child memory has free is)))))
@@ -164,9 +164,9 @@ module _ (s : State) (p : ℕ) (file : ProgramFile) (loaded : Loaded) (it : Load
           changes (started loaded.memory child loaded.first.number (blocks_of_pages program.pages)) (begins child)
 
   -- the process begins anew with it
-  chain-groups : AttemptsCall s.inner p Call.Chain → HasRoom before p program → AttemptGroups s.inner p (starts_first chains s.inner p file loaded)
+  chain-groups : AttemptsCall s.processes p Call.Chain → HasRoom before p program → AttemptGroups s.processes p (starts_first chains s.processes p file loaded)
   chain-groups call has =
-      from-before (starts_first chains s.inner p file loaded)
+      from-before (starts_first chains s.processes p file loaded)
       (of-refuses before p (not (loaded.first.entry.info.kind == program_kind)) E_NEMOD (chains before p program)
       (λ kind. of-refuses before p (nat_lt most_pages program.pages) E_MEMFUL (changes (started loaded.memory p loaded.first.number (blocks_of_pages program.pages)) begins)
       (λ few. of-changes before p (started loaded.memory p loaded.first.number (blocks_of_pages program.pages)) begins
@@ -179,7 +179,7 @@ module _ (s : State) (p : ℕ) (file : ProgramFile) (loaded : Loaded) (it : Load
 -- ---- attempts
 
 -- a call that goes on with a file in memory, or is refused
-pub goes-on : (m : Inner) (Holds : CallResult → Type 0) → ((number : ℕ) → Holds (refused number))
+pub goes-on : (m : Processes) (Holds : CallResult → Type 0) → ((number : ℕ) → Holds (refused number))
     → (reading : Result ProgramFile ℕ) (next : ProgramFile → Loaded → CallResult) (result : CallResult)
     → ((file : ProgramFile) (loaded : Loaded) → reading ≡ Ok file → Loads m.memory file.bytes (Ok loaded)
     → Holds (next file loaded)) → GoesOnLoaded m reading next result → Holds result
@@ -190,14 +190,14 @@ goes-on m Holds refuses_so (Ok file) next result holds (Ok loaded, loading, is) 
     subst Holds (sym is) (holds file loaded refl loading)
 
 module _ (s : State) (p : ℕ) (now : TimePacket) (result : CallResult) (new : Files) where
-  load-groups : act_of s.inner p ≡ attempts F_LOAD → LoadAttempts s.inner (asker_of s.inner p now) s.files (length s.terms) p result new → AttemptGroups s.inner p result
+  load-groups : act_of s.processes p ≡ attempts F_LOAD → LoadAttempts s.processes (asker_of s.processes p now) s.files (length s.terms) p result new → AttemptGroups s.processes p result
   load-groups next it =
-      goes-on s.inner (AttemptGroups s.inner p) (refused-groups s.inner p) it.reading (links_first s.inner p) result
+      goes-on s.processes (AttemptGroups s.processes p) (refused-groups s.processes p) it.reading (links_first s.processes p) result
       (λ file loaded is loading. link-groups s p file loaded (record {
         call = inl next;
         found =
             file-found s p now file new (subst (λ (reading : Result ProgramFile ℕ). ReadsProgram
-            (program_file (asker_of s.inner p now) s.files (length s.terms) (λ step. step)) reading s.files new)
+            (program_file (asker_of s.processes p now) s.files (length s.terms) (λ step. step)) reading s.files new)
             is it.reads);
         loads = loading;
       }))
@@ -205,75 +205,80 @@ module _ (s : State) (p : ℕ) (now : TimePacket) (result : CallResult) (new : F
 
   -- what was read of the program that a process starts
   pub has-read : (file : ProgramFile) (reading : Result ProgramFile ℕ) → reading ≡ Ok file
-      → ReadsProgram (program_file (asker_of s.inner p now) s.files (length s.terms) (tests_program s.inner p))
-      reading s.files new → HasRead s.inner p file (program_file (asker_of s.inner p now) s.files (length s.terms)
+      → ReadsProgram (program_file (asker_of s.processes p now) s.files (length s.terms) (tests_program s.processes p))
+      reading s.files new → HasRead s.processes p file (program_file (asker_of s.processes p now) s.files (length s.terms)
       (λ step. step))
   has-read file reading is reads =
       program-found s p now file new (subst (λ (reading : Result ProgramFile ℕ). ReadsProgram
-      (program_file (asker_of s.inner p now) s.files (length s.terms) (tests_program s.inner p)) reading s.files
+      (program_file (asker_of s.processes p now) s.files (length s.terms) (tests_program s.processes p)) reading s.files
       new) is reads)
 
-  forks-groups : IsLiving s.inner.records p → AttemptsCall s.inner p Call.Fork → ForkAttempts s.inner (asker_of s.inner p now) s.files (length s.terms) p result new → AttemptGroups s.inner p result
-  forks-groups lives call it = by_named (named_program s.inner p) refl it
+  forks-groups : IsLiving s.processes.records p → AttemptsCall s.processes p Call.Fork → ForkAttempts s.processes (asker_of s.processes p now) s.files (length s.terms) p result new
+      → AttemptGroups s.processes p result
+  forks-groups lives call it = by_named (named_program s.processes p) refl it
     where
-      by_named : (named : Option Entered) → named_program s.inner p ≡ named → MatchOption named
-          (StartsFile forks s.inner (asker_of s.inner p now) s.files (length s.terms) p result new)
-          (λ named. (result ≡ f_fork s.inner p) × (new ≡ s.files)) → AttemptGroups s.inner p result
+      by_named : (named : Option Entered) → named_program s.processes p ≡ named → MatchOption named
+          (StartsFile forks s.processes (asker_of s.processes p now) s.files (length s.terms) p result new)
+          (λ named. (result ≡ f_fork s.processes p) × (new ≡ s.files)) → AttemptGroups s.processes p result
       by_named None unnamed it =
-          goes-on s.inner (AttemptGroups s.inner p) (refused-groups s.inner p) it.reading (starts_first forks s.inner p) result
+          goes-on s.processes (AttemptGroups s.processes p) (refused-groups s.processes p) it.reading (starts_first forks s.processes p) result
           (λ file loaded is loading. (
           let read = has-read file it.reading is it.reads in
           let found : LoadsFile s p file loaded = record { call = inr (inl (record { attempted = call; unnamed = unnamed })); found = read.found; loads = loading } in
           fork-groups s p file loaded found lives call (room s p file loaded found (inl call) read.parameters read.given)))
           it.comes
       by_named (Some entered) named (is, same) =
-          subst (AttemptGroups s.inner p) (sym is) (left-groups s.inner p (f_fork s.inner p) (attempt-left s.inner p Call.Fork lives call))
+          subst (AttemptGroups s.processes p) (sym is) (left-groups s.processes p (f_fork s.processes p) (attempt-left s.processes p Call.Fork lives call))
 
-  chains-groups : IsLiving s.inner.records p → AttemptsCall s.inner p Call.Chain → ChainAttempts s.inner (asker_of s.inner p now) s.files (length s.terms) p result new → AttemptGroups s.inner p result
-  chains-groups lives call it = by_named (named_program s.inner p) refl it
+  chains-groups : IsLiving s.processes.records p → AttemptsCall s.processes p Call.Chain → ChainAttempts s.processes (asker_of s.processes p now) s.files (length s.terms) p result new
+      → AttemptGroups s.processes p result
+  chains-groups lives call it = by_named (named_program s.processes p) refl it
     where
-      by_named : (named : Option Entered) → named_program s.inner p ≡ named → MatchOption named
-          (StartsFile chains s.inner (asker_of s.inner p now) s.files (length s.terms) p result new)
-          (λ named. (result ≡ f_chain s.inner p) × (new ≡ s.files)) → AttemptGroups s.inner p result
+      by_named : (named : Option Entered) → named_program s.processes p ≡ named → MatchOption named
+          (StartsFile chains s.processes (asker_of s.processes p now) s.files (length s.terms) p result new)
+          (λ named. (result ≡ f_chain s.processes p) × (new ≡ s.files)) → AttemptGroups s.processes p result
       by_named None unnamed it =
-          goes-on s.inner (AttemptGroups s.inner p) (refused-groups s.inner p) it.reading (starts_first chains s.inner p) result
+          goes-on s.processes (AttemptGroups s.processes p) (refused-groups s.processes p) it.reading (starts_first chains s.processes p) result
           (λ file loaded is loading. (
           let read = has-read file it.reading is it.reads in
           let found : LoadsFile s p file loaded = record { call = inr (inr (record { attempted = call; unnamed = unnamed })); found = read.found; loads = loading } in
           chain-groups s p file loaded found call (room s p file loaded found (inr call) read.parameters read.given)))
           it.comes
       by_named (Some entered) named (is, same) =
-          subst (AttemptGroups s.inner p) (sym is) (left-groups s.inner p (f_chain s.inner p) (attempt-left s.inner p Call.Chain lives call))
+          subst (AttemptGroups s.processes p) (sym is) (left-groups s.processes p (f_chain s.processes p) (attempt-left s.processes p Call.Chain lives call))
 
 -- ---- events
 
-module _ (s : State) (p code : ℕ) (next : act_of s.inner p ≡ attempts code) (lives : IsLiving s.inner.records p) (now : TimePacket) (rest : Rest) where
-  serves-groups : (service : Service) (result : CallResult) → Asks code service → Serves service s now p result rest → AttemptGroups s.inner p result
+module _ (s : State) (p code : ℕ) (next : act_of s.processes p ≡ attempts code) (lives : IsLiving s.processes.records p) (now : TimePacket) (rest : Rest) where
+  serves-groups : (service : Service) (result : CallResult) → Asks code service → Serves service s now p result rest → AttemptGroups s.processes p result
   serves-groups loads result asked (files, it, is) =
-      load-groups s p now result files (subst (λ (code : ℕ). act_of s.inner p ≡ attempts code) asked next) it
+      load-groups s p now result files (subst (λ (code : ℕ). act_of s.processes p ≡ attempts code) asked next) it
   serves-groups (on_processes Call.Fork) result asked (files, it, is) =
       forks-groups s p now result files lives (code, next, asked) it
   serves-groups (on_processes Call.Chain) result asked (files, it, is) =
       chains-groups s p now result files lives (code, next, asked) it
   serves-groups (on_processes call) result asked it =
-      subst (AttemptGroups s.inner p) (sym it.0) (left-groups s.inner p (attempted call s.inner p) (attempt-left s.inner p call lives (code, next, asked)))
+      subst (AttemptGroups s.processes p) (sym it.0) (left-groups s.processes p (attempted call s.processes p) (attempt-left s.processes p call lives (code, next, asked)))
   serves-groups (on_time call) result asked (clock, it, is) =
-      subst (AttemptGroups s.inner p) (sym it.result_is) (left-groups s.inner p (result_of s.inner p (time_step call s.inner now p)) (time-left s.inner p (time_step call s.inner now p)))
+      subst (AttemptGroups s.processes p) (sym it.result_is)
+          (left-groups s.processes p (result_of s.processes p (time_step call s.processes now p)) (time-left s.processes p (time_step call s.processes now p)))
   serves-groups (on_paths call) result asked (it, same) =
-      subst (AttemptGroups s.inner p) (sym it.result_is) (left-groups s.inner p (result_by it.effect.end s.inner p (io_effect it.effect)) (by-end s.inner p (io_effect it.effect) it.effect.end))
+      subst (AttemptGroups s.processes p) (sym it.result_is)
+          (left-groups s.processes p (result_by it.effect.end s.processes p (io_effect it.effect)) (by-end s.processes p (io_effect it.effect) it.effect.end))
   serves-groups no_call result asked (result_is, is) =
-      subst (AttemptGroups s.inner p) (sym result_is) (refused-groups s.inner p E_UNKSVC)
+      subst (AttemptGroups s.processes p) (sym result_is) (refused-groups s.processes p E_UNKSVC)
 
-acts-groups : (act : Act) (s : State) (p : ℕ) (end : EventEnd) (t : State) → IsLiving s.inner.records p → act_of s.inner p ≡ act → Acts act s p end t → KeepsGroups s.inner.memory t.inner.memory
+acts-groups : (act : Act) (s : State) (p : ℕ) (end : EventEnd) (t : State) → IsLiving s.processes.records p → act_of s.processes p ≡ act → Acts act s p end t
+    → KeepsGroups s.processes.memory t.processes.memory
 acts-groups executes s p end t lives next (over, is) =
-    subst (λ (t : State). KeepsGroups s.inner.memory t.inner.memory) (sym is)
-    (groups-by s.inner p _ _ (instruction-left s.inner p (next_instruction s.inner p)).leaves)
+    subst (λ (t : State). KeepsGroups s.processes.memory t.processes.memory) (sym is)
+    (groups-by s.processes p _ _ (instruction-left s.processes p (next_instruction s.processes p)).leaves)
 acts-groups (delivers signal) s p end t lives next (over, is) =
-    subst (λ (t : State). KeepsGroups s.inner.memory t.inner.memory) (sym is)
-    (groups-by s.inner p _ _ (broken-left s.inner p signal (interrupted_count s.files.io p)).leaves)
+    subst (λ (t : State). KeepsGroups s.processes.memory t.processes.memory) (sym is)
+    (groups-by s.processes p _ _ (broken-left s.processes p signal (interrupted_count s.files.io p)).leaves)
 acts-groups (attempts code) s p end t lives next (result, rest, (now, is_now, it), over, is) =
-    subst (λ (t : State). KeepsGroups s.inner.memory t.inner.memory) (sym is)
+    subst (λ (t : State). KeepsGroups s.processes.memory t.processes.memory) (sym is)
     (serves-groups s p code next lives now rest (service_of code) result (asks code) it)
 
-pub event-groups : (s t : State) (end : EventEnd) → Event s end t → KeepsGroups s.inner.memory t.inner.memory
-event-groups s t end (p, chosen, lives, acts) = acts-groups (act_of s.inner p) s p end t lives refl acts
+pub event-groups : (s t : State) (end : EventEnd) → Event s end t → KeepsGroups s.processes.memory t.processes.memory
+event-groups s t end (p, chosen, lives, acts) = acts-groups (act_of s.processes p) s p end t lives refl acts

@@ -7,7 +7,7 @@ use Rattle.proc_model.specs.Memory.{map_at}
 use Rattle.proc_model.specs.Slots.{NamesBlock, Slots}
 use Rattle.proc_rules.specs.declared.record.Record.{Record}
 use Rattle.proc_rules.specs.Records.{IsLiving, has_ended, record_at, record_of}
-use Rattle.call_rules.specs.Inner.{Inner}
+use Rattle.call_rules.specs.Processes.{Processes}
 use Rattle.call_rules.specs.Ready.{act_of, attempts}
 use Rattle.event_rules.specs.declared.ends.EventEnd.{EventEnd}
 use Rattle.call_laws.specs.Modules.{KeepsModules}
@@ -25,7 +25,7 @@ use Rattle.area_laws.proofs.Groups.{KeepsGroups, event-groups, longer, was-share
 use Rattle.area_laws.proofs.Modules.{of-module}
 
 -- what an event of a process that lives leaves, as far as it decides what is its own
-record Leaves (m : Inner) (q : ℕ) (end : EventEnd) (n : Inner) : Type 0 where
+record Leaves (m : Processes) (q : ℕ) (end : EventEnd) (n : Processes) : Type 0 where
   pub lives : IsLiving m.records q
   pub sizes : KeepsSizes m.memory n.memory
   pub objects : KeepsObjects m.memory q n.memory
@@ -33,7 +33,7 @@ record Leaves (m : Inner) (q : ℕ) (end : EventEnd) (n : Inner) : Type 0 where
   pub others : (r : ℕ) → r ≢ q → ComesOf m q end n r (record_of m.records r) (record_of n.records r)
   pub groups : KeepsGroups m.memory n.memory
 
-left-so : (s t : State) (end : EventEnd) (q : ℕ) → s.chosen ≡ Some q → Event s end t → Leaves s.inner q end t.inner
+left-so : (s t : State) (end : EventEnd) (q : ℕ) → s.chosen ≡ Some q → Event s end t → Leaves s.processes q end t.processes
 left-so s t end q chosen event =
     let leaves : LeavesOthers s q end t = event-leaves s t end q chosen event in
     record {
@@ -45,11 +45,11 @@ left-so s t end q chosen event =
       groups = event-groups s t end event;
     }
   where
-    living : Event s end t → IsLiving s.inner.records q
+    living : Event s end t → IsLiving s.processes.records q
     living (r, chosen_too, lives, acts) =
-        subst (IsLiving s.inner.records) (same_Some r q (sym chosen_too ∙ chosen)) lives
+        subst (IsLiving s.processes.records) (same_Some r q (sym chosen_too ∙ chosen)) lives
 
-module _ (m n : Inner) (q : ℕ) (end : EventEnd) (left : Leaves m q end n) where
+module _ (m n : Processes) (q : ℕ) (end : EventEnd) (left : Leaves m q end n) where
   acts : HasRecord m q
   acts = (record_at m.records q, living-record m.records q left.lives)
 
@@ -206,40 +206,42 @@ module _ (m n : Inner) (q : ℕ) (end : EventEnd) (left : Leaves m q end n) wher
 
 -- ---- an event
 
-pub own-at_once : (s t : State) (end : EventEnd) (p object : ℕ) → Event s end t → NameAppeared s.inner → AppearsIn s.inner p object t.inner → IsOwn t.inner p object ⊎ IsOfModule t.inner.memory object
+pub own-at_once : (s t : State) (end : EventEnd) (p object : ℕ) → Event s end t → NameAppeared s.processes → AppearsIn s.processes p object t.processes → IsOwn t.processes p object
+    ⊎ IsOfModule t.processes.memory object
 own-at_once s t end p object (q, chosen, lives, acts) names it =
-    own-then s.inner t.inner q end (left-so s t end q chosen (q, chosen, lives, acts)) names p object it.has it.named it.appears
+    own-then s.processes t.processes q end (left-so s t end q chosen (q, chosen, lives, acts)) names p object it.has it.named it.appears
 
 -- a group that appears is of a module that is entered
-pub own-unless_entered : (s t : State) (end : EventEnd) (p object : ℕ) → Event s end t → NameAppeared s.inner
-    → KeepsModules s.inner.memory.modules t.inner.memory.modules → AppearsIn s.inner p object t.inner
-    → IsOwn t.inner p object
+pub own-unless_entered : (s t : State) (end : EventEnd) (p object : ℕ) → Event s end t → NameAppeared s.processes
+    → KeepsModules s.processes.memory.modules t.processes.memory.modules → AppearsIn s.processes p object t.processes
+    → IsOwn t.processes p object
 own-unless_entered s t end p object event names keeps it =
     by_module (own-at_once s t end p object event names it)
   where
-    by_module : IsOwn t.inner p object ⊎ IsOfModule t.inner.memory object → IsOwn t.inner p object
+    by_module : IsOwn t.processes p object ⊎ IsOfModule t.processes.memory object → IsOwn t.processes p object
     by_module (inl own) = own
     by_module (inr shared) =
-        let below = names.groups object (was-shared s.inner.memory t.inner.memory object keeps shared) in
+        let below = names.groups object (was-shared s.processes.memory t.processes.memory object keeps shared) in
         let late = it.appears.0 in
         absurd (omega arith)
 
-pub own-area : (s t : State) (end : EventEnd) (p object : ℕ) → Event s end t → NameAppeared s.inner
-    → ((q : ℕ) → s.chosen ≡ Some q → act_of s.inner q ≢ attempts F_LOAD) → HasRecord t.inner p → IsOfArea t.inner p
-    object → Appears s.inner.memory t.inner.memory object → IsOwn t.inner p object
+pub own-area : (s t : State) (end : EventEnd) (p object : ℕ) → Event s end t → NameAppeared s.processes
+    → ((q : ℕ) → s.chosen ≡ Some q → act_of s.processes q ≢ attempts F_LOAD) → HasRecord t.processes p → IsOfArea t.processes p
+    object → Appears s.processes.memory t.processes.memory object → IsOwn t.processes p object
 own-area s t end p object (q, chosen, lives, acts) names other has (slot, below, at) appears =
-    area-then s.inner t.inner q end (left-so s t end q chosen (q, chosen, lives, acts)) names p object has (slot, at) appears (slot, below, at)
-    (acts-apart (act_of s.inner q) s q end t names lives refl (other q chosen) acts)
+    area-then s.processes t.processes q end (left-so s t end q chosen (q, chosen, lives, acts)) names p object has (slot, at) appears (slot, below, at)
+    (acts-apart (act_of s.processes q) s q end t names lives refl (other q chosen) acts)
 
-pub still-appeared : (s t : State) (end : EventEnd) → Event s end t → NameAppeared s.inner → NameAppeared t.inner
+pub still-appeared : (s t : State) (end : EventEnd) → Event s end t → NameAppeared s.processes → NameAppeared t.processes
 still-appeared s t end (q, chosen, lives, acts) names =
-    appeared-then s.inner t.inner q end (left-so s t end q chosen (q, chosen, lives, acts)) names
+    appeared-then s.processes t.processes q end (left-so s t end q chosen (q, chosen, lives, acts)) names
 
 pub own-event : (s t : State) (end : EventEnd) (q p object : ℕ) → s.chosen ≡ Some q → p ≢ q → Event s end t
-    → IsLiving s.inner.records p → IsOwn s.inner p object → KeepsOwnObject s.inner p object t.inner
+    → IsLiving s.processes.records p → IsOwn s.processes p object → KeepsOwnObject s.processes p object t.processes
 own-event s t end q p object chosen differ event lives own =
-    own-other s.inner t.inner q end (left-so s t end q chosen event) p object own differ lives
+    own-other s.processes t.processes q end (left-so s t end q chosen event) p object own differ lives
 
-pub own-acting : (s t : State) (end : EventEnd) (p object : ℕ) → s.chosen ≡ Some p → Event s end t → IsOwn s.inner p object → NamesBlock (map_at t.inner.memory p) object → IsOwn t.inner p object
+pub own-acting : (s t : State) (end : EventEnd) (p object : ℕ) → s.chosen ≡ Some p → Event s end t → IsOwn s.processes p object → NamesBlock (map_at t.processes.memory p) object
+    → IsOwn t.processes p object
 own-acting s t end p object chosen event own named =
-    own-still s.inner t.inner p end (left-so s t end p chosen event) p object own named
+    own-still s.processes t.processes p end (left-so s t end p chosen event) p object own named

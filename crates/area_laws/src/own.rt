@@ -26,22 +26,24 @@ ghost use Rattle.machine_model.specs.State.{State};
 /// gives them up.
 pub fn what_appears_is_its_own()
     ensures own { (s t : State) (end : EventEnd) (p object : ℕ) → Event s end t
-        → NameAppeared s.inner → AppearsIn s.inner p object t.inner
-        → IsOwnOrShared t.inner p object }
+        → NameAppeared s.processes → AppearsIn s.processes p object t.processes
+        → IsOwnOrShared t.processes p object }
     ensures unless_entered { (s t : State) (end : EventEnd) (p object : ℕ) → Event s end t
-        → NameAppeared s.inner → KeepsModules s.inner.memory.modules t.inner.memory.modules
-        → AppearsIn s.inner p object t.inner → IsOwn t.inner p object }
+        → NameAppeared s.processes
+        → KeepsModules s.processes.memory.modules t.processes.memory.modules
+        → AppearsIn s.processes p object t.processes → IsOwn t.processes p object }
     ensures area { (s t : State) (end : EventEnd) (p object : ℕ) → Event s end t
-        → NameAppeared s.inner → ((q : ℕ) → s.chosen ≡ Some q → act_of s.inner q ≢ attempts F_LOAD)
-        → HasRecord t.inner p → IsOfArea t.inner p object
-        → Appears s.inner.memory t.inner.memory object → IsOwn t.inner p object }
+        → NameAppeared s.processes
+        → ((q : ℕ) → s.chosen ≡ Some q → act_of s.processes q ≢ attempts F_LOAD)
+        → HasRecord t.processes p → IsOfArea t.processes p object
+        → Appears s.processes.memory t.processes.memory object → IsOwn t.processes p object }
 {}
 
 /// From the start on, maps and groups name only objects that have appeared.
 pub fn names_have_appeared()
-    ensures start { (boot : Boot) (s : State) → Starts boot s → NameAppeared s.inner }
-    ensures event { (s t : State) (end : EventEnd) → Event s end t → NameAppeared s.inner
-        → NameAppeared t.inner }
+    ensures start { (boot : Boot) (s : State) → Starts boot s → NameAppeared s.processes }
+    ensures event { (s t : State) (end : EventEnd) → Event s end t → NameAppeared s.processes
+        → NameAppeared t.processes }
 {}
 
 /// A process's own object, such as a block of its data area, stays its own with the same bytes in
@@ -49,15 +51,16 @@ pub fn names_have_appeared()
 /// it. The process's own events keep it its own too, while its map names it.
 pub fn what_is_its_own_is_left_to_a_process()
     ensures event { (s t : State) (end : EventEnd) (q p object : ℕ) → s.chosen ≡ Some q → p ≢ q
-        → Event s end t → IsLiving s.inner.records p → IsOwn s.inner p object
-        → KeepsOwnObject s.inner p object t.inner }
+        → Event s end t → IsLiving s.processes.records p → IsOwn s.processes p object
+        → KeepsOwnObject s.processes p object t.processes }
     ensures acting { (s t : State) (end : EventEnd) (p object : ℕ) → s.chosen ≡ Some p
-        → Event s end t → IsOwn s.inner p object → NamesBlock (map_at t.inner.memory p) object
-        → IsOwn t.inner p object }
+        → Event s end t → IsOwn s.processes p object
+        → NamesBlock (map_at t.processes.memory p) object
+        → IsOwn t.processes p object }
     ensures slice { (n : ℕ) (s : State) (states : List State) (end : SliceEnd) (t : State)
         (p object : ℕ) → Slice n s states end t → t.chosen ≢ Some p
-        → IsLiving s.inner.records p → IsOwn s.inner p object
-        → KeepsOwnObject s.inner p object t.inner }
+        → IsLiving s.processes.records p → IsOwn s.processes p object
+        → KeepsOwnObject s.processes p object t.processes }
 {}
 
 /// The blocks of data areas are their processes' own: no other process, of any number, and no
@@ -65,7 +68,7 @@ pub fn what_is_its_own_is_left_to_a_process()
 /// the same time.
 pub fn data_areas_are_own()
     ensures start { (boot : Boot) (s : State) → Starts boot s
-        → (object : ℕ) → IsOfArea s.inner 2 object → IsOwn s.inner 2 object }
+        → (object : ℕ) → IsOfArea s.processes 2 object → IsOwn s.processes 2 object }
     ensures first { (bytes : List ℕ) (one other : Regs)
         → IsOwn (two_processes bytes one other) 2 0 }
     ensures second { (bytes : List ℕ) (one other : Regs)

@@ -1,7 +1,8 @@
 ghost use Rattle.std.specs.Prelude.{◌≡◌, Ok, Err, IfOk, IsOkAnd, length};
 ghost use Rattle.asm_model.specs.Placement.{fault_on};
 ghost use Rattle.asm6809.specs.Assembled.{Assembled, outcome_of};
-ghost use Rattle.asm6809.specs.Faults.{error_number as error_number_lem, OnLine};
+ghost use Rattle.asm6809.specs.Faults as model;
+ghost use Rattle.asm6809.specs.Faults.{OnLine};
 
 use crate::module::module_of;
 use asm_lines::{first_fault, reached_by, read_lines};
@@ -44,7 +45,7 @@ impl From<AllocError> for AsmFault {
 
 /// The number of an error, which its message reports.
 pub fn error_number(error: AsmError) -> u8
-    ensures { result ≡ error_number_lem error }
+    ensures { result ≡ model.error_number error }
 {
     match error {
         AsmError::Syntax => 1,

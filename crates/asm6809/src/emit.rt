@@ -3,7 +3,8 @@ ghost use Rattle.std.specs.List.{flat_map, slice_split};
 ghost use Rattle.module_format.specs.GuestModule.{marked_name, word_bytes};
 ghost use Rattle.asm_model.specs.Characters.{is_comma};
 ghost use Rattle.asm_model.specs.Placement.{Reached as ReachedOf, action_length};
-ghost use Rattle.asm6809.specs.Assembled.{code_if_filled, is_filled as is_filled_lem, placed_at, placed_bytes, placed_from};
+ghost use Rattle.asm6809.specs.Assembled as model;
+ghost use Rattle.asm6809.specs.Assembled.{code_if_filled, placed_at, placed_bytes, placed_from};
 ghost use Rattle.asm6809.specs.Pieces.{end_if_filled, line_bytes};
 ghost use Rattle.asm6809.specs.Bytes.{action_bytes_in, byte_in, shape_bytes_in, word_in};
 ghost use Rattle.asm_lines.specs.Labels.{IsReached};
@@ -157,7 +158,7 @@ fn push_statement(
     action: &Action,
 ) -> Result<Option<u64>, OutOfMemory>
     ensures next { IfOk result (λ next. (m : ReachedOf) → IsReached all.now m → next
-        ≡ (if is_filled_lem m (placed_at offset (action_said action.now))
+        ≡ (if model.is_filled m (placed_at offset (action_said action.now))
         then Some (offset + action_length (action_said action.now)) else None)) }
     ensures bytes { IfOk result (λ next. OnSome next ((m : ReachedOf) → IsReached all.now m
         → code.new.items ≡ code.old.items

@@ -2,11 +2,11 @@ ghost use Rattle.std.specs.Prelude.{◌≡◌, ◌+◌, ◌<◌, nat_le, map, op
 ghost use Rattle.os9_base.specs.declared.limits.TheConstants.{MOST_GROUP_BYTES};
 ghost use Rattle.module_format.specs.GuestModule.{code_offset, guest_size, is_program_kind};
 ghost use Rattle.asm_model.specs.Placement.{Reached as ReachedOf};
-ghost use Rattle.asm_model.specs.Statements.{is_module_name as is_module_name_lem};
+ghost use Rattle.asm_model.specs.Statements.{is_module_name as is_module_name_model};
 ghost use Rattle.asm_lines.specs.Labels.{IsReached};
 ghost use Rattle.asm_lines.specs.Lines.{action_said, fields_said, line_said};
-ghost use Rattle.asm6809.specs.Stages.{stage_after as stage_after_lem, stage_behind as stage_behind_lem};
-ghost use Rattle.asm6809.specs.Assembled.{actions_of, entry_at, first_start as first_start_lem, is_framed as is_framed_lem, kind_of as kind_of_lem, module_of as module_of_lem, module_with as module_with_lem, start_of as start_of_lem};
+ghost use Rattle.asm6809.specs.Stages.{stage_after as stage_after_model, stage_behind as stage_behind_model};
+ghost use Rattle.asm6809.specs.Assembled.{actions_of, entry_at, first_start as first_start_model, is_framed as is_framed_model, kind_of as kind_of_model, module_of as module_of_model, module_with as module_with_model, start_of as start_of_model};
 
 use crate::emit::{byte_at, code_of, word_at};
 use asm_lines::{
@@ -25,7 +25,7 @@ const START: &[u8] = b"start";
 
 // The operands of a `mod`.
 fn start_of<'a>(action: &Action<'a>) -> Option<ModuleFields<'a>>
-    ensures { option_map fields_said result ≡ start_of_lem (action_said action.now) }
+    ensures { option_map fields_said result ≡ start_of_model (action_said action.now) }
 {
     match action {
         Action::ModuleStart(fields) => Some(*fields),
@@ -36,7 +36,7 @@ fn start_of<'a>(action: &Action<'a>) -> Option<ModuleFields<'a>>
 // The operands of `mod`, if it is the first statement.
 fn first_start<'a>(lines: &[Line<'a>]) -> Option<ModuleFields<'a>>
     ensures { option_map fields_said result
-        ≡ first_start_lem (actions_of (map line_said lines.now)) }
+        ≡ first_start_model (actions_of (map line_said lines.now)) }
 {
     for line in lines {
         if let Line::Stated(statement) = line {
@@ -59,7 +59,7 @@ enum Stage {
 
 // The stage after a statement, if the statement is allowed there.
 fn stage_behind(stage: Stage, action: &Action) -> Option<Stage>
-    ensures { result ≡ stage_behind_lem stage (action_said action.now) }
+    ensures { result ≡ stage_behind_model stage (action_said action.now) }
 {
     match (stage, action) {
         (Stage::Before, Action::ModuleStart(_)) => Some(Stage::Within),
@@ -72,7 +72,7 @@ fn stage_behind(stage: Stage, action: &Action) -> Option<Stage>
 
 // The stage after a line, if its statement is allowed there.
 fn stage_after(stage: Stage, line: &Line) -> Option<Stage>
-    ensures { result ≡ stage_after_lem stage (line_said line.now) }
+    ensures { result ≡ stage_after_model stage (line_said line.now) }
 {
     match line {
         Line::Stated(statement) => stage_behind(stage, &statement.action),
@@ -82,7 +82,7 @@ fn stage_after(stage: Stage, line: &Line) -> Option<Stage>
 
 // Is `mod` the first statement and `emod` the last, each once?
 fn is_framed(lines: &[Line]) -> bool
-    ensures { result ≡ is_framed_lem (actions_of (map line_said lines.now)) }
+    ensures { result ≡ is_framed_model (actions_of (map line_said lines.now)) }
 {
     let mut stage = Stage::Before;
     for line in lines {
@@ -96,7 +96,7 @@ fn is_framed(lines: &[Line]) -> bool
 
 // The name, if it is valid for a module.
 fn module_name(text: &[u8]) -> Option<Name>
-    ensures { result ≡ (if is_module_name_lem text.now then Some text.now else None) }
+    ensures { result ≡ (if is_module_name_model text.now then Some text.now else None) }
 {
     if is_module_name(text) {
         parse_name(text).ok()
@@ -107,7 +107,7 @@ fn module_name(text: &[u8]) -> Option<Name>
 
 // The type and the language that `mod` gives.
 fn kind_of(fields: ModuleFields) -> u8
-    ensures { result ≡ kind_of_lem (fields_said fields.entry) }
+    ensures { result ≡ kind_of_model (fields_said fields.entry) }
 {
     low_byte(constant_value(fields.kind))
 }
@@ -153,7 +153,7 @@ fn make(
 ) -> Result<Option<Vec<u8>>, OutOfMemory>
     ensures { IfOk result (λ made. (m : ReachedOf) → IsReached all.now m
         → option_map (λ bytes. bytes.items) made
-        ≡ module_with_lem m (fields_said fields.entry) code.now) }
+        ≡ module_with_model m (fields_said fields.entry) code.now) }
 {
     let Some(name) = module_name(fields.name) else {
         return Ok(None);
@@ -192,7 +192,7 @@ pub(crate) fn module_of(
 ) -> Result<Option<Vec<u8>>, OutOfMemory>
     ensures { IfOk result (λ made. (m : ReachedOf) → IsReached all.now m
         → option_map (λ bytes. bytes.items) made
-        ≡ module_of_lem m (map line_said lines.now)) }
+        ≡ module_of_model m (map line_said lines.now)) }
 {
     if !is_framed(lines) {
         return Ok(None);

@@ -1,7 +1,7 @@
 ghost use Rattle.std.specs.Prelude.{◌≡◌, ◌≤◌, ◌∷◌, [], length, option_map, IfNone, IfSome};
 ghost use Rattle.std.specs.List.{position_or_len, slice_split};
 ghost use Rattle.asm_model.specs.Characters.{is_comma, is_quote};
-ghost use Rattle.asm_model.specs.Statements.{quoted as quoted_lem, ends_there as ends_there_lem};
+ghost use Rattle.asm_model.specs.Statements as model;
 
 // The parts of a text before and after its first comma.
 #[derive(Clone, Copy, Debug)]
@@ -46,7 +46,7 @@ pub(crate) fn cut_at_comma(text: &[u8]) -> Option<Cut<'_>>
 
 // Does the operand end here: at a space, or at the end of the line?
 fn ends_there(text: &[u8]) -> bool
-    ensures { result ≡ ends_there_lem text.now }
+    ensures { result ≡ model.ends_there text.now }
 {
     match text {
         [] => true,
@@ -57,7 +57,7 @@ fn ends_there(text: &[u8]) -> bool
 // The characters up to the next quote, if the operand ends after it.
 #[tactic(auto, using(crate::proofs::CutLemmas::quoted_open, crate::proofs::CutLemmas::quoted_closed))]
 fn up_to_quote(text: &[u8]) -> Option<&[u8]>
-    ensures { option_map (λ chars. chars.now) result ≡ quoted_lem (34 ∷ text.now) }
+    ensures { option_map (λ chars. chars.now) result ≡ model.quoted (34 ∷ text.now) }
 {
     let place = first_quote(text);
     if place < text.len() && ends_there(&text[place + 1..]) {
@@ -69,7 +69,7 @@ fn up_to_quote(text: &[u8]) -> Option<&[u8]>
 
 // The characters between quotes, if the operand ends after them.
 pub(crate) fn quoted(text: &[u8]) -> Option<&[u8]>
-    ensures { option_map (λ chars. chars.now) result ≡ quoted_lem text.now }
+    ensures { option_map (λ chars. chars.now) result ≡ model.quoted text.now }
 {
     match text {
         [b'"', rest @ ..] => up_to_quote(rest),

@@ -1,9 +1,9 @@
 ghost use Rattle.std.specs.Prelude.{◌≡◌, ◌+◌, ◌<◌, ◌||◌, map, unwrap_or, option_map, IfOk};
 ghost use Rattle.std.specs.List.{list_all, list_any, slice_split};
 ghost use Rattle.asm_model.specs.Characters.{is_comma};
-ghost use Rattle.asm_model.specs.Placement.{Reached as ReachedOf, action_length as action_length_lem, start as start_lem, fault_from, line_fault as line_fault_lem, names_fit, is_twice as is_twice_lem, is_out as is_out_lem, is_too_long as is_too_long_lem, is_bad_kind as is_bad_kind_lem, has_bad_value as has_bad_value_lem};
+ghost use Rattle.asm_model.specs.Placement.{Reached as ReachedOf, action_length as action_length_model, start as start_model, fault_from, line_fault as line_fault_model, names_fit, is_twice as is_twice_model, is_out as is_out_model, is_too_long as is_too_long_model, is_bad_kind as is_bad_kind_model, has_bad_value as has_bad_value_model};
 ghost use Rattle.asm_model.specs.Statements.{stated};
-ghost use Rattle.asm_lines.specs.Labels.{IsReached, all_names_in, expression_in, fault_said, is_equals as is_equals_lem, is_filled_in, is_text_filled_in, name_is_in, names_in, value_out_in};
+ghost use Rattle.asm_lines.specs.Labels.{IsReached, all_names_in, expression_in, fault_said, is_equals as is_equals_model, is_filled_in, is_text_filled_in, name_is_in, names_in, value_out_in};
 ghost use Rattle.asm_lines.specs.Lines.{action_said, line_said, statement_said};
 
 use crate::lengths::{CRC_LENGTH, action_length, constant_value};
@@ -60,7 +60,7 @@ fn names_are_among(labels: &Labels, action: &Action) -> bool
 
 // Is it `equ`?
 fn is_equals(action: &Action) -> bool
-    ensures { result ≡ is_equals_lem (action_said action.now) }
+    ensures { result ≡ is_equals_model (action_said action.now) }
 {
     matches!(action, Action::Equals(_))
 }
@@ -80,7 +80,7 @@ fn are_names_fit(all: &Reached, above: &Reached, action: &Action) -> bool
 // Does a line above already have the label, or is this a second `mod` or `emod`?
 fn is_twice(above: &Reached, statement: &Statement) -> bool
     ensures { (a : ReachedOf) → IsReached above.now a
-        → result ≡ is_twice_lem a (statement_said statement.now) }
+        → result ≡ is_twice_model a (statement_said statement.now) }
 {
     has_known_name(&above.labels, statement.name)
         || (above.has_start && is_start(&statement.action))
@@ -99,7 +99,7 @@ fn has_known_name(labels: &Labels, name: Option<&[u8]>) -> bool
 
 // Is a value known, and out of the range of its field?
 fn is_out(field: Field, next: u128, value: Option<i128>) -> bool
-    ensures { result ≡ is_out_lem field next value }
+    ensures { result ≡ is_out_model field next value }
 {
     match value {
         Some(value) => filled(field, next, value).is_none(),
@@ -109,7 +109,7 @@ fn is_out(field: Field, next: u128, value: Option<i128>) -> bool
 
 // Is the value of an expression known, and out of the range of its field?
 fn is_text_out(place: Place, next: u128, field: Field, text: &[u8]) -> bool
-    ensures { result ≡ is_out_lem field next
+    ensures { result ≡ is_out_model field next
         (expression_in place.entry.labels.now place.entry.offset text.now) }
 {
     is_out(field, next, value_at(place, text))
@@ -118,7 +118,7 @@ fn is_text_out(place: Place, next: u128, field: Field, text: &[u8]) -> bool
 // Is the value of an expression of a list known, and out of the range of its field?
 fn is_list_out(place: Place, next: u128, field: Field, text: &[u8]) -> bool
     ensures { result ≡ list_any
-        (λ t. is_out_lem field next (expression_in place.entry.labels.now place.entry.offset t))
+        (λ t. is_out_model field next (expression_in place.entry.labels.now place.entry.offset t))
         (slice_split is_comma text.now) }
 {
     text.split(|c| *c == b',')
@@ -127,7 +127,8 @@ fn is_list_out(place: Place, next: u128, field: Field, text: &[u8]) -> bool
 
 // The offset after a statement at a place, or its length if the offset of the place is not known.
 fn next_of(place: Place, action: &Action) -> u128
-    ensures { result ≡ unwrap_or place.entry.offset 0 + action_length_lem (action_said action.now) }
+    ensures { result ≡ unwrap_or place.entry.offset 0 + action_length_model
+        (action_said action.now) }
 {
     u128::from(place.offset.unwrap_or(0)) + action_length(action)
 }
@@ -200,7 +201,7 @@ pub fn is_filled(place: Place, action: &Action) -> bool
 
 // Is the module longer than the greatest length of a module?
 fn is_too_long(offset: Option<u64>, action: &Action) -> bool
-    ensures { result ≡ is_too_long_lem offset (action_said action.now) }
+    ensures { result ≡ is_too_long_model offset (action_said action.now) }
 {
     match (offset, action) {
         (Some(n), Action::ModuleEnd) => n > u64::from(MOST_GROUP_BYTES - CRC_LENGTH),
@@ -210,7 +211,7 @@ fn is_too_long(offset: Option<u64>, action: &Action) -> bool
 
 // Is it a `mod` with a type and language that is out of range?
 fn is_bad_kind(action: &Action) -> bool
-    ensures { result ≡ is_bad_kind_lem (action_said action.now) }
+    ensures { result ≡ is_bad_kind_model (action_said action.now) }
 {
     match action {
         Action::ModuleStart(fields) => {
@@ -223,8 +224,8 @@ fn is_bad_kind(action: &Action) -> bool
 
 // Is it a `mod` or an `emod` with a value out of its range?
 fn is_module_out(offset: Option<u64>, action: &Action) -> bool
-    ensures { result ≡ (is_too_long_lem offset (action_said action.now)
-        || is_bad_kind_lem (action_said action.now)) }
+    ensures { result ≡ (is_too_long_model offset (action_said action.now)
+        || is_bad_kind_model (action_said action.now)) }
 {
     is_too_long(offset, action) || is_bad_kind(action)
 }
@@ -232,7 +233,7 @@ fn is_module_out(offset: Option<u64>, action: &Action) -> bool
 // Does a statement have a value out of its range?
 fn has_bad_value(all: &Reached, above: &Reached, action: &Action) -> bool
     ensures { (m a : ReachedOf) → IsReached all.now m → IsReached above.now a
-        → result ≡ has_bad_value_lem m a (action_said action.now) }
+        → result ≡ has_bad_value_model m a (action_said action.now) }
 {
     let place = Place {
         labels: &all.labels,
@@ -244,7 +245,7 @@ fn has_bad_value(all: &Reached, above: &Reached, action: &Action) -> bool
 // The least rule that a statement breaks, if it breaks one.
 fn statement_fault(all: &Reached, above: &Reached, statement: &Statement) -> Option<AsmError>
     ensures { (m a : ReachedOf) → IsReached all.now m → IsReached above.now a
-        → result ≡ line_fault_lem m a (stated (statement_said statement.now)) }
+        → result ≡ line_fault_model m a (stated (statement_said statement.now)) }
 {
     if !are_names_fit(all, above, &statement.action) {
         Some(AsmError::UnknownName)
@@ -260,7 +261,7 @@ fn statement_fault(all: &Reached, above: &Reached, statement: &Statement) -> Opt
 // The least rule that a line breaks, if it breaks one.
 fn line_fault(all: &Reached, above: &Reached, line: &Line) -> Option<AsmError>
     ensures { (m a : ReachedOf) → IsReached all.now m → IsReached above.now a
-        → result ≡ line_fault_lem m a (line_said line.now) }
+        → result ≡ line_fault_model m a (line_said line.now) }
 {
     match line {
         Line::Skipped => None,
@@ -281,7 +282,7 @@ pub fn first_fault<'a>(
     all: &Reached<'a>,
 ) -> Result<Option<SourceFault>, OutOfMemory>
     ensures { IfOk result (λ fault. (m : ReachedOf) → IsReached all.now m
-        → option_map fault_said fault ≡ fault_from m start_lem 1 (map line_said lines.now)) }
+        → option_map fault_said fault ≡ fault_from m start_model 1 (map line_said lines.now)) }
 {
     let mut above = nothing(alloc);
     let mut number = 0;

@@ -2,7 +2,7 @@ ghost use Rattle.std.specs.Prelude.{◌≡◌, ◌+◌, ◌<◌, ◌^◌, IfOk, 
 ghost use Rattle.std.specs.List.{slice_split};
 ghost use Rattle.module_format.specs.GuestModule.{kind_header_length, marked_name};
 ghost use Rattle.asm_model.specs.Characters.{is_comma};
-ghost use Rattle.asm_model.specs.Placement.{constant_value as constant_value_lem, action_length as action_length_lem};
+ghost use Rattle.asm_model.specs.Placement as model;
 ghost use Rattle.asm_lines.specs.Lines.{action_said};
 
 use crate::Action;
@@ -21,7 +21,7 @@ const CALL_LENGTH: u8 = 3;
 
 /// The value of an expression of numbers, 0 for another text.
 pub fn constant_value(text: &[u8]) -> i128
-    ensures { result ≡ constant_value_lem text.now }
+    ensures { result ≡ model.constant_value text.now }
 {
     value_of(text, &Numbers).unwrap_or(0)
 }
@@ -51,7 +51,7 @@ fn marked_length(text: &[u8]) -> u128
 
 /// The number of bytes of a statement.
 pub fn action_length(action: &Action) -> u128
-    ensures length { result ≡ action_length_lem (action_said action.now) }
+    ensures length { result ≡ model.action_length (action_said action.now) }
     ensures most { result < 2 ^ 66 }
 {
     match action {
@@ -78,7 +78,7 @@ pub fn action_length(action: &Action) -> u128
 /// bytes.
 pub fn offset_behind(offset: Option<u64>, action: &Action) -> Result<Option<u64>, OutOfMemory>
     ensures { IfOk result (λ behind. behind
-        ≡ option_map (λ n. n + action_length_lem (action_said action.now)) offset) }
+        ≡ option_map (λ n. n + model.action_length (action_said action.now)) offset) }
 {
     let Some(offset) = offset else {
         return Ok(None);

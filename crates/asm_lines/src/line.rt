@@ -1,7 +1,7 @@
 ghost use Rattle.std.specs.Prelude.{◌≡◌, option_map};
 ghost use Rattle.std.specs.List.{list_all};
-ghost use Rattle.asm_model.specs.Characters.{is_line_byte as is_line_byte_lem};
-ghost use Rattle.asm_model.specs.Statements.{is_skipped as is_skipped_lem, after_label as after_label_lem, labelled as labelled_lem, line_read, statement as statement_lem};
+ghost use Rattle.asm_model.specs.Characters.{is_line_byte as is_line_byte_model};
+ghost use Rattle.asm_model.specs.Statements.{is_skipped as is_skipped_model, after_label as after_label_model, labelled as labelled_model, line_read, statement as statement_model};
 ghost use Rattle.asm_lines.specs.Lines.{action_said, line_said};
 
 use crate::operands::{Action, action_of};
@@ -28,20 +28,20 @@ pub enum Line<'a> {
 
 // Is the byte allowed in a line: from a space to `~`?
 fn is_line_byte(c: u8) -> bool
-    ensures { result ≡ is_line_byte_lem c }
+    ensures { result ≡ is_line_byte_model c }
 {
     matches!(c, b' '..=b'~')
 }
 
 fn are_line_bytes(line: &[u8]) -> bool
-    ensures { result ≡ list_all is_line_byte_lem line.now }
+    ensures { result ≡ list_all is_line_byte_model line.now }
 {
     line.iter().all(|c| is_line_byte(*c))
 }
 
 // Is the line skipped? It is empty, or begins with `*`.
 fn is_skipped(line: &[u8]) -> bool
-    ensures { result ≡ is_skipped_lem line.now }
+    ensures { result ≡ is_skipped_model line.now }
 {
     match line {
         [] => true,
@@ -52,7 +52,8 @@ fn is_skipped(line: &[u8]) -> bool
 // The statement of a label and an action, if they make one: `equ` needs a label.
 fn stated<'a>(name: Option<&'a [u8]>, action: Option<Action<'a>>) -> Line<'a>
     ensures { line_said result
-        ≡ statement_lem (option_map (λ n. n.now) name.entry) (option_map action_said action.entry) }
+        ≡ statement_model (option_map (λ n. n.now) name.entry)
+        (option_map action_said action.entry) }
 {
     let Some(action) = action else {
         return Line::Broken(name);
@@ -65,7 +66,7 @@ fn stated<'a>(name: Option<&'a [u8]>, action: Option<Action<'a>>) -> Line<'a>
 
 // What is read from the rest of a line, after its label or its leading spaces.
 fn after_label<'a>(name: Option<&'a [u8]>, rest: &'a [u8]) -> Line<'a>
-    ensures { line_said result ≡ after_label_lem (option_map (λ n. n.now) name.entry) rest.now }
+    ensures { line_said result ≡ after_label_model (option_map (λ n. n.now) name.entry) rest.now }
 {
     if !rest.is_empty() {
         let operand = without_spaces(behind_word(rest));
@@ -82,7 +83,7 @@ fn after_label<'a>(name: Option<&'a [u8]>, rest: &'a [u8]) -> Line<'a>
 
 // What is read from a line of a first column and the rest after it.
 fn labelled<'a>(name: &'a [u8], rest: &'a [u8]) -> Line<'a>
-    ensures { line_said result ≡ labelled_lem name.now rest.now }
+    ensures { line_said result ≡ labelled_model name.now rest.now }
 {
     if name.is_empty() {
         after_label(None, rest)

@@ -1,9 +1,9 @@
 ghost use Rattle.std.specs.Prelude.{◌≡◌, ℕ, List, option_map};
 ghost use Rattle.std.specs.List.{slice_split, list_all};
-ghost use Rattle.os9_base.specs.Name.{is_name_character as is_name_character_lem};
+ghost use Rattle.os9_base.specs.Name.{is_name_character as is_name_character_model};
 ghost use Rattle.asm_model.specs.Characters.{is_comma};
-ghost use Rattle.asm_model.specs.Statements.{is_module_name as is_module_name_lem, module_fields as module_fields_lem, expression_list as expression_list_lem, if_expression, directive_action as directive_action_lem, action_of as action_of_lem, Action as ActionOf};
-ghost use Rattle.asm_lines.specs.Lines.{action_said, fields_said, list_said, are_right as are_right_lem};
+ghost use Rattle.asm_model.specs.Statements.{is_module_name as is_module_name_model, module_fields as module_fields_model, expression_list as expression_list_model, if_expression, directive_action as directive_action_model, action_of as action_of_model, Action as ActionOf};
+ghost use Rattle.asm_lines.specs.Lines.{action_said, fields_said, list_said, are_right as are_right_model};
 
 use crate::cuts::{cut_at_comma, quoted};
 use crate::words::directive_of;
@@ -50,27 +50,27 @@ pub enum Action<'a> {
 const LONGEST_NAME: usize = 29;
 
 fn is_name_character(c: u8) -> bool
-    ensures { result ≡ is_name_character_lem c }
+    ensures { result ≡ is_name_character_model c }
 {
     matches!(c, b'a'..=b'z' | b'A'..=b'Z' | b'0'..=b'9' | b'_' | b'.')
 }
 
 fn are_name_characters(name: &[u8]) -> bool
-    ensures { result ≡ list_all is_name_character_lem name.now }
+    ensures { result ≡ list_all is_name_character_model name.now }
 {
     name.iter().all(|c| is_name_character(*c))
 }
 
 // Is it a name of 1 to 29 characters that F$PrsNam accepts?
 pub fn is_module_name(name: &[u8]) -> bool
-    ensures { result ≡ is_module_name_lem name.now }
+    ensures { result ≡ is_module_name_model name.now }
 {
     !name.is_empty() && name.len() <= LONGEST_NAME && are_name_characters(name)
 }
 
 // The four operands of `mod`, if they are valid.
 fn module_fields(text: &[u8]) -> Option<Action<'_>>
-    ensures { option_map action_said result ≡ module_fields_lem (slice_split is_comma text.now) }
+    ensures { option_map action_said result ≡ module_fields_model (slice_split is_comma text.now) }
 {
     let name = cut_at_comma(text)?;
     let kind = cut_at_comma(name.behind)?;
@@ -93,7 +93,7 @@ fn module_fields(text: &[u8]) -> Option<Action<'_>>
 
 // Are the operands of `mod` valid?
 fn are_right(fields: ModuleFields) -> bool
-    ensures { result ≡ are_right_lem (fields_said fields.entry) }
+    ensures { result ≡ are_right_model (fields_said fields.entry) }
 {
     is_module_name(fields.name)
         && is_constant_expression(fields.kind)
@@ -103,7 +103,7 @@ fn are_right(fields: ModuleFields) -> bool
 
 // The expressions, separated by commas, if each part is one.
 fn expression_list(text: &[u8]) -> Option<&[u8]>
-    ensures { option_map (λ t. list_said t.now) result ≡ expression_list_lem text.now }
+    ensures { option_map (λ t. list_said t.now) result ≡ expression_list_model text.now }
 {
     if text.split(|c| *c == b',').all(|part| is_expression(part)) {
         Some(text)
@@ -126,7 +126,7 @@ fn expression(text: &[u8]) -> Option<&[u8]>
 
 // The action of a directive with this rest of its line, if its operand is valid.
 fn directive_action(directive: Directive, rest: &[u8]) -> Option<Action<'_>>
-    ensures { option_map action_said result ≡ directive_action_lem directive rest.now }
+    ensures { option_map action_said result ≡ directive_action_model directive rest.now }
 {
     let operand = first_word(rest);
     match directive {
@@ -143,7 +143,7 @@ fn directive_action(directive: Directive, rest: &[u8]) -> Option<Action<'_>>
 
 /// The action of a word with this rest of its line, if they are valid.
 pub fn action_of<'a>(word: &[u8], rest: &'a [u8]) -> Option<Action<'a>>
-    ensures { option_map action_said result ≡ action_of_lem word.now rest.now }
+    ensures { option_map action_said result ≡ action_of_model word.now rest.now }
 {
     match directive_of(word) {
         Some(directive) => directive_action(directive, rest),

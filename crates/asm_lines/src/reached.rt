@@ -1,5 +1,6 @@
 ghost use Rattle.std.specs.Prelude.{◌≡◌, map, option_map, List, Option, Some, None, IfOk};
-ghost use Rattle.asm_model.specs.Placement.{Meaning as MeaningOf, Reached as ReachedOf, after, start as start_lem, label_value as label_value_lem, reached_from, with_label, is_start as is_start_lem, is_end as is_end_lem};
+ghost use Rattle.asm_model.specs.Placement as model;
+ghost use Rattle.asm_model.specs.Placement.{Meaning as MeaningOf, Reached as ReachedOf, after, reached_from, with_label};
 ghost use Rattle.asm_lines.specs.Labels.{Holds, IsReached};
 ghost use Rattle.asm_lines.specs.Lines.{action_said, line_said, statement_said};
 ghost use Rattle.asm_model.specs.Statements.{stated};
@@ -23,7 +24,7 @@ pub struct Reached<'a> {
 
 // What is reached before the first line.
 pub(crate) fn nothing<'a>(alloc: Global) -> Reached<'a>
-    ensures { IsReached result start_lem }
+    ensures { IsReached result model.start }
 {
     Reached {
         labels: Labels::new(alloc),
@@ -35,14 +36,14 @@ pub(crate) fn nothing<'a>(alloc: Global) -> Reached<'a>
 
 // Is it `mod`?
 pub(crate) fn is_start(action: &Action) -> bool
-    ensures { result ≡ is_start_lem (action_said action.now) }
+    ensures { result ≡ model.is_start (action_said action.now) }
 {
     matches!(action, Action::ModuleStart(_))
 }
 
 // Is it `emod`?
 pub(crate) fn is_end(action: &Action) -> bool
-    ensures { result ≡ is_end_lem (action_said action.now) }
+    ensures { result ≡ model.is_end (action_said action.now) }
 {
     matches!(action, Action::ModuleEnd)
 }
@@ -50,7 +51,7 @@ pub(crate) fn is_end(action: &Action) -> bool
 // The value of a statement's label, if it is known.
 fn label_value(above: &Reached, action: &Action) -> Option<i64>
     ensures { (m : ReachedOf) → IsReached above.now m
-        → result ≡ label_value_lem m (action_said action.now) }
+        → result ≡ model.label_value m (action_said action.now) }
 {
     match action {
         Action::Equals(text) => {
@@ -116,7 +117,7 @@ pub(crate) fn add_line<'a>(reached: &mut Reached<'a>, line: Line<'a>) -> Result<
 /// `OutOfMemory` alone: for the labels, or for an offset that does not fit 64 bits.
 pub fn reached_by<'a>(alloc: Global, lines: &[Line<'a>]) -> Result<Reached<'a>, OutOfMemory>
     ensures { IfOk result (λ reached. IsReached reached
-        (reached_from start_lem (map line_said lines.now))) }
+        (reached_from model.start (map line_said lines.now))) }
 {
     let mut reached = nothing(alloc);
     for line in lines {

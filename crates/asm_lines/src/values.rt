@@ -1,5 +1,5 @@
 ghost use Rattle.std.specs.Prelude.{◌≡◌, option_and_then};
-ghost use Rattle.asm_model.specs.Placement.{held as held_lem, offset_value as offset_value_lem};
+ghost use Rattle.asm_model.specs.Placement as model;
 ghost use Rattle.asm_lines.specs.Labels.{expression_in, is_term_in, names_in, term_in};
 
 use crate::table::Labels;
@@ -7,7 +7,7 @@ use asm_terms::{Meaning, Term, TermTest, every_term, value_of};
 
 // A value that a label or `*` can have: one that fits 64 bits with a sign.
 fn held(value: i128) -> Option<i64>
-    ensures { result ≡ held_lem value }
+    ensures { result ≡ model.held value }
 {
     if i128::from(i64::MIN) <= value && value <= i128::from(i64::MAX) {
         Some(value as i64)
@@ -18,7 +18,7 @@ fn held(value: i128) -> Option<i64>
 
 // The value of `*` at this offset.
 pub(crate) fn offset_value(offset: Option<u64>) -> Option<i64>
-    ensures { result ≡ offset_value_lem offset }
+    ensures { result ≡ model.offset_value offset }
 {
     held(i128::from(offset?))
 }
@@ -68,7 +68,7 @@ pub fn value_at(place: Place, text: &[u8]) -> Option<i128>
 
 // The value of an expression at a place, if a label can have it.
 pub(crate) fn held_at(place: Place, text: &[u8]) -> Option<i64>
-    ensures { result ≡ option_and_then held_lem
+    ensures { result ≡ option_and_then model.held
         (expression_in place.entry.labels.now place.entry.offset text.now) }
 {
     held(value_at(place, text)?)

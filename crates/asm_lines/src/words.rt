@@ -1,12 +1,12 @@
 ghost use Rattle.std.specs.Prelude.{◌≡◌};
-ghost use Rattle.asm_model.specs.Statements.{directive_of as directive_of_lem};
+ghost use Rattle.asm_model.specs.Statements as model;
 
 use asm_model::directive::Directive;
 use asm_terms::is_same_word;
 
 // The directive of this word in any case of letters.
 pub(crate) fn directive_of(word: &[u8]) -> Option<Directive>
-    ensures { result ≡ directive_of_lem word.now }
+    ensures { result ≡ model.directive_of word.now }
 {
     if is_same_word(b"MOD", word) {
         Some(Directive::Mod)

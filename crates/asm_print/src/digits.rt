@@ -1,6 +1,7 @@
 ghost use Rattle.std.specs.Prelude.{◌≡◌, ◌+◌, ◌<◌, ◌≤◌, ◌++◌, length};
 ghost use Rattle.arrayvec.specs.ArrayVec.{array_vec_len};
-ghost use Rattle.asm_model.specs.Numbers.{hex_character as hex_character_lem, two_digits};
+ghost use Rattle.asm_model.specs.Numbers as model;
+ghost use Rattle.asm_model.specs.Numbers.{two_digits};
 ghost use Rattle.asm_model.specs.Print.{byte_number, word_number, signed_number, five_bits, decimal};
 
 use arrayvec::ArrayVec;
@@ -23,7 +24,7 @@ pub(crate) fn add<const N: usize>(out: &mut ArrayVec<u8, N>, text: &[u8])
 // The digit of a number below 16.
 fn hex_character(n: u8) -> u8
     requires { n < 16 }
-    ensures { result ≡ hex_character_lem n }
+    ensures { result ≡ model.hex_character n }
 {
     if n < 10 { b'0' + n } else { b'A' - 10 + n }
 }

@@ -1,13 +1,13 @@
 ghost use Rattle.std.specs.Prelude.{◌≡◌, ◌+◌, ◌*◌, ◌<◌, ◌≤◌, ◌++◌, ◌∷◌, [], length, true, false};
 ghost use Rattle.arrayvec.specs.ArrayVec.{array_vec_len};
-ghost use Rattle.cpu_model.specs.Arithmetic.{extended as extended_lem};
-ghost use Rattle.cpu_model.specs.Registers.{register_coded as register_coded_lem, other_pointer as other_pointer_lem};
+ghost use Rattle.cpu_model.specs.Arithmetic.{extended as extended_model};
+ghost use Rattle.cpu_model.specs.Registers.{register_coded as register_coded_model, other_pointer as other_pointer_model};
 ghost use Rattle.cpu_model.specs.Reading.{extent_of_form};
-ghost use Rattle.cpu_model.specs.Table.{postbyte as postbyte_lem};
-ghost use Rattle.asm_model.specs.Mnemonics.{index_register_word as index_register_word_lem};
+ghost use Rattle.cpu_model.specs.Table.{postbyte as postbyte_model};
+ghost use Rattle.asm_model.specs.Mnemonics.{index_register_word as index_register_word_model};
 ghost use Rattle.asm_model.specs.Characters.{same_word};
 ghost use Rattle.asm_model.specs.Operands.{is_bare, is_bare_extent};
-ghost use Rattle.asm_model.specs.Print.{masked_part, stays_first, masked, mask_registers as mask_registers_lem, printed_mask, printed_pair, plain_index, target as target_lem, printed_index, in_brackets, printed_indexing, printed_immediate, printed_byte, printed_word, printed_operand};
+ghost use Rattle.asm_model.specs.Print.{masked_part, stays_first, masked, mask_registers as mask_registers_model, printed_mask, printed_pair, plain_index, target as target_model, printed_index, in_brackets, printed_indexing, printed_immediate, printed_byte, printed_word, printed_operand};
 
 use crate::digits::{OPERAND, add, add_byte, add_five_bits, add_signed, add_word};
 use crate::words::{index_register_word, register_word};
@@ -24,7 +24,7 @@ pub(crate) const LAST_NEXT: u32 = 65_540;
 
 // The register that a push mask has in place of the stack's own.
 fn other_pointer(stack: Stack) -> Register
-    ensures { result ≡ other_pointer_lem stack }
+    ensures { result ≡ other_pointer_model stack }
 {
     match stack {
         Stack::System => Register::U,
@@ -34,7 +34,7 @@ fn other_pointer(stack: Stack) -> Register
 
 // The registers of a push mask, from bit 0 up.
 fn mask_registers(stack: Stack) -> [Register; 8]
-    ensures { result ≡ mask_registers_lem stack }
+    ensures { result ≡ mask_registers_model stack }
 {
     [
         Register::Cc,
@@ -98,7 +98,7 @@ fn add_mask(out: &mut ArrayVec<u8, OPERAND>, stack: Stack, mask: u8)
 
 // The register of a code of EXG and TFR.
 fn register_coded(code: u8) -> Register
-    ensures { result ≡ register_coded_lem code }
+    ensures { result ≡ register_coded_model code }
 {
     match code {
         0 => Register::D,
@@ -128,7 +128,7 @@ fn add_pair(out: &mut ArrayVec<u8, OPERAND>, pair: u8)
 
 // A byte with its sign in a word.
 fn extended(b: u8) -> u16
-    ensures { result ≡ extended_lem b }
+    ensures { result ≡ extended_model b }
 {
     if b >= 128 {
         65280 + u16::from(b)
@@ -140,7 +140,7 @@ fn extended(b: u8) -> u16
 // The target at a distance from the next instruction.
 fn target(next: u32, offset: u16) -> u16
     requires { next ≤ LAST_NEXT }
-    ensures { result ≡ target_lem next offset }
+    ensures { result ≡ target_model next offset }
 {
     ((next + u32::from(offset)) % 65536) as u16
 }
@@ -171,7 +171,7 @@ fn add_plain(out: &mut ArrayVec<u8, OPERAND>, form: Form, register: IndexRegiste
 fn add_base(out: &mut ArrayVec<u8, OPERAND>, register: IndexRegister)
     requires { array_vec_len out.old + 2 ≤ OPERAND }
     ensures text { out.new.items ≡ out.old.items
-        ++ (44 ∷ index_register_word_lem register) }
+        ++ (44 ∷ index_register_word_model register) }
     ensures len { array_vec_len out.new ≤ array_vec_len out.old + 2 }
 {
     out.push(b',');
@@ -351,7 +351,7 @@ fn is_bare_index(meaning: Indexing, text: &[u8]) -> bool
 ///
 /// A postbyte that is not documented, or has operand bytes, has no such text.
 pub fn is_bare_operand(post: u8, text: &[u8]) -> bool
-    ensures { result ≡ is_bare text.now (postbyte_lem post) }
+    ensures { result ≡ is_bare text.now (postbyte_model post) }
 {
     match postbyte(post) {
         Some(meaning) => has_no_bytes(meaning.0) && is_bare_index(meaning, text),

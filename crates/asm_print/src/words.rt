@@ -1,6 +1,6 @@
 ghost use Rattle.std.specs.Prelude.{◌≡◌, ◌+◌, ◌≤◌, ◌++◌, length};
-ghost use Rattle.asm_model.specs.Mnemonics.{unary_word as unary_word_lem, binary_word as binary_word_lem, word_binary_word as word_binary_word_lem, condition_word as condition_word_lem, accumulator_word as accumulator_word_lem, word_register_word as word_register_word_lem, index_register_word as index_register_word_lem, stack_word as stack_word_lem, operation_word as operation_word_lem, long_mark as long_mark_lem};
-ghost use Rattle.asm_model.specs.Print.{register_word as register_word_lem};
+ghost use Rattle.asm_model.specs.Mnemonics.{unary_word as unary_word_model, binary_word as binary_word_model, word_binary_word as word_binary_word_model, condition_word as condition_word_model, accumulator_word as accumulator_word_model, word_register_word as word_register_word_model, index_register_word as index_register_word_model, stack_word as stack_word_model, operation_word as operation_word_model, long_mark as long_mark_model};
+ghost use Rattle.asm_model.specs.Print.{register_word as register_word_model};
 
 use cpu_model::rows::{
     Accumulator, Binary, Condition, IndexRegister, Mode, Operation, Register, Stack, Unary,
@@ -8,7 +8,7 @@ use cpu_model::rows::{
 };
 
 fn unary_word(unary: Unary) -> &'static [u8]
-    ensures word { result.now ≡ unary_word_lem unary }
+    ensures word { result.now ≡ unary_word_model unary }
     ensures short { length result.now ≤ 3 }
 {
     match unary {
@@ -27,7 +27,7 @@ fn unary_word(unary: Unary) -> &'static [u8]
 }
 
 fn binary_word(binary: Binary) -> &'static [u8]
-    ensures word { result.now ≡ binary_word_lem binary }
+    ensures word { result.now ≡ binary_word_model binary }
     ensures short { length result.now ≤ 3 }
 {
     match binary {
@@ -45,7 +45,7 @@ fn binary_word(binary: Binary) -> &'static [u8]
 }
 
 fn word_binary_word(binary: WordBinary) -> &'static [u8]
-    ensures word { result.now ≡ word_binary_word_lem binary }
+    ensures word { result.now ≡ word_binary_word_model binary }
     ensures short { length result.now ≤ 3 }
 {
     match binary {
@@ -57,7 +57,7 @@ fn word_binary_word(binary: WordBinary) -> &'static [u8]
 }
 
 fn condition_word(condition: Condition) -> &'static [u8]
-    ensures word { result.now ≡ condition_word_lem condition }
+    ensures word { result.now ≡ condition_word_model condition }
     ensures short { length result.now ≤ 2 }
 {
     match condition {
@@ -81,7 +81,7 @@ fn condition_word(condition: Condition) -> &'static [u8]
 }
 
 fn accumulator_word(accumulator: Accumulator) -> &'static [u8]
-    ensures word { result.now ≡ accumulator_word_lem accumulator }
+    ensures word { result.now ≡ accumulator_word_model accumulator }
     ensures short { length result.now ≤ 1 }
 {
     match accumulator {
@@ -91,7 +91,7 @@ fn accumulator_word(accumulator: Accumulator) -> &'static [u8]
 }
 
 fn word_register_word(register: WordRegister) -> &'static [u8]
-    ensures word { result.now ≡ word_register_word_lem register }
+    ensures word { result.now ≡ word_register_word_model register }
     ensures short { length result.now ≤ 1 }
 {
     match register {
@@ -104,7 +104,7 @@ fn word_register_word(register: WordRegister) -> &'static [u8]
 }
 
 pub(crate) fn index_register_word(register: IndexRegister) -> &'static [u8]
-    ensures word { result.now ≡ index_register_word_lem register }
+    ensures word { result.now ≡ index_register_word_model register }
     ensures short { length result.now ≤ 1 }
 {
     match register {
@@ -116,7 +116,7 @@ pub(crate) fn index_register_word(register: IndexRegister) -> &'static [u8]
 }
 
 fn stack_word(stack: Stack) -> &'static [u8]
-    ensures word { result.now ≡ stack_word_lem stack }
+    ensures word { result.now ≡ stack_word_model stack }
     ensures short { length result.now ≤ 1 }
 {
     match stack {
@@ -126,7 +126,7 @@ fn stack_word(stack: Stack) -> &'static [u8]
 }
 
 pub(crate) fn register_word(register: Register) -> &'static [u8]
-    ensures word { result.now ≡ register_word_lem register }
+    ensures word { result.now ≡ register_word_model register }
     ensures short { length result.now ≤ 2 }
 {
     match register {
@@ -159,7 +159,7 @@ fn word(stem: &'static [u8], ending: &'static [u8]) -> OperationWord
 
 /// The word of an operation.
 pub(crate) fn operation_word(operation: Operation) -> OperationWord
-    ensures word { result.stem.now ++ result.ending.now ≡ operation_word_lem operation }
+    ensures word { result.stem.now ++ result.ending.now ≡ operation_word_model operation }
     ensures short { length result.stem.now + length result.ending.now ≤ 5 }
 {
     match operation {
@@ -206,7 +206,7 @@ pub(crate) fn operation_word(operation: Operation) -> OperationWord
 
 /// The mark of long branches.
 pub(crate) fn long_mark(mode: Mode) -> &'static [u8]
-    ensures word { result.now ≡ long_mark_lem mode }
+    ensures word { result.now ≡ long_mark_model mode }
     ensures short { length result.now ≤ 1 }
 {
     match mode {

@@ -1,9 +1,10 @@
 ghost use Rattle.std.specs.Prelude.{◌≡◌};
-ghost use Rattle.asm_model.specs.Characters.{is_sign as is_sign_lem, same_word};
+ghost use Rattle.asm_model.specs.Characters as model;
+ghost use Rattle.asm_model.specs.Characters.{same_word};
 
 /// Is it `+` or `-`?
 pub(crate) fn is_sign(c: u8) -> bool
-    ensures { result ≡ is_sign_lem c }
+    ensures { result ≡ model.is_sign c }
 {
     c == b'+' || c == b'-'
 }

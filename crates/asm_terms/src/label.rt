@@ -1,6 +1,6 @@
 ghost use Rattle.std.specs.Prelude.{◌≡◌};
 ghost use Rattle.std.specs.List.{list_all};
-ghost use Rattle.asm_model.specs.Expressions.{is_label as is_label_lem, is_label_character as is_label_character_lem, is_letter as is_letter_lem, is_register_name as is_register_name_lem};
+ghost use Rattle.asm_model.specs.Expressions as model;
 
 use crate::characters::is_same_word;
 
@@ -9,26 +9,26 @@ const LONGEST: usize = 29;
 
 // Is it a letter or `_`?
 fn is_letter(c: u8) -> bool
-    ensures { result ≡ is_letter_lem c }
+    ensures { result ≡ model.is_letter c }
 {
     c.is_ascii_uppercase() || c.is_ascii_lowercase() || c == b'_'
 }
 
 fn is_label_character(c: u8) -> bool
-    ensures { result ≡ is_label_character_lem c }
+    ensures { result ≡ model.is_label_character c }
 {
     is_letter(c) || c.is_ascii_digit()
 }
 
 fn are_label_characters(text: &[u8]) -> bool
-    ensures { result ≡ list_all is_label_character_lem text.now }
+    ensures { result ≡ list_all model.is_label_character text.now }
 {
     text.iter().all(|c| is_label_character(*c))
 }
 
 // Is it the name of a register, in any case of letters?
 fn is_register_name(text: &[u8]) -> bool
-    ensures { result ≡ is_register_name_lem text.now }
+    ensures { result ≡ model.is_register_name text.now }
 {
     is_same_word(b"A", text)
         || is_same_word(b"B", text)
@@ -45,7 +45,7 @@ fn is_register_name(text: &[u8]) -> bool
 /// Is it a label: a letter or `_`, then letters, digits and `_`, of at most 29 characters, and not
 /// the name of a register?
 pub fn is_label(text: &[u8]) -> bool
-    ensures { result ≡ is_label_lem text.now }
+    ensures { result ≡ model.is_label text.now }
 {
     match text {
         [] => false,

@@ -1,8 +1,8 @@
 ghost use Rattle.std.specs.Prelude.{◌≡◌, ◌+◌, ◌*◌, ◌<◌, ◌≤◌, IfSome, option_map, option_and_then, pos};
 ghost use Rattle.asm_model.specs.Characters.{is_minus};
-ghost use Rattle.text_values.specs.Number.{hex_digit as hex_digit_lem};
-ghost use Rattle.asm_model.specs.Numbers.{hexadecimal as hexadecimal_lem, number as number_lem};
-ghost use Rattle.asm_model.specs.Expressions.{lone_value as lone_value_lem, terms};
+ghost use Rattle.text_values.specs.Number.{hex_digit as hex_digit_model};
+ghost use Rattle.asm_model.specs.Numbers.{hexadecimal as hexadecimal_model, number as number_model};
+ghost use Rattle.asm_model.specs.Expressions.{lone_value as lone_value_model, terms};
 ghost use Rattle.asm_terms.specs.Terms.{joined};
 
 use text_values::{hex_digit, read_number};
@@ -16,7 +16,7 @@ const MOST_DIGITS: usize = 4;
 // The number with one more digit.
 fn with_digit(value: u16, c: u8) -> Option<u16>
     requires { value < 4096 }
-    ensures value { result ≡ option_map (λ digit. 16 * value + digit) (hex_digit_lem c) }
+    ensures value { result ≡ option_map (λ digit. 16 * value + digit) (hex_digit_model c) }
     ensures below { IfSome result (λ n. n < 16 * value + 16) }
 {
     let digit = hex_digit(c)?;
@@ -25,7 +25,7 @@ fn with_digit(value: u16, c: u8) -> Option<u16>
 
 // One to four hexadecimal digits.
 fn hexadecimal(text: &[u8]) -> Option<u16>
-    ensures { result ≡ hexadecimal_lem text.now }
+    ensures { result ≡ hexadecimal_model text.now }
 {
     if text.is_empty() || text.len() > MOST_DIGITS {
         return None;
@@ -40,7 +40,7 @@ fn hexadecimal(text: &[u8]) -> Option<u16>
 /// The number that a text spells: decimal digits up to 65,535, or `$` and one to four hexadecimal
 /// digits.
 pub fn number(text: &[u8]) -> Option<u16>
-    ensures { result ≡ number_lem text.now }
+    ensures { result ≡ number_model text.now }
 {
     match text {
         [] => None,
@@ -52,7 +52,7 @@ pub fn number(text: &[u8]) -> Option<u16>
 // A number that follows a sign.
 fn signed_number(sign: u8, text: &[u8]) -> Option<i32>
     ensures { result
-        ≡ option_map (joined (pos 0) (is_minus sign)) (option_map pos (number_lem text.now)) }
+        ≡ option_map (joined (pos 0) (is_minus sign)) (option_map pos (number_model text.now)) }
 {
     let n = i32::from(number(text)?);
     if sign == b'-' { Some(-n) } else { Some(n) }
@@ -60,7 +60,7 @@ fn signed_number(sign: u8, text: &[u8]) -> Option<i32>
 
 /// The value of an expression of one number, with or without `-`.
 pub fn lone_value(text: &[u8]) -> Option<i32>
-    ensures { result ≡ option_and_then lone_value_lem (terms text.now) }
+    ensures { result ≡ option_and_then lone_value_model (terms text.now) }
 {
     match text {
         [] => None,

@@ -1,7 +1,7 @@
 ghost use Rattle.std.specs.Prelude.{◌≡◌, ℕ, option_map, true, Bool};
 ghost use Rattle.std.specs.List.{list_all};
 ghost use Rattle.asm_model.specs.Expressions.{Term as TermOf, terms, terms_after};
-ghost use Rattle.asm_model.specs.Statements.{is_expression as is_expression_lem, is_constant_expression as is_constant_expression_lem};
+ghost use Rattle.asm_model.specs.Statements as model;
 ghost use Rattle.asm_terms.specs.Terms.{tested};
 
 use crate::characters::is_sign;
@@ -62,14 +62,14 @@ pub fn every_term<T: TermTest>(text: &[u8], test: &T) -> Option<bool>
 
 /// Is the text an expression: an optional `-`, then terms joined by `+` and `-`?
 pub fn is_expression(text: &[u8]) -> bool
-    ensures { result ≡ is_expression_lem text.now }
+    ensures { result ≡ model.is_expression text.now }
 {
     every_term(text, &Any).is_some()
 }
 
 /// Is the text an expression of numbers alone?
 pub fn is_constant_expression(text: &[u8]) -> bool
-    ensures { result ≡ is_constant_expression_lem text.now }
+    ensures { result ≡ model.is_constant_expression text.now }
 {
     every_term(text, &Numbers).unwrap_or(false)
 }

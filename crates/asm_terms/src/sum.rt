@@ -1,5 +1,6 @@
 ghost use Rattle.std.specs.Prelude.{◌≡◌, ◌+◌, ◌<◌, ◌≤◌, ◌^◌, ℕ, ℤ, pos, neg_ℤ, ◌≤ℤ◌, ◌+ℤ◌, ◌-ℤ◌, IfSome, option_and_then, length, [], option_map};
-ghost use Rattle.asm_model.specs.Expressions.{terms, terms_after, value_after, value_of as value_of_lem};
+ghost use Rattle.asm_model.specs.Expressions as model;
+ghost use Rattle.asm_model.specs.Expressions.{terms, terms_after, value_after};
 ghost use Rattle.asm_terms.specs.Terms.{with_part};
 
 use crate::characters::is_sign;
@@ -44,7 +45,7 @@ fn sum<M: Meaning>(meaning: &M, sign: u8, text: &[u8]) -> Option<i128>
 ///
 /// The sum is a whole number and never wraps, however long the text is.
 pub fn value_of<M: Meaning>(text: &[u8], meaning: &M) -> Option<i128>
-    ensures { result ≡ option_and_then (value_of_lem (M.meaning meaning.now)) (terms text.now) }
+    ensures { result ≡ option_and_then (model.value_of (M.meaning meaning.now)) (terms text.now) }
 {
     match text {
         [] => None,

@@ -1,5 +1,6 @@
 ghost use Rattle.std.specs.Prelude.{◌≡◌, ℤ, Option, option_map, true, false, Bool};
-ghost use Rattle.asm_model.specs.Expressions.{Term as TermOf, term as term_lem, constant_meaning};
+ghost use Rattle.asm_model.specs.Expressions as model;
+ghost use Rattle.asm_model.specs.Expressions.{Term as TermOf, constant_meaning};
 ghost use Rattle.asm_model.specs.Statements.{is_constant};
 ghost use Rattle.asm_terms.specs.Terms.{term_of};
 
@@ -60,7 +61,7 @@ impl TermTest for Numbers {
 
 /// The term that a text spells: `*`, a label or a number.
 pub fn read_term(text: &[u8]) -> Option<Term<'_>>
-    ensures { option_map term_of result ≡ term_lem text.now }
+    ensures { option_map term_of result ≡ model.term text.now }
 {
     match text {
         [] => None,

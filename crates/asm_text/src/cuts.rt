@@ -1,7 +1,7 @@
 ghost use Rattle.std.specs.Prelude.{◌≡◌, ◌≤◌, length, MatchOption, [], ◌∷◌, option_map};
 ghost use Rattle.std.specs.List.{list_any, slice_split, position_or_len};
 ghost use Rattle.asm_model.specs.Characters.{is_comma};
-ghost use Rattle.asm_model.specs.Operands.{before_bracket as before_bracket_lem};
+ghost use Rattle.asm_model.specs.Operands as model;
 ghost use Rattle.asm_text.specs.Cuts.{two_of, two_as};
 
 /// The texts before and after a comma.
@@ -56,7 +56,7 @@ pub(crate) fn two_parts(text: &[u8]) -> Option<Parts<'_>>
 
 /// The text up to a bracket at its end.
 pub(crate) fn before_bracket(text: &[u8]) -> Option<&[u8]>
-    ensures { option_map (λ inner. inner.now) result ≡ before_bracket_lem text.now }
+    ensures { option_map (λ inner. inner.now) result ≡ model.before_bracket text.now }
 {
     text.strip_suffix(b"]")
 }

@@ -1,7 +1,7 @@
 ghost use Rattle.std.specs.Prelude.{◌≡◌, ◌<◌, ◌&&◌, IfNone, IfSome, Some, true, false, option_map};
 ghost use Rattle.cpu_model.specs.Table as model;
-ghost use Rattle.asm_model.specs.Operands.{mark_of as mark_of_lem, fits as fits_lem};
-ghost use Rattle.asm_model.specs.Instructions.{entry_of as entry_of_lem};
+ghost use Rattle.asm_model.specs.Operands.{mark_of as mark_of_model, fits as fits_model};
+ghost use Rattle.asm_model.specs.Instructions.{entry_of as entry_of_model};
 ghost use Rattle.asm_model.proofs.EntryOf.{Matches, NoneOn};
 ghost use Rattle.asm_text.specs.Views.{entry_found};
 ghost use Rattle.cpu_model.specs.declared.rows.Row.{Row};
@@ -23,7 +23,7 @@ pub(crate) struct Found {
 
 /// The mark at the front of an operand.
 pub(crate) fn mark_of(text: &[u8]) -> Mark
-    ensures { result ≡ mark_of_lem text.now }
+    ensures { result ≡ mark_of_model text.now }
 {
     match text {
         [] => Mark::Address,
@@ -43,7 +43,7 @@ pub(crate) fn mark_of(text: &[u8]) -> Mark
 
 // May an operand with this mark be of the row?
 fn fits(row: Row, mark: Mark) -> bool
-    ensures { result ≡ fits_lem row mark }
+    ensures { result ≡ fits_model row mark }
 {
     match (row.0, row.1) {
         (Operation::Psh(_) | Operation::Pul(_), _) => true,
@@ -86,7 +86,7 @@ fn entry_on(page: Page, word: &[u8], mark: Mark) -> Option<Found>
 
 /// The row that has this word and may have an operand with this mark.
 pub(crate) fn entry_of(word: &[u8], mark: Mark) -> Option<Found>
-    ensures { option_map entry_found result ≡ entry_of_lem word.now mark }
+    ensures { option_map entry_found result ≡ entry_of_model word.now mark }
 {
     if let Some(found) = entry_on(Page::Base, word, mark) {
         return Some(found);

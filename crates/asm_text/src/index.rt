@@ -1,9 +1,9 @@
 ghost use Rattle.std.specs.Prelude.{◌≡◌, ◌+◌, ◌*◌, ◌<◌, ◌≤◌, ◌&&◌, option_map, true, false};
-ghost use Rattle.asm_model.specs.Operands.{bare_post as bare_post_lem, indexed_operand as indexed_operand_lem, indirect_bit as indirect_bit_lem, inside as inside_lem, marked as marked_lem, modulo, numbered as numbered_lem, offset_from as offset_from_lem, size_of_value as size_of_value_lem, sized_offset as sized_offset_lem, target_operand as target_operand_lem, offset_among as offset_among_lem};
+ghost use Rattle.asm_model.specs.Operands.{bare_post as bare_post_model, indexed_operand as indexed_operand_model, indirect_bit as indirect_bit_model, inside as inside_model, marked as marked_model, modulo, numbered as numbered_model, offset_from as offset_from_model, size_of_value as size_of_value_model, sized_offset as sized_offset_model, target_operand as target_operand_model, offset_among as offset_among_model};
 ghost use Rattle.std.specs.List.{slice_split};
 ghost use Rattle.asm_model.specs.Characters.{is_comma};
 ghost use Rattle.asm_text.specs.Views.{operand_of};
-ghost use Rattle.asm_text.specs.Offsets.{offset_as, offset_size as offset_size_lem};
+ghost use Rattle.asm_text.specs.Offsets.{offset_as, offset_size as offset_size_model};
 
 use crate::cuts::{before_bracket, has_comma, two_parts};
 use crate::operand::{Operand, plain_operand, valued};
@@ -29,7 +29,7 @@ const ABSOLUTE: u8 = 0x9F;
 
 // The postbyte whose operand is this text without a number.
 fn bare_post(text: &[u8]) -> Option<u8>
-    ensures { result ≡ bare_post_lem text.now }
+    ensures { result ≡ bare_post_model text.now }
 {
     for post in 128..256u16 {
         if is_bare_operand(post as u8, text) {
@@ -41,7 +41,7 @@ fn bare_post(text: &[u8]) -> Option<u8>
 
 // Bit 4 of an indirect operand.
 fn indirect_bit(indirect: bool) -> u8
-    ensures bit { result ≡ indirect_bit_lem indirect }
+    ensures bit { result ≡ indirect_bit_model indirect }
     ensures small { result ≤ 16 }
 {
     if indirect { 16 } else { 0 }
@@ -49,7 +49,7 @@ fn indirect_bit(indirect: bool) -> u8
 
 // The size of an offset, by its value if its expression is one number.
 fn size_of_value(indirect: bool, value: Option<i32>) -> Size
-    ensures { result ≡ size_of_value_lem indirect value }
+    ensures { result ≡ size_of_value_model indirect value }
 {
     match value {
         None => Size::Sixteen,
@@ -74,7 +74,7 @@ struct Offset<'a> {
 
 // The mark and the expression of an offset.
 fn marked(text: &[u8]) -> Offset<'_>
-    ensures { offset_as result ≡ marked_lem text.now }
+    ensures { offset_as result ≡ marked_model text.now }
 {
     match text {
         [b'<', rest @ ..] => Offset {
@@ -104,7 +104,7 @@ fn five_bits(value: i32) -> u8
 fn sized_offset(size: Size, indirect: bool, register: u8, text: &[u8]) -> Option<Operand<'_>>
     requires { register < 4 }
     ensures { option_map operand_of result
-        ≡ sized_offset_lem size indirect register text.now }
+        ≡ sized_offset_model size indirect register text.now }
 {
     let from_register = 32 * register + indirect_bit(indirect);
     match size {
@@ -119,7 +119,7 @@ fn sized_offset(size: Size, indirect: bool, register: u8, text: &[u8]) -> Option
 
 // The size of an offset from an index register.
 fn offset_size(offset: Offset<'_>, indirect: bool) -> Size
-    ensures { result ≡ offset_size_lem offset.entry.width indirect offset.entry.expression.now }
+    ensures { result ≡ offset_size_model offset.entry.width indirect offset.entry.expression.now }
 {
     match offset.width {
         Width::Narrow => Size::Eight,
@@ -131,7 +131,7 @@ fn offset_size(offset: Offset<'_>, indirect: bool) -> Size
 // A target, by its offset from PC.
 fn target_operand<'a>(offset: Offset<'a>, indirect: bool) -> Option<Operand<'a>>
     ensures { option_map operand_of result
-        ≡ target_operand_lem offset.entry.width indirect offset.entry.expression.now }
+        ≡ target_operand_model offset.entry.width indirect offset.entry.expression.now }
 {
     let bit = indirect_bit(indirect);
     match offset.width {
@@ -143,7 +143,7 @@ fn target_operand<'a>(offset: Offset<'a>, indirect: bool) -> Option<Operand<'a>>
 // An offset from PC or from an index register.
 fn offset_from<'a>(indirect: bool, offset: Offset<'a>, base: &[u8]) -> Option<Operand<'a>>
     ensures { option_map operand_of result
-        ≡ offset_from_lem indirect (offset_as offset.entry) base.now }
+        ≡ offset_from_model indirect (offset_as offset.entry) base.now }
 {
     if is_same_word(b"PCR", base) {
         return target_operand(offset, indirect);
@@ -160,7 +160,7 @@ fn offset_from<'a>(indirect: bool, offset: Offset<'a>, base: &[u8]) -> Option<Op
 // An offset and a base, separated by a comma.
 fn offset_among(indirect: bool, text: &[u8]) -> Option<Operand<'_>>
     ensures { option_map operand_of result
-        ≡ offset_among_lem indirect (slice_split is_comma text.now) }
+        ≡ offset_among_model indirect (slice_split is_comma text.now) }
 {
     let parts = two_parts(text)?;
     offset_from(indirect, marked(parts.first), parts.rest)
@@ -168,7 +168,7 @@ fn offset_among(indirect: bool, text: &[u8]) -> Option<Operand<'_>>
 
 // The operand whose text is between brackets.
 fn inside(text: &[u8]) -> Option<Operand<'_>>
-    ensures { option_map operand_of result ≡ inside_lem text.now }
+    ensures { option_map operand_of result ≡ inside_model text.now }
 {
     if has_comma(text) {
         offset_among(true, text)
@@ -179,7 +179,7 @@ fn inside(text: &[u8]) -> Option<Operand<'_>>
 
 // An indexed operand with an offset, or extended indirect.
 fn numbered(text: &[u8]) -> Option<Operand<'_>>
-    ensures { option_map operand_of result ≡ numbered_lem text.now }
+    ensures { option_map operand_of result ≡ numbered_model text.now }
 {
     match text {
         [] => None,
@@ -190,7 +190,7 @@ fn numbered(text: &[u8]) -> Option<Operand<'_>>
 
 /// The operand of indexed addressing.
 pub(crate) fn indexed_operand(text: &[u8]) -> Option<Operand<'_>>
-    ensures { option_map operand_of result ≡ indexed_operand_lem text.now }
+    ensures { option_map operand_of result ≡ indexed_operand_model text.now }
 {
     match bare_post(text) {
         Some(post) => Some(plain_operand(Some(post), Wanted::Nothing)),

@@ -3,7 +3,8 @@ ghost use Rattle.std.specs.List.{list_all};
 ghost use Rattle.cpu_model.specs.declared.instruction.Instr.{Instr as InstrOf};
 ghost use Rattle.cpu_table.specs.Spelling.{IsPlain};
 ghost use Rattle.asm_model.specs.Characters.{is_line_byte};
-ghost use Rattle.asm_model.specs.Instructions.{instr_of, operand_text as operand_text_lem, shape_instr as shape_instr_lem, worded_instr as worded_instr_lem};
+ghost use Rattle.asm_model.specs.Instructions as model;
+ghost use Rattle.asm_model.specs.Instructions.{instr_of};
 ghost use Rattle.asm_model.specs.Laws.{HasBytes};
 ghost use Rattle.asm_model.specs.Print.{printed};
 ghost use Rattle.asm_text.specs.Views.{shape_as};
@@ -23,14 +24,14 @@ fn are_line_bytes(line: &[u8]) -> bool
 
 // The operand: it follows the word and spaces, and ends before the next space.
 fn operand_text(line: &[u8]) -> &[u8]
-    ensures { result.now ≡ operand_text_lem line.now }
+    ensures { result.now ≡ model.operand_text line.now }
 {
     first_word(without_spaces(behind_word(line)))
 }
 
 // The instruction at an offset, with numbers alone in its expression.
 fn shape_instr(at: u16, shape: &Shape<'_>) -> Option<Instr>
-    ensures { result ≡ shape_instr_lem at (shape_as shape.now) }
+    ensures { result ≡ model.shape_instr at (shape_as shape.now) }
 {
     let next = u128::from(at) + u128::from(shape_length(shape));
     let operand = shape.operand;
@@ -45,7 +46,7 @@ fn shape_instr(at: u16, shape: &Shape<'_>) -> Option<Instr>
 
 // The instruction of a line's word and operand.
 fn worded_instr(line: &[u8], at: u16) -> Option<Instr>
-    ensures { result ≡ worded_instr_lem line.now at }
+    ensures { result ≡ model.worded_instr line.now at }
 {
     let shape = shape_of(first_word(line), operand_text(line))?;
     shape_instr(at, &shape)

@@ -1,6 +1,6 @@
 ghost use Rattle.std.specs.Prelude.{◌≡◌, option_map, []};
-ghost use Rattle.asm_model.specs.Operands.{valued as valued_lem, immediate_operand as immediate_operand_lem, mask_operand as mask_operand_lem, immediate8 as immediate8_lem, direct_operand as direct_operand_lem, address_operand as address_operand_lem, row_operand as row_operand_lem};
-ghost use Rattle.asm_text.specs.Views.{operand_of, pair_operand as pair_operand_lem};
+ghost use Rattle.asm_model.specs.Operands.{valued as valued_model, immediate_operand as immediate_operand_model, mask_operand as mask_operand_model, immediate8 as immediate8_model, direct_operand as direct_operand_model, address_operand as address_operand_model, row_operand as row_operand_model};
+ghost use Rattle.asm_text.specs.Views.{operand_of, pair_operand as pair_operand_model};
 
 use crate::index::indexed_operand;
 use crate::register::{register_mask, register_pair};
@@ -34,7 +34,7 @@ pub(crate) fn plain_operand(post: Option<u8>, wanted: Wanted) -> Operand<'static
 
 /// The operand with the value of this text, if the text is an expression.
 pub(crate) fn valued(post: Option<u8>, field: Field, text: &[u8]) -> Option<Operand<'_>>
-    ensures { option_map operand_of result ≡ valued_lem post field text.now }
+    ensures { option_map operand_of result ≡ valued_model post field text.now }
 {
     if is_expression(text) {
         Some(Operand {
@@ -49,7 +49,7 @@ pub(crate) fn valued(post: Option<u8>, field: Field, text: &[u8]) -> Option<Oper
 
 // `#` and an expression.
 fn immediate_operand(field: Field, text: &[u8]) -> Option<Operand<'_>>
-    ensures { option_map operand_of result ≡ immediate_operand_lem field text.now }
+    ensures { option_map operand_of result ≡ immediate_operand_model field text.now }
 {
     match text {
         [b'#', rest @ ..] => valued(None, field, rest),
@@ -59,7 +59,7 @@ fn immediate_operand(field: Field, text: &[u8]) -> Option<Operand<'_>>
 
 // The operand of a push or pull: registers, or `#` and the whole mask.
 fn mask_operand(stack: Stack, text: &[u8]) -> Option<Operand<'_>>
-    ensures { option_map operand_of result ≡ mask_operand_lem stack text.now }
+    ensures { option_map operand_of result ≡ mask_operand_model stack text.now }
 {
     match text {
         [] => None,
@@ -73,7 +73,7 @@ fn mask_operand(stack: Stack, text: &[u8]) -> Option<Operand<'_>>
 
 // The operand of a row with a byte after the opcode.
 fn immediate8(operation: Operation, text: &[u8]) -> Option<Operand<'_>>
-    ensures { option_map operand_of result ≡ immediate8_lem operation text.now }
+    ensures { option_map operand_of result ≡ immediate8_model operation text.now }
 {
     match operation {
         Operation::Psh(stack) | Operation::Pul(stack) => mask_operand(stack, text),
@@ -83,7 +83,7 @@ fn immediate8(operation: Operation, text: &[u8]) -> Option<Operand<'_>>
 
 // `<` and an expression.
 fn direct_operand(text: &[u8]) -> Option<Operand<'_>>
-    ensures { option_map operand_of result ≡ direct_operand_lem text.now }
+    ensures { option_map operand_of result ≡ direct_operand_model text.now }
 {
     match text {
         [b'<', rest @ ..] => valued(None, Field::Direct, rest),
@@ -93,7 +93,7 @@ fn direct_operand(text: &[u8]) -> Option<Operand<'_>>
 
 // An expression, with or without `>`.
 fn address_operand(text: &[u8]) -> Option<Operand<'_>>
-    ensures { option_map operand_of result ≡ address_operand_lem text.now }
+    ensures { option_map operand_of result ≡ address_operand_model text.now }
 {
     match text {
         [] => None,
@@ -104,7 +104,7 @@ fn address_operand(text: &[u8]) -> Option<Operand<'_>>
 
 // Two registers of one size.
 fn pair_operand(text: &[u8]) -> Option<Operand<'_>>
-    ensures { option_map operand_of result ≡ pair_operand_lem text.now }
+    ensures { option_map operand_of result ≡ pair_operand_model text.now }
 {
     let pair = register_pair(text)?;
     Some(plain_operand(None, Wanted::Fixed(pair)))
@@ -113,7 +113,7 @@ fn pair_operand(text: &[u8]) -> Option<Operand<'_>>
 /// The operand of a row of the opcode map, if the text is one.
 #[tactic(auto, unfolding(asm_model::specs::Operands::row_operand))]
 pub(crate) fn row_operand(row: Row, text: &[u8]) -> Option<Operand<'_>>
-    ensures { option_map operand_of result ≡ row_operand_lem row text.now }
+    ensures { option_map operand_of result ≡ row_operand_model row text.now }
 {
     match row.1 {
         Mode::Inherent => Some(plain_operand(None, Wanted::Nothing)),

@@ -1,7 +1,7 @@
 ghost use Rattle.std.specs.Prelude.{◌≡◌, ◌<◌, IfSome};
 ghost use Rattle.cpu_model.specs.Registers.{other_pointer};
-ghost use Rattle.cpu_model.specs.Table.{is_byte_code as is_byte_code_lem, is_pair as is_pair_lem, is_word_code as is_word_code_lem};
-ghost use Rattle.asm_model.specs.Operands.{index_number as index_number_lem, mask_weight as mask_weight_lem, register_code as register_code_lem, register_mask as register_mask_lem, register_pair as register_pair_lem};
+ghost use Rattle.cpu_model.specs.Table.{is_byte_code as is_byte_code_model, is_pair as is_pair_model, is_word_code as is_word_code_model};
+ghost use Rattle.asm_model.specs.Operands.{index_number as index_number_model, mask_weight as mask_weight_model, register_code as register_code_model, register_mask as register_mask_model, register_pair as register_pair_model};
 ghost use Rattle.asm_model.specs.Print.{mask_registers, register_word};
 
 use crate::cuts::two_parts;
@@ -10,7 +10,7 @@ use cpu_model::rows::Stack;
 
 /// The number of an index register in its postbytes.
 pub(crate) fn index_number(name: &[u8]) -> Option<u8>
-    ensures number { result ≡ index_number_lem name.now }
+    ensures number { result ≡ index_number_model name.now }
     ensures below { IfSome result (λ n. n < 4) }
 {
     if is_same_word(b"X", name) {
@@ -38,7 +38,7 @@ fn other_pointer_name(stack: Stack) -> &'static [u8]
 
 // The bit of a register in a push mask.
 fn mask_weight(stack: Stack, name: &[u8]) -> Option<u8>
-    ensures { result ≡ mask_weight_lem (mask_registers stack) 1 name.now }
+    ensures { result ≡ mask_weight_model (mask_registers stack) 1 name.now }
 {
     if is_same_word(b"CC", name) {
         Some(0x01)
@@ -63,7 +63,7 @@ fn mask_weight(stack: Stack, name: &[u8]) -> Option<u8>
 
 /// The mask of registers whose names are separated by commas.
 pub(crate) fn register_mask(stack: Stack, text: &[u8]) -> Option<u8>
-    ensures { result ≡ register_mask_lem stack text.now }
+    ensures { result ≡ register_mask_model stack text.now }
 {
     let mut mask = 0;
     for name in text.split(|c| *c == b',') {
@@ -74,7 +74,7 @@ pub(crate) fn register_mask(stack: Stack, text: &[u8]) -> Option<u8>
 
 // The code of a register in EXG and TFR.
 fn register_code(name: &[u8]) -> Option<u8>
-    ensures code { result ≡ register_code_lem name.now }
+    ensures code { result ≡ register_code_model name.now }
     ensures below { IfSome result (λ code. code < 16) }
 {
     if is_same_word(b"D", name) {
@@ -104,21 +104,21 @@ fn register_code(name: &[u8]) -> Option<u8>
 
 // Is it the code of a register of sixteen bits?
 fn is_word_code(code: u8) -> bool
-    ensures { result ≡ is_word_code_lem code }
+    ensures { result ≡ is_word_code_model code }
 {
     code <= 5
 }
 
 // Is it the code of a register of eight bits?
 fn is_byte_code(code: u8) -> bool
-    ensures { result ≡ is_byte_code_lem code }
+    ensures { result ≡ is_byte_code_model code }
 {
     8 <= code && code <= 11
 }
 
 // Do both halves of a postbyte name registers of one size?
 fn is_pair(pair: u8) -> bool
-    ensures { result ≡ is_pair_lem pair }
+    ensures { result ≡ is_pair_model pair }
 {
     (is_word_code(pair / 16) && is_word_code(pair % 16))
         || (is_byte_code(pair / 16) && is_byte_code(pair % 16))
@@ -126,7 +126,7 @@ fn is_pair(pair: u8) -> bool
 
 /// The postbyte of a source and a destination of one size, their names separated by a comma.
 pub(crate) fn register_pair(text: &[u8]) -> Option<u8>
-    ensures { result ≡ register_pair_lem text.now }
+    ensures { result ≡ register_pair_model text.now }
 {
     let parts = two_parts(text)?;
     let source = register_code(parts.first)?;

@@ -1,6 +1,6 @@
 ghost use Rattle.std.specs.Prelude.{◌≡◌, ◌≤◌, length, option_map};
 ghost use Rattle.cpu_table.specs.Spelling.{prefix};
-ghost use Rattle.asm_model.specs.Instructions.{shape_of as shape_of_lem, shape_length as shape_length_lem, field_length as field_length_lem, wanted_length as wanted_length_lem, post_length as post_length_lem};
+ghost use Rattle.asm_model.specs.Instructions as model;
 ghost use Rattle.asm_text.specs.Views.{shape_as};
 
 use crate::entry::{entry_of, mark_of};
@@ -23,7 +23,7 @@ pub struct Shape<'a> {
 /// with the word, in any case of letters, and a mode with such an operand (programming manual,
 /// appendix A).
 pub fn shape_of<'a>(word: &[u8], text: &'a [u8]) -> Option<Shape<'a>>
-    ensures { option_map shape_as result ≡ shape_of_lem word.now text.now }
+    ensures { option_map shape_as result ≡ model.shape_of word.now text.now }
 {
     let found = entry_of(word, mark_of(text))?;
     let operand = row_operand(found.row, text)?;
@@ -36,7 +36,7 @@ pub fn shape_of<'a>(word: &[u8], text: &'a [u8]) -> Option<Shape<'a>>
 
 // The number of bytes of a field's value.
 fn field_length(field: Field) -> u8
-    ensures length { result ≡ field_length_lem field }
+    ensures length { result ≡ model.field_length field }
     ensures most { result ≤ 2 }
 {
     match field {
@@ -47,7 +47,7 @@ fn field_length(field: Field) -> u8
 
 // The number of bytes that follow the opcode and the postbyte.
 fn wanted_length(wanted: Wanted) -> u8
-    ensures length { result ≡ wanted_length_lem wanted }
+    ensures length { result ≡ model.wanted_length wanted }
     ensures most { result ≤ 2 }
 {
     match wanted {
@@ -70,7 +70,7 @@ fn prefix_length(page: Page) -> u8
 
 // The number of bytes of a postbyte.
 fn post_length(post: Option<u8>) -> u8
-    ensures length { result ≡ post_length_lem post }
+    ensures length { result ≡ model.post_length post }
     ensures most { result ≤ 1 }
 {
     match post {
@@ -81,7 +81,7 @@ fn post_length(post: Option<u8>) -> u8
 
 /// The number of bytes of an instruction, at most 5. It does not depend on the expression's value.
 pub fn shape_length(shape: &Shape<'_>) -> u8
-    ensures length { result ≡ shape_length_lem (shape_as shape.now) }
+    ensures length { result ≡ model.shape_length (shape_as shape.now) }
     ensures most { result ≤ 5 }
 {
     let operand = shape.operand;

@@ -1,6 +1,6 @@
 ghost use Rattle.std.specs.Prelude.{◌≡◌, ◌<◌, ◌%◌};
-ghost use Rattle.cpu_model.specs.Flags.{signed16 as signed16_lem};
-ghost use Rattle.asm_model.specs.Operands.{modulo, if_between as if_between_lem, distance as distance_lem, filled as filled_lem};
+ghost use Rattle.cpu_model.specs.Flags.{signed16 as signed16_model};
+ghost use Rattle.asm_model.specs.Operands.{modulo, if_between as if_between_model, distance as distance_model, filled as filled_model};
 ghost use Rattle.asm_text.specs.Tails.{tail_by};
 
 use asm_model::operand::{Field, Wanted};
@@ -23,7 +23,7 @@ pub fn low_word(value: i128) -> u16
 
 // The operand bytes, if a value is in a range.
 fn if_between(least: i128, most: i128, value: i128, tail: Tail) -> Option<Tail>
-    ensures { result ≡ if_between_lem least most value tail }
+    ensures { result ≡ if_between_model least most value tail }
 {
     if least <= value && value <= most {
         Some(tail)
@@ -34,7 +34,7 @@ fn if_between(least: i128, most: i128, value: i128, tail: Tail) -> Option<Tail>
 
 // The distance of a target from the next instruction, modulo 65,536.
 fn distance(next: u128, value: i128) -> u16
-    ensures { result ≡ distance_lem next value }
+    ensures { result ≡ distance_model next value }
 {
     let from = (next % 65536) as u32;
     ((u32::from(low_word(value)) + 65536 - from) % 65536) as u16
@@ -42,7 +42,7 @@ fn distance(next: u128, value: i128) -> u16
 
 // A word as a number with a sign.
 fn signed16(n: u16) -> i128
-    ensures { result ≡ signed16_lem n }
+    ensures { result ≡ signed16_model n }
 {
     if n < 32_768 {
         i128::from(n)
@@ -59,7 +59,7 @@ fn signed16(n: u16) -> i128
 ///
 /// A target's distance is counted from the next instruction.
 pub fn filled(field: Field, next: u128, value: i128) -> Option<Tail>
-    ensures { result ≡ filled_lem field next value }
+    ensures { result ≡ filled_model field next value }
 {
     match field {
         Field::Byte => if_between(-128, 255, value, Tail::Byte(low_byte(value))),

@@ -5,8 +5,8 @@ ghost use Rattle.rbf_model.specs.Fields.{attributes_field, owner_field, modified
 ghost use Rattle.rbf_change.specs.Calls.{minute_of, day_of};
 ghost use Rattle.rbf_change.specs.Contents.{extended};
 ghost use Rattle.rbf_change.specs.Names.{new_listing};
-ghost use Rattle.tool_rules.specs.Blank.{blank_ident, blank_sizes, blank_root as blank_root_lem, map_bytes_for as map_bytes_for_lem};
-ghost use Rattle.blank_disk.specs.Image.{IsDiskSize, marks_map, marks_byte as marks_byte_lem, used_clusters as used_clusters_lem};
+ghost use Rattle.tool_rules.specs.Blank.{blank_ident, blank_sizes, blank_root as blank_root_model, map_bytes_for as map_bytes_for_model};
+ghost use Rattle.blank_disk.specs.Image.{IsDiskSize, marks_map, marks_byte as marks_byte_model, used_clusters as used_clusters_model};
 
 use os9_base::registers::TimePacket;
 use rbf_sector::{Fd, write_fd};
@@ -19,7 +19,7 @@ const FIRST_BITS: [u8; 9] = [0x00, 0x80, 0xc0, 0xe0, 0xf0, 0xf8, 0xfc, 0xfe, 0xf
 /// The number of bytes that hold a bit for each cluster.
 pub fn map_bytes_for(sectors: u32, cluster: u16) -> u16
     requires { IsDiskSize sectors cluster }
-    ensures { result ≡ map_bytes_for_lem sectors cluster }
+    ensures { result ≡ map_bytes_for_model sectors cluster }
 {
     let k = u32::from(cluster);
     (((sectors + (k - 1)) / k + 7) / 8) as u16
@@ -28,7 +28,7 @@ pub fn map_bytes_for(sectors: u32, cluster: u16) -> u16
 /// The sector of the root's descriptor.
 pub fn blank_root(sectors: u32, cluster: u16) -> u32
     requires { IsDiskSize sectors cluster }
-    ensures { result ≡ blank_root_lem sectors cluster }
+    ensures { result ≡ blank_root_model sectors cluster }
 {
     1 + (u32::from(map_bytes_for(sectors, cluster)) + 255) / 256
 }
@@ -36,7 +36,7 @@ pub fn blank_root(sectors: u32, cluster: u16) -> u32
 /// The number of clusters in use.
 pub fn used_clusters(sectors: u32, cluster: u16) -> u32
     requires { IsDiskSize sectors cluster }
-    ensures { result ≡ used_clusters_lem sectors cluster }
+    ensures { result ≡ used_clusters_model sectors cluster }
 {
     let k = u32::from(cluster);
     (blank_root(sectors, cluster) + 2 + (k - 1)) / k
@@ -150,7 +150,7 @@ pub fn push_map(image: &mut Vec<u8>, marked: u32, bytes: u32) -> Result<(), Allo
 /// A byte of such a map.
 fn marks_byte(marked: u32, i: u32) -> u8
     requires { i < 65536 }
-    ensures { result ≡ marks_byte_lem marked i }
+    ensures { result ≡ marks_byte_model marked i }
 {
     FIRST_BITS[marked.saturating_sub(8 * i).min(8) as usize]
 }

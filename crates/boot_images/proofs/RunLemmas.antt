@@ -158,7 +158,7 @@ module _ (setup : Setup) (before ran : World) (new : List (List ℕ)) (drives : 
           done = it.done;
           lacks = it.lacks;
           drives = holds-again (record t { files = it.done })
-              (λ drive is. (path-keeps call t.inner t.files now p it.lacks.result it.done t.terms _
+              (λ drive is. (path-keeps call t.processes t.files now p it.lacks.result it.done t.terms _
               it.lacks.attempts).none drive (none drive is)) it.drives;
         })
 

@@ -60,7 +60,7 @@ pub record EndsWithImages (setup : Setup) (lives : Bool) (begun : ℕ) (images :
   pub written : List ℕ
   pub outcome : HasOutcome setup t written images before after
   pub living : has_living t ≡ lives
-  pub ticks : begun ≡ t.inner.tick
+  pub ticks : begun ≡ t.processes.tick
   pub recorded : history ≡ t.files.records.history
   pub output : after.out ≡ stream_with before.out written
 

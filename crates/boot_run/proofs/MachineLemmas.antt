@@ -184,7 +184,7 @@ module _ (setup : Setup) (kernel : Kernel) (before : World) (started later : Out
   tied : Represents kernel later begun
   unfolding begun was
   tied = record {
-    inner = begins.2.inner;
+    processes = begins.2.processes;
     files = subst (λ (views : List DriveView). StandsFor kernel.files views was.files) (sym drives) begins.2.files;
     is = λ i. record (begins.2.is i) { terms = later.terms };
     run = start-open (boot_with setup (drive_states started.drives) later.terms) begun starts (omega (arith, count, unloaded.some)) (omega (arith, count, unloaded.few)) civil;
@@ -227,7 +227,7 @@ module _ (setup : Setup) (kernel : Kernel) (before : World) (started later : Out
   runs-whole : {Value : Type 0} (value : Value) (new : Kernel) (after : World) (lives : Bool) (begun_slices : ℕ)
       → RunsSlices setup.slices kernel new (Ok value) (with_devices before later) after
       → ((t : State) → Represents new after.devices t → has_living t ≡ lives)
-      → ((t : State) → Represents new after.devices t → begun_slices ≡ t.inner.tick) → (history : List Entry)
+      → ((t : State) → Represents new after.devices t → begun_slices ≡ t.processes.tick) → (history : List Entry)
       → ((t : State) → Represents new after.devices t → history ≡ t.files.records.history)
       → All IsObserved before.devices.terms → RunsWhole setup lives begun_slices history before after
   runs-whole value new after lives begun_slices ran living counted history entered told =
@@ -244,7 +244,7 @@ module _ (setup : Setup) (kernel : Kernel) (before : World) (started later : Out
 
   ran-ended : {Value : Type 0} (value : Value) (new : Kernel) (after : World) (ticks : ℕ) → RunsSlices setup.slices
       kernel new (Ok value) (with_devices before later) after → ((t : State) → Represents new after.devices t
-      → living_count t.inner ≡ 0) → ((t : State) → Represents new after.devices t → ticks ≡ t.inner.tick)
+      → living_count t.processes ≡ 0) → ((t : State) → Represents new after.devices t → ticks ≡ t.processes.tick)
       → (history : List Entry) → ((t : State) → Represents new after.devices t → history ≡ t.files.records.history)
       → MachineCall setup history before after (Ended ticks)
   ran-ended value new after ticks ran none counted history entered = record {
@@ -258,7 +258,7 @@ module _ (setup : Setup) (kernel : Kernel) (before : World) (started later : Out
 
   ran-living : {Value : Type 0} (value : Value) (new : Kernel) (after : World) (ticks : ℕ) → RunsSlices setup.slices
       kernel new (Ok value) (with_devices before later) after → ((t : State) → Represents new after.devices t
-      → living_count t.inner ≢ 0) → ((t : State) → Represents new after.devices t → ticks ≡ t.inner.tick)
+      → living_count t.processes ≢ 0) → ((t : State) → Represents new after.devices t → ticks ≡ t.processes.tick)
       → (history : List Entry) → ((t : State) → Represents new after.devices t → history ≡ t.files.records.history)
       → MachineCall setup history before after (Living ticks)
   ran-living value new after ticks ran some counted history entered = record {
@@ -273,8 +273,8 @@ module _ (setup : Setup) (kernel : Kernel) (before : World) (started later : Out
   -- to their end
   pub called-whole : {Value : Type 0} (value : Value) (new : Kernel) (after : World) (living ticks : ℕ) (end : RunEnd)
       → RunsSlices setup.slices kernel new (Ok value) (with_devices before later) after
-      → ((t : State) → Represents new after.devices t → living ≡ living_count t.inner)
-      → ((t : State) → Represents new after.devices t → ticks ≡ t.inner.tick) → (living ≡ 0 → end ≡ Ended ticks)
+      → ((t : State) → Represents new after.devices t → living ≡ living_count t.processes)
+      → ((t : State) → Represents new after.devices t → ticks ≡ t.processes.tick) → (living ≡ 0 → end ≡ Ended ticks)
       → (living ≢ 0 → end ≡ Living ticks) → (history : List Entry)
       → ((t : State) → Represents new after.devices t → history ≡ t.files.records.history)
       → MachineCall setup history before after end

@@ -68,11 +68,11 @@ stands-emptied n old new before mid now end (s, tied) more slice drives terms =
 
 -- ---- whether one lives
 
-pub none-living : (s : State) → living_count s.inner ≡ 0 → has_living s ≡ false
+pub none-living : (s : State) → living_count s.processes ≡ 0 → has_living s ≡ false
 none-living s none = rw none refl
 
-pub some-living : (s : State) → living_count s.inner ≢ 0 → has_living s ≡ true
-some-living s some = ap not (ne_eqb (living_count s.inner) 0 some)
+pub some-living : (s : State) → living_count s.processes ≢ 0 → has_living s ≡ true
+some-living s some = ap not (ne_eqb (living_count s.processes) 0 some)
 
 -- ---- runs in pieces
 
@@ -142,7 +142,7 @@ reaches-none slices first s kernel devices told tied =
 
 -- where some process lives
 abbrev pub SomeLives : Kernel → Outside → Type 0
-SomeLives kernel devices = (m : State) → Represents kernel devices m → living_count m.inner ≢ 0
+SomeLives kernel devices = (m : State) → Represents kernel devices m → living_count m.processes ≢ 0
 
 -- and a slice was run
 abbrev pub RunsSlice : ℕ → Kernel → Outside → SliceEnd → Kernel → Outside → Type 0
@@ -214,7 +214,7 @@ HasRun start first slices s kernel devices out =
     devices t × (out ≡ stream_with first written) × KeepsImages (ComesInto slices s) states start devices.drives
 
 pub reaches-idle : (start : List DriveView) (first out : Option (List ℕ)) (slices ran rest : List ℕ) (s : State) (kernel : Kernel) (devices : Outside) → ran ++ rest ≡ slices
-    → Reaches start slices first ran s kernel devices out → ((m : State) → Represents kernel devices m → living_count m.inner ≡ 0) → HasRun start first slices s kernel devices out
+    → Reaches start slices first ran s kernel devices out → ((m : State) → Represents kernel devices m → living_count m.processes ≡ 0) → HasRun start first slices s kernel devices out
 reaches-idle start first out slices ran rest s kernel devices all (m, states, written, told, tied, is, so_far, images) none =
     let ended : Run (ran ++ rest) s (states ++ []) (written ++ []) m = run-append ran rest s m m states [] written [] so_far (run-idle rest m (none-living m (none m tied))) in
     (states, written, m, rw (all, append-nil states, append-nil written) at ended, tied, is, images)

@@ -98,7 +98,7 @@ pub record RunsWhole (setup : Setup) (lives : Bool) (begun : ℕ) (history : Lis
     pub starts : StartsLoaded setup before s
     pub runs : RunsTo setup s t before after
     pub living : has_living t ≡ lives
-    pub ticks : begun ≡ t.inner.tick
+    pub ticks : begun ≡ t.processes.tick
     pub recorded : history ≡ t.files.records.history
 
 -- the machine was started and run over the first of its slices

@@ -4,7 +4,7 @@ use Rattle.os9_base.specs.declared.call.CallEnd.{CallEnd}
 use Rattle.os9_base.specs.declared.call.CallEnd.TheVariants.{Done, Error, Wait, Ended, NoMemory}
 use Rattle.proc_rules.specs.declared.record.Record.{Record}
 use Rattle.proc_rules.specs.Records.{IsLiving}
-use Rattle.call_rules.specs.Inner.{Inner}
+use Rattle.call_rules.specs.Processes.{Processes}
 use Rattle.proc_state.specs.declared.state.ProcState.{ProcState}
 use Rattle.proc_state.specs.Tie.{Represents}
 use Rattle.proc_state.proofs.Entered.{represented}
@@ -27,5 +27,5 @@ ended_on (Error number) records p is = cc
 ended_on Wait records p is = cc
 
 -- all processes are those of some machine
-pub some_inner : (processes : ProcState) → (m : Inner) × Represents processes m
-some_inner processes = (_, record { memory = represented processes.memory; is = refl })
+pub some_processes : (processes : ProcState) → (m : Processes) × Represents processes m
+some_processes processes = (_, record { memory = represented processes.memory; is = refl })

@@ -1,7 +1,7 @@
 //! What the calls wait for.
 
 ghost use Rattle.std.specs.Prelude.{◌≡◌, IfSome};
-ghost use Rattle.call_dispatch.specs.Waits.{waits_for as waits_for_lem};
+ghost use Rattle.call_dispatch.specs.Waits as model;
 
 use call_rules::proc_call::ProcCall;
 use os9_sched::{Cause, Wait};
@@ -10,7 +10,7 @@ use proc_rules::own::Own;
 /// What a call waits for, if it is F$Wait or F$Sleep: the end of a child, or its tick or signal 1.
 /// No other call waits.
 pub fn waits_for(call: ProcCall, own: Own) -> Wait
-    ensures { IfSome (waits_for_lem call own) (λ wait. result ≡ wait) }
+    ensures { IfSome (model.waits_for call own) (λ wait. result ≡ wait) }
 {
     match call {
         ProcCall::Sleep => Wait {

@@ -33,7 +33,7 @@ use Rattle.call_rules.specs.CallResult.{CallResult, done, refused, waits, needs,
 use Rattle.call_rules.specs.CmpNam.{f_cmpnam, same_names}
 use Rattle.call_rules.specs.Crc.{f_crc, crc_continued}
 use Rattle.call_rules.specs.End.{ended, without_process}
-use Rattle.call_rules.specs.Inner.{Inner, no_own, own_at, regs_at, user_at, cells_at, with_memory, with_records, with_regs_of, with_own}
+use Rattle.call_rules.specs.Processes.{Processes, no_own, own_at, regs_at, user_at, cells_at, with_memory, with_records, with_regs_of, with_own}
 use Rattle.call_rules.specs.Link.{Mapped, f_link, mapped_group, links_at, after_link}
 use Rattle.call_rules.specs.Mem.{f_mem, sets_pages, resized, with_size, size_regs}
 use Rattle.call_rules.specs.ModuleLinks.{Entered, entered_at, found_entry, module_at, still_primary, without_module_link}
@@ -59,11 +59,11 @@ use Rattle.call_laws.proofs.ModulesKept.{linked-modules, HaveMore, more-all, mor
 use Rattle.call_laws.proofs.OthersKept.{Changed, changed-leaves, changed-self, changed-then, changed-goes_on, changed-waiting, record-same, record-other, own-same, own-still, own-other, named-record, woken-own, reaped-record, exit-other, exit-record, RecordLeft, turns-without}
 
 -- what an event leaves, and that no place for a record comes or goes
-pub record Left (m : Inner) (p : ℕ) (end : EventEnd) (n : Inner) : Type 0 where
+pub record Left (m : Processes) (p : ℕ) (end : EventEnd) (n : Processes) : Type 0 where
   pub leaves : LeavesOthers m p end n
   pub places : length n.records ≡ length m.records
 
-pub left-by : (m : Inner) (p : ℕ) (end : EventEnd) (n : Inner) → Changed m p end n → Left m p end n
+pub left-by : (m : Processes) (p : ℕ) (end : EventEnd) (n : Processes) → Changed m p end n → Left m p end n
 left-by m p end n changed = record { leaves = changed-leaves m p end n changed; places = changed.places }
 
 -- ---- what a process has, where a module leaves
@@ -75,7 +75,7 @@ still-at entries own q =
       | inr past ↦ get_or_past (map (still_primary entries) own) q no_own (rw length-map past) ∙ ap (still_primary entries) (sym (get_or_past own q no_own past))
     ]
 
-module _ (m : Inner) (p : ℕ) (end : EventEnd) where
+module _ (m : Processes) (p : ℕ) (end : EventEnd) where
   pub changed-same : Changed m p end m
   changed-same = record {
     memory = kept-same m.memory p p;
@@ -115,7 +115,7 @@ module _ (m : Inner) (p : ℕ) (end : EventEnd) where
 -- ---- the end of a process
 
 -- where the process has other records of its own
-module _ (m : Inner) (p status : ℕ) (records : List (Option Record)) (same : (q : ℕ) → q ≢ p → record_of records q ≡ record_of m.records q) (places : length records ≡ length m.records) where
+module _ (m : Processes) (p status : ℕ) (records : List (Option Record)) (same : (q : ℕ) → q ≢ p → record_of records q ≡ record_of m.records q) (places : length records ≡ length m.records) where
   exit-left : (q : ℕ) → q ≢ p → RecordLeft m p Ended q (record_of m.records q) (record_of (after_exit records p status) q)
   exit-left q differ =
       subst (RecordLeft m p Ended q (record_of m.records q))
@@ -174,23 +174,23 @@ module _ (m : Inner) (p status : ℕ) (records : List (Option Record)) (same : (
           (own-still m p Ended q (cleared (unlinked m.memory id.0) p) (own_at m q)))
           (inr (inr (inr (inr (loses (cleared (unlinked m.memory id.0) p) (Some id) at refl)))))
 
-pub ended-left : (m : Inner) (p status : ℕ) → Left m p Ended (ended m p status)
+pub ended-left : (m : Processes) (p status : ℕ) → Left m p Ended (ended m p status)
 ended-left m p status = ended-from m p status m.records (λ q differ. refl) refl
 
 -- ---- attempts
 
 -- what an attempt that comes to this leaves
-abbrev pub AttemptLeft : Inner → ℕ → CallResult → Type 0
+abbrev pub AttemptLeft : Processes → ℕ → CallResult → Type 0
 AttemptLeft m p result = Left m p (call_event_end result) (after_attempt m p result)
 
-module _ (m : Inner) (p : ℕ) where
-  pub left-done : (t : Inner) → Changed m p Ran t → AttemptLeft m p (done t)
+module _ (m : Processes) (p : ℕ) where
+  pub left-done : (t : Processes) → Changed m p Ran t → AttemptLeft m p (done t)
   left-done t changed = left-by m p Ran (goes_on t p (done_regs (regs_at t p))) (changed-goes_on m p Ran t (done_regs (regs_at t p)) changed)
 
   pub left-refused : (number : ℕ) → AttemptLeft m p (refused number)
   left-refused number = left-by m p Ran (goes_on m p (refused_regs (regs_at m p) number)) (changed-goes_on m p Ran m (refused_regs (regs_at m p) number) (changed-same m p Ran))
 
-  pub left-waits : (t : Inner) → Changed m p Waits t → AttemptLeft m p (waits t)
+  pub left-waits : (t : Processes) → Changed m p Waits t → AttemptLeft m p (waits t)
   left-waits t changed = left-by m p Waits _ (changed-waiting m p Waits t changed)
 
   pub of-needs : {A : Type 0} (some : Option A) (number : ℕ) (next : A → CallResult) → ((a : A) → some ≡ Some a → AttemptLeft m p (next a)) → AttemptLeft m p (needs some number next)

@@ -1,7 +1,7 @@
 -- What an attempt of a call on paths leaves of the other processes.
 use Rattle.std.proofs.Common.{ℕ, refl, inl}
 use Rattle.proc_model.specs.MemoryChanges.{stored, writes_from}
-use Rattle.call_rules.specs.Inner.{Inner}
+use Rattle.call_rules.specs.Processes.{Processes}
 use Rattle.io_rules.specs.Attempts.{result_by}
 use Rattle.io_rules.specs.Step.{IoEffect, IoEnd, answers, fails, keeps}
 use Rattle.event_rules.specs.declared.ends.EventEnd.TheVariants.{Ran, Waits}
@@ -10,7 +10,7 @@ use Rattle.call_laws.proofs.OthersKept.{changed-self}
 use Rattle.call_laws.proofs.CallsKept.{AttemptLeft, left-done, left-refused, left-waits, regs-changed}
 
 -- a call on paths: it stores bytes where the process sees them, and may change the registers
-pub by-end : (m : Inner) (p : ℕ) (effect : IoEffect) (end : IoEnd) → AttemptLeft m p (result_by end m p effect)
+pub by-end : (m : Processes) (p : ℕ) (effect : IoEffect) (end : IoEnd) → AttemptLeft m p (result_by end m p effect)
 by-end m p effect (answers regs) =
     left-done m p _ (regs-changed m p Ran (stored m.memory p effect.at effect.bytes) regs
     (record {

@@ -12,7 +12,7 @@ use Rattle.proc_rules.specs.Records.{record_of, record_at, is_waiting, with_regs
 use Rattle.proc_rules.specs.Signals.{with_signal}
 use Rattle.call_rules.specs.Attempts.{goes_on}
 use Rattle.call_rules.specs.Delivery.{delivered, after_delivery, has_no_room, interrupted_regs, frame_bytes, routine_begun, stack_top, with_frame}
-use Rattle.call_rules.specs.Inner.{Inner, regs_at, cells_at, with_records}
+use Rattle.call_rules.specs.Processes.{Processes, regs_at, cells_at, with_records}
 use Rattle.event_rules.specs.declared.ends.EventEnd.TheVariants.{Ran}
 use Rattle.event_rules.specs.Event.{after_instruction, broken_off, delivery_end, instruction_end, next_instruction}
 use Rattle.call_laws.proofs.MemoryKept.{itself-written, kept-written}
@@ -21,7 +21,7 @@ use Rattle.call_laws.proofs.CallsKept.{Left, left-by, ended-left, ended-from, re
 
 -- ---- an instruction
 
-pub instruction-left : (m : Inner) (p : ℕ) (outcome : Outcome) → Left m p (instruction_end outcome) (after_instruction m p outcome)
+pub instruction-left : (m : Processes) (p : ℕ) (outcome : Outcome) → Left m p (instruction_end outcome) (after_instruction m p outcome)
 instruction-left m p (Done effect) =
     left-by m p Ran _ (regs-changed m p Ran (written m.memory p effect.writes) effect.regs
     (record { kept = kept-written m.memory p effect.writes; itself = itself-written m.memory p effect.writes })
@@ -34,11 +34,11 @@ instruction-left m p (Aborts status) = ended-left m p status
 -- ---- the delivery of a signal
 
 -- where the process has other records of its own
-module _ (m : Inner) (p signal : ℕ) (records : List (Option Record)) (same : (q : ℕ) → q ≢ p → record_of records q ≡ record_of m.records q) (places : length records ≡ length m.records) where
-  abbrev found : Inner
+module _ (m : Processes) (p signal : ℕ) (records : List (Option Record)) (same : (q : ℕ) → q ≢ p → record_of records q ≡ record_of m.records q) (places : length records ≡ length m.records) where
+  abbrev found : Processes
   found = with_records m records
 
-  abbrev taken : Inner
+  abbrev taken : Processes
   taken = with_records found (with_signal records p None)
 
   frame-left : (intercept : Intercept) (regs interrupted : Regs) (frame : ℕ) (waits : Bool)
@@ -56,7 +56,7 @@ module _ (m : Inner) (p signal : ℕ) (records : List (Option Record)) (same : (
       (λ q differ. record-other _ p _ q differ ∙ record-other records p _ q differ ∙ same q differ)
       (λ q differ. refl) (simp length-set places))
 
-  abbrev DeliveryLeft : Result Inner ℕ → Type 0
+  abbrev DeliveryLeft : Result Processes ℕ → Type 0
   DeliveryLeft result = Left m p (delivery_end result) (after_delivery found p result)
 
   routine-left : (intercept : Intercept) → DeliveryLeft (routine_begun found p intercept signal)
@@ -73,7 +73,7 @@ module _ (m : Inner) (p signal : ℕ) (records : List (Option Record)) (same : (
   delivery-left : DeliveryLeft (delivered found p signal)
   delivery-left = by_intercept (record_at records p).intercept
     where
-      answer : Option Intercept → Result Inner ℕ
+      answer : Option Intercept → Result Processes ℕ
       answer None = Err signal
       answer (Some intercept) = if signal == 0 then Err signal else routine_begun found p intercept signal
 
@@ -86,7 +86,7 @@ module _ (m : Inner) (p signal : ℕ) (records : List (Option Record)) (same : (
       by_intercept (Some intercept) = by_zero intercept (signal == 0)
 
 -- the count of a call that is broken off is answered first
-pub broken-left : (m : Inner) (p signal : ℕ) (count : Option ℕ)
+pub broken-left : (m : Processes) (p signal : ℕ) (count : Option ℕ)
     → Left m p (delivery_end (delivered (broken_off m p count) p signal)) (after_delivery (broken_off m p count) p
     (delivered (broken_off m p count) p signal))
 broken-left m p signal None = delivery-left m p signal m.records (λ q differ. refl) refl
@@ -94,5 +94,5 @@ broken-left m p signal (Some count) =
     delivery-left m p signal (with_regs m.records p (record (regs_at m p) { y = count })) (λ q differ. record-other m.records p _ q differ) (simp length-set)
 
 -- an instruction depends on the registers and on the bytes that the process sees
-pub instruction-same : (m n : Inner) (p q : ℕ) → ((at : ℕ) → cells_at m p at ≡ cells_at n q at) → regs_at m p ≡ regs_at n q → next_instruction m p ≡ next_instruction n q
+pub instruction-same : (m n : Processes) (p q : ℕ) → ((at : ℕ) → cells_at m p at ≡ cells_at n q at) → regs_at m p ≡ regs_at n q → next_instruction m p ≡ next_instruction n q
 instruction-same m n p q cells regs = λ i. step_of (λ at. cells at i) (regs i)

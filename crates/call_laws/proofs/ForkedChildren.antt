@@ -10,20 +10,20 @@ use Rattle.proc_rules.specs.declared.record.Record.{Record}
 use Rattle.proc_rules.specs.Records.{IsLiving, after_make, free_process, new_record, record_at, with_record}
 use Rattle.call_rules.specs.CallResult.{CallResult, done, refused, waits, ends, needs, refuses, changes}
 use Rattle.call_rules.specs.Fork.{f_fork, forked_regs, with_child, with_child_record}
-use Rattle.call_rules.specs.Inner.{Inner, regs_at, cells_at, with_regs_of}
+use Rattle.call_rules.specs.Processes.{Processes, regs_at, cells_at, with_regs_of}
 use Rattle.call_rules.specs.ModuleLinks.{Entered, found_entry}
 use Rattle.call_rules.specs.Program.{Program, area_pages, asks_for_program, blocks_of_pages, most_pages, program_kind, is_unreadable, module_name, name_at_x, reads_program}
 use Rattle.call_rules.specs.UserBytes.{user_bytes}
 use Rattle.call_laws.proofs.OthersKept.{living-within, record-put}
 
 -- the result of F$Fork names the child
-abbrev pub NamesChild : Inner → ℕ → CallResult → Type 0
+abbrev pub NamesChild : Processes → ℕ → CallResult → Type 0
 NamesChild m p (done t) = free_process m.records ≡ Some (regs_at t p).a
 NamesChild m p (refused number) = Unit {0}
 NamesChild m p (waits t) = Unit {0}
 NamesChild m p (ends status) = Unit {0}
 
-module _ (m : Inner) (p : ℕ) where
+module _ (m : Processes) (p : ℕ) where
   pub of-needs : {A : Type 0} (some : Option A) (number : ℕ) (next : A → CallResult) → ((a : A) → some ≡ Some a → NamesChild m p (next a)) → NamesChild m p (needs some number next)
   of-needs None number next names = tt
   of-needs (Some a) number next names = names a refl

@@ -19,7 +19,7 @@ use Rattle.call_rules.specs.Attempts.{attempted, done_regs, goes_on}
 use Rattle.call_rules.specs.CallResult.{CallResult, done, needs, refuses, changes}
 use Rattle.call_rules.specs.Chain.{f_chain, begun_anew, with_program}
 use Rattle.call_rules.specs.Fork.{f_fork, with_child, with_child_record, forked_regs}
-use Rattle.call_rules.specs.Inner.{Inner, no_own, own_at, regs_at, cells_at, with_regs_of}
+use Rattle.call_rules.specs.Processes.{Processes, no_own, own_at, regs_at, cells_at, with_regs_of}
 use Rattle.call_rules.specs.ModuleLinks.{Entered, found_entry, without_module_link, without_primary_link}
 use Rattle.call_rules.specs.Program.{Program, is_unreadable, module_name, name_at_x, asks_for_program, program_kind, area_pages, most_pages, blocks_of_pages, parameters_at, start_regs, start_own, with_parameters, reads_program}
 use Rattle.call_rules.specs.UserBytes.{user_bytes}
@@ -32,7 +32,7 @@ use Rattle.call_laws.proofs.ModulesKept.{linked-modules, HaveMore, more-linked}
 use Rattle.call_laws.proofs.OthersKept.{Changed, changed-self, changed-then, record-same, record-other, own-same, own-other, turns-with, comes-of, living-record, record-put, Free, free-is}
 use Rattle.call_laws.proofs.CallsKept.{AttemptLeft, left-done, of-needs, of-refuses, of-changes, changed-unlinked, ended-left, regs-changed, record-changed, same, link-left, unlink-left, unload-left, mem-left, crc-left, prsnam-left, cmpnam-left, send-left, sprior-left, sleep-left, wait-left}
 
-module _ (m : Inner) (p : ℕ) where
+module _ (m : Processes) (p : ℕ) where
   -- the parameters of a program have room at the end of its data area, and its maker gives them
   pub record HasRoom (program : Program) : Type 0 where
     pub fits : length program.parameters ≤ 256 * program.pages
@@ -107,7 +107,7 @@ module _ (m : Inner) (p : ℕ) where
       grows = record { kept = begins.kept; itself = λ object names. inr (begins.names object names) }
 
       -- the process begins anew, from a state of this memory and these things of its own
-      anew : (n : Inner) (own : List Own) → Changed m p Ran n → ((q : ℕ) → q ≢ p → slice_index_or own q no_own ≡
+      anew : (n : Processes) (own : List Own) → Changed m p Ran n → ((q : ℕ) → q ≢ p → slice_index_or own q no_own ≡
           own_at n q) → n.records ≡ m.records
           → Changed m p Ran (record n { records = (begun_anew m p program).records; own = own })
       anew n own changed same still =
@@ -177,10 +177,10 @@ module _ (m : Inner) (p : ℕ) where
   module _ (lives : IsLiving m.records p) (call : AttemptsCall m p Call.Fork) (program : Program) (child : ℕ)
       (memory : MemoryState) (room : HasRoom program) (free : free_process m.records ≡ Some child)
       (is : started m.memory child program.entered.number (blocks_of_pages program.pages) ≡ Ok memory) where
-    abbrev made : Inner
+    abbrev made : Processes
     made = with_regs_of (with_child m p child program memory) p (forked_regs (regs_at m p) child program)
 
-    abbrev forked : Inner
+    abbrev forked : Processes
     forked = goes_on made p (done_regs (regs_at made p))
 
     begins : Begun m.memory (IsParameter m p) p child (with_parameters (linked memory program.entered.number) child program)

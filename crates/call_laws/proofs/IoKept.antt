@@ -17,7 +17,7 @@ use Rattle.io_model.specs.declared.terminal.Progress.TheVariants.{Done, Wait, En
 use Rattle.io_model.specs.declared.terminal.Reading.{Reading}
 use Rattle.io_rules.specs.Attempts.{Does, io_step}
 use Rattle.io_rules.specs.Codes.{direction_of_call}
-use Rattle.io_rules.specs.Io.{Io, terminal_at, kept_at, new_desc, with_paths, with_pipes}
+use Rattle.io_rules.specs.Io.{Io, terminal_at, pending_at, new_desc, with_paths, with_pipes}
 use Rattle.io_rules.specs.Step.{Caller, IoEffect, IoEnd, IoStep, refused, comes, reads, writes, TerminalRead, TerminalWrite}
 use Rattle.io_rules.specs.Terminals.{ReadsTerminal, WritesTerminal, request_of, write_ends}
 use Rattle.io_rules.specs.Waiting.{pid}
@@ -60,7 +60,7 @@ FailsOn n before after = ChangesOneTerminal (λ before now. Rose before.faults n
 -- what an attempt of a call leaves of the others
 pub record EffectLeft (call : IoCall) (p : ℕ) (old new : Io) (before after : List TerminalState) : Type 0 where
   pub paths : PathsLeft p old.paths new.paths
-  pub calls : (q : ℕ) → q ≢ p → kept_at new q ≡ kept_at old q
+  pub calls : (q : ℕ) → q ≢ p → pending_at new q ≡ pending_at old q
   pub readings : (n q : ℕ) → q ≢ p → reader (terminal_at old n) ≡ Some (pid q) → KeepsReading (terminal_at old n)
       (terminal_at new n) ⊎ (direction_of_call call ≡ Some Writing) × FailsOn n before after ×
       (terminal_at new n ≡ without_reading (used_by (pid p) (terminal_at old n)))

@@ -20,7 +20,7 @@ use Rattle.proc_rules.specs.Signals.{is_reached}
 use Rattle.proc_rules.specs.Turns.{with_turn, without_turn}
 use Rattle.call_rules.specs.declared.proc_call.ProcCall.TheVariants as Call
 use Rattle.call_rules.specs.Attempts.{goes_on, waiting}
-use Rattle.call_rules.specs.Inner.{Inner, no_own, own_at, with_own}
+use Rattle.call_rules.specs.Processes.{Processes, no_own, own_at, with_own}
 use Rattle.call_rules.specs.ModuleLinks.{still_primary}
 use Rattle.event_rules.specs.declared.ends.EventEnd.{EventEnd}
 use Rattle.event_rules.specs.declared.ends.EventEnd.TheVariants.{Ended}
@@ -33,7 +33,7 @@ use Rattle.call_laws.proofs.MemoryKept.{Kept}
 
 -- ---- one record
 
-module _ (m : Inner) (p : ℕ) (end : EventEnd) where
+module _ (m : Processes) (p : ℕ) (end : EventEnd) where
   -- what comes of a record where no process begins
   abbrev pub RecordLeft : ℕ → Option Record → Option Record → Type 0
   RecordLeft q (Some old) (Some new) = KeepsRecord m p end q old new
@@ -69,7 +69,7 @@ module _ (m : Inner) (p : ℕ) (end : EventEnd) where
       by_primary (Some id) = by_entry id (module_entry_at n.modules id.0) refl
 
 -- what an event leaves, column by column
-pub record Changed (m : Inner) (p : ℕ) (end : EventEnd) (n : Inner) : Type 0 where
+pub record Changed (m : Processes) (p : ℕ) (end : EventEnd) (n : Processes) : Type 0 where
   pub memory : Kept m.memory (IsParameter m p) p p n.memory
   pub itself : KeepsToItself m.memory p n.memory
   pub links : ChangesLinks m p end n.memory
@@ -79,7 +79,7 @@ pub record Changed (m : Inner) (p : ℕ) (end : EventEnd) (n : Inner) : Type 0 w
   pub places : length n.records ≡ length m.records
 
 -- what comes of another process by the columns
-pub comes-of : (m : Inner) (p : ℕ) (end : EventEnd) (n : Inner) (q : ℕ) (old new : Option Record) → map_at n.memory q
+pub comes-of : (m : Processes) (p : ℕ) (end : EventEnd) (n : Processes) (q : ℕ) (old new : Option Record) → map_at n.memory q
     ≡ map_at m.memory q → KeepsOwn m p n.memory q (own_at m q) (own_at n q) → RecordLeft m p end q old new
     → ComesOf m p end n q old new
 comes-of m p end n q (Some old) (Some new) map own left = record { map = map; own = own; record_is = left }
@@ -87,7 +87,7 @@ comes-of m p end n q (Some old) None map own left = left
 comes-of m p end n q None (Some new) map own left = absurd left
 comes-of m p end n q None None map own left = tt
 
-pub changed-leaves : (m : Inner) (p : ℕ) (end : EventEnd) (n : Inner) → Changed m p end n → LeavesOthers m p end n
+pub changed-leaves : (m : Processes) (p : ℕ) (end : EventEnd) (n : Processes) → Changed m p end n → LeavesOthers m p end n
 changed-leaves m p end n changed = record {
   objects = changed.memory.objects;
   new_objects = changed.memory.new_objects;
@@ -105,11 +105,11 @@ changed-leaves m p end n changed = record {
 pub record-other : (records : List (Option Record)) (p : ℕ) (r : Option Record) (q : ℕ) → q ≢ p → record_of (slice_set records p r) q ≡ record_of records q
 record-other records p r q differ = get_or-set_other records p q r None differ
 
-pub own-other : (m : Inner) (p : ℕ) (own : Own) (q : ℕ) → q ≢ p → own_at (with_own m p own) q ≡ own_at m q
+pub own-other : (m : Processes) (p : ℕ) (own : Own) (q : ℕ) → q ≢ p → own_at (with_own m p own) q ≡ own_at m q
 own-other m p own q differ = get_or-set_other m.own p q own no_own differ
 
 -- where a process has other memory, records and things of its own, and the columns of the others stay
-pub changed-self : (m : Inner) (p : ℕ) (end : EventEnd) (memory : MemoryState) (records : List (Option Record))
+pub changed-self : (m : Processes) (p : ℕ) (end : EventEnd) (memory : MemoryState) (records : List (Option Record))
     (own : List Own) → Kept m.memory (IsParameter m p) p p memory → KeepsToItself m.memory p memory
     → ChangesLinks m p end memory
     → ((q : ℕ) → q ≢ p → record_of records q ≡ record_of m.records q) → ((q : ℕ) → q ≢ p → slice_index_or own q no_own ≡ own_at m q) → length records ≡ length m.records
@@ -126,7 +126,7 @@ changed-self m p end memory records own kept itself links same own_is places = r
 }
 
 -- a change of the process itself besides
-pub changed-then : (m : Inner) (p : ℕ) (end : EventEnd) (n : Inner) (records : List (Option Record)) (own : List Own) → Changed m p end n
+pub changed-then : (m : Processes) (p : ℕ) (end : EventEnd) (n : Processes) (records : List (Option Record)) (own : List Own) → Changed m p end n
     → ((q : ℕ) → q ≢ p → record_of records q ≡ record_of n.records q) → ((q : ℕ) → q ≢ p → slice_index_or own q no_own ≡ own_at n q) → length records ≡ length n.records
     → Changed m p end (record n { records = records; own = own })
 changed-then m p end n records own changed same own_is places = record {
@@ -141,14 +141,14 @@ changed-then m p end n records own changed same own_is places = record {
 }
 
 -- a process goes on after a call
-pub changed-goes_on : (m : Inner) (p : ℕ) (end : EventEnd) (n : Inner) (regs : Regs) → Changed m p end n → Changed m p end (goes_on n p regs)
+pub changed-goes_on : (m : Processes) (p : ℕ) (end : EventEnd) (n : Processes) (regs : Regs) → Changed m p end n → Changed m p end (goes_on n p regs)
 changed-goes_on m p end n regs changed =
     changed-then m p end n (goes_on n p regs).records (goes_on n p regs).own changed
     (λ q differ. record-other (with_regs n.records p regs) p _ q differ ∙ record-other n.records p _ q differ)
     (λ q differ. own-other n p _ q differ) (simp length-set)
 
 -- a process waits
-pub changed-waiting : (m : Inner) (p : ℕ) (end : EventEnd) (n : Inner) → Changed m p end n → Changed m p end (waiting n p)
+pub changed-waiting : (m : Processes) (p : ℕ) (end : EventEnd) (n : Processes) → Changed m p end n → Changed m p end (waiting n p)
 changed-waiting m p end n changed =
     changed-then m p end n (waiting n p).records n.own changed (λ q differ. record-other n.records p _ q differ) (λ q differ. refl) (simp length-set)
 
@@ -183,7 +183,7 @@ reached-lives records user q reached =
     by_test false other is reached = absurd (false≢true reached)
 
 -- its record is this one then
-pub named-record : (m : Inner) (p : ℕ) (end : EventEnd) (to user : ℕ) (new : Record) → is_reached m.records user to ≡
+pub named-record : (m : Processes) (p : ℕ) (end : EventEnd) (to user : ℕ) (new : Record) → is_reached m.records user to ≡
     true → KeepsRecord m p end to (record_at m.records to) new → (q : ℕ) → RecordLeft m p end q
     (record_of m.records q) (record_of (with_record m.records to new) q)
 named-record m p end to user new reached keeps q =
@@ -204,7 +204,7 @@ named-record m p end to user new reached keeps q =
         (subst (RecordLeft m p end to (Some (record_at m.records to))) (sym put) keeps)
 
 -- a wake that comes for it
-pub woken-own : (m : Inner) (p to : ℕ) (memory : MemoryState) → ((q : ℕ) → q ≡ to → GetsWake m p q true) → (q : ℕ)
+pub woken-own : (m : Processes) (p to : ℕ) (memory : MemoryState) → ((q : ℕ) → q ≡ to → GetsWake m p q true) → (q : ℕ)
     → KeepsOwn m p memory q (own_at m q) (own_at (with_own m to (record (own_at m to) { woken = true })) q)
 woken-own m p to memory calls q =
     elim (cases_eq q to) [
@@ -231,7 +231,7 @@ woken-own m p to memory calls q =
 -- ---- ended children
 
 -- a child that was given goes
-pub reaped-record : (m : Inner) (p : ℕ) (end : EventEnd) → AttemptsCall m p Call.Wait → (q : ℕ) → RecordLeft m p end q (record_of m.records q) (record_of (after_reap m.records p) q)
+pub reaped-record : (m : Processes) (p : ℕ) (end : EventEnd) → AttemptsCall m p Call.Wait → (q : ℕ) → RecordLeft m p end q (record_of m.records q) (record_of (after_reap m.records p) q)
 reaped-record m p end call q = by_child (ended_child m.records p) refl
   where
     gone : (k : ℕ) → record_of (without_record m.records k) k ≡ None
@@ -277,7 +277,7 @@ exit-other records p status q differ = record-other (map (orphaned p) records) p
           | inr past ↦ get_or_past (map (orphaned p) records) q None (rw length-map past) ∙ ap (orphaned p) (sym (get_or_past records q None past))
         ]
 
-pub exit-record : (m : Inner) (p status q : ℕ) → q ≢ p → RecordLeft m p Ended q (record_of m.records q) (record_of (after_exit m.records p status) q)
+pub exit-record : (m : Processes) (p status q : ℕ) → q ≢ p → RecordLeft m p Ended q (record_of m.records q) (record_of (after_exit m.records p status) q)
 exit-record m p status q differ =
     subst (RecordLeft m p Ended q (record_of m.records q)) (sym (exit-other m.records p status q differ)) (by_place (record_of m.records q))
   where
@@ -301,7 +301,7 @@ exit-record m p status q differ =
 -- ---- turns
 
 -- a turn that is added, or taken away, is that of another process
-module _ (m : Inner) (p : ℕ) where
+module _ (m : Processes) (p : ℕ) where
   abbrev is_other : Turn → Bool
   is_other t = not (t.process.0 == p) && is_some (record_of m.records t.process.0)
 

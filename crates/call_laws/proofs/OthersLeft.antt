@@ -3,10 +3,10 @@ use Rattle.std.proofs.Common.{ℕ, None, List, length, ap, ◌∙◌}
 use Rattle.std.proofs.lemmas.List.{get_or-set_other}
 use Rattle.os9_outer.specs.TerminalState.{TerminalState}
 use Rattle.call_rules.specs.CallResult.{CallResult}
-use Rattle.call_rules.specs.Inner.{Inner}
+use Rattle.call_rules.specs.Processes.{Processes}
 use Rattle.io_model.specs.Path.{numbers_of}
-use Rattle.io_rules.specs.Attempts.{IoAttempts, caller_of, kept_in, step_of}
-use Rattle.io_rules.specs.Io.{Io, kept_at, open_path}
+use Rattle.io_rules.specs.Attempts.{IoAttempts, caller_of, pending_in, step_of}
+use Rattle.io_rules.specs.Io.{Io, pending_at, open_path}
 use Rattle.io_rules.specs.declared.io_call.IoCall.{IoCall}
 use Rattle.call_laws.specs.PathOthers.{LeavesPaths}
 use Rattle.call_laws.proofs.IoKept.{EffectLeft, does-left, step-left}
@@ -20,7 +20,8 @@ left-leaves p old new left = record {
   calls = left.calls;
 }
 
-module _ (call : IoCall) (m : Inner) (old new : Io) (drives p : ℕ) (result : CallResult) (before after : List TerminalState) (attempt : IoAttempts call m old drives p result new before after) where
+module _ (call : IoCall) (m : Processes) (old new : Io) (drives p : ℕ) (result : CallResult) (before after : List TerminalState)
+    (attempt : IoAttempts call m old drives p result new before after) where
   pub effect-left : EffectLeft call p old attempt.effect.io before after
   effect-left =
       does-left call (caller_of m p) old before after (step_of call m p old drives before) attempt.effect (step-left call (caller_of m p) old drives (length before)) attempt.does
@@ -33,5 +34,5 @@ module _ (call : IoCall) (m : Inner) (old new : Io) (drives p : ℕ) (result : C
         n opened (effect-left.paths.numbers q differ) (λ path d named there. effect-left.paths.descs q n path d
         named differ there) is;
     calls =
-        λ q differ. ap (λ (io : Io). kept_at io q) attempt.state ∙ get_or-set_other attempt.effect.io.calls p q (kept_in attempt.effect.end) None differ ∙ effect-left.calls q differ;
+        λ q differ. ap (λ (io : Io). pending_at io q) attempt.state ∙ get_or-set_other attempt.effect.io.calls p q (pending_in attempt.effect.end) None differ ∙ effect-left.calls q differ;
   }

@@ -12,14 +12,14 @@ use Rattle.std.proofs.lemmas.Option.{none-some, same_Some}
 use Rattle.os9_base.specs.declared.registers.Pid.{Pid}
 use Rattle.io_model.specs.Path.{PathTable, desc_of, numbers_of, slot_of, is_image, is_held, with_desc, with_numbers, with_slot, free_number, free_path, with_path, paths_after_begin, paths_after_dup, path_at, paths_after_close, closed_desc}
 use Rattle.io_model.specs.Terminal.{Terminal, new_terminal, reader, released, forgotten, is_process, without_reading}
-use Rattle.io_model.specs.declared.kept.Kept.{Kept}
+use Rattle.io_model.specs.declared.pending.PendingCall.{PendingCall}
 use Rattle.io_model.specs.declared.path.Desc.{Desc}
 use Rattle.io_model.specs.declared.path.SysPath.{SysPath}
 use Rattle.io_model.specs.declared.path.TheConstants.{PROCESS_PATHS}
 use Rattle.io_model.specs.declared.path.Target.{Target}
 use Rattle.io_model.specs.declared.path.Target.TheVariants.{File, Folder, Term, Pipe}
 use Rattle.io_rules.specs.Close.{after_close, without_path, without_target}
-use Rattle.io_rules.specs.Io.{Io, OpenPath, open_path, terminal_at, kept_at, with_call, with_paths, with_pipes, with_terminal}
+use Rattle.io_rules.specs.Io.{Io, OpenPath, open_path, terminal_at, pending_at, with_call, with_paths, with_pipes, with_terminal}
 use Rattle.io_rules.specs.Processes.{closed_below, closed_if_open, io_ended, without_user}
 use Rattle.io_rules.specs.Waiting.{io_interrupted, pid, wait_target, without_unfinished}
 use Rattle.call_laws.specs.Terminals.{KeepsReading}
@@ -131,7 +131,7 @@ left-close p paths n =
 -- what a change by a process leaves of the others
 pub record IoLeft (p : ℕ) (old new : Io) : Type 0 where
   pub paths : PathsLeft p old.paths new.paths
-  pub calls : (q : ℕ) → q ≢ p → kept_at new q ≡ kept_at old q
+  pub calls : (q : ℕ) → q ≢ p → pending_at new q ≡ pending_at old q
   pub readings : (n q : ℕ) → q ≢ p → reader (terminal_at old n) ≡ Some (pid q) → KeepsReading (terminal_at old n) (terminal_at new n)
 
 pub io-same : (p : ℕ) (io : Io) → IoLeft p io io
@@ -153,10 +153,10 @@ io-paths p io paths left = record { paths = left; calls = λ q differ. refl; rea
 pub io-pipes : (p : ℕ) (io : Io) (pipes : List (Option (List ℕ))) → IoLeft p io (with_pipes io pipes)
 io-pipes p io pipes = record { paths = left-same p io.paths; calls = λ q differ. refl; readings = λ n q differ is. refl }
 
-pub io-call : (p : ℕ) (io : Io) (kept : Option Kept) → IoLeft p io (with_call io p kept)
-io-call p io kept = record {
+pub io-call : (p : ℕ) (io : Io) (pending : Option PendingCall) → IoLeft p io (with_call io p pending)
+io-call p io pending = record {
   paths = left-same p io.paths;
-  calls = λ q differ. get_or-set_other io.calls p q kept None differ;
+  calls = λ q differ. get_or-set_other io.calls p q pending None differ;
   readings = λ n q differ is. refl;
 }
 

@@ -11,7 +11,7 @@ use Rattle.user_names.specs.declared.name_fault.NameFault.TheVariants.{Unreadabl
 use Rattle.call_rules.specs.UserBytes.{user_bytes}
 use Rattle.io_model.specs.Path.{slot_of, free_number, new_number, paths_after_begin, paths_after_dup}
 use Rattle.io_model.specs.Pipe.{free_pipe, pipes_after_begin}
-use Rattle.io_model.specs.declared.kept.Kept.{Kept}
+use Rattle.io_model.specs.declared.pending.PendingCall.{PendingCall}
 use Rattle.io_model.specs.declared.path.Desc.{Desc}
 use Rattle.io_model.specs.declared.path.SysPath.{SysPath}
 use Rattle.io_model.specs.declared.path.Target.{Target}
@@ -21,7 +21,7 @@ use Rattle.io_model.specs.declared.terminal.ReadKind.TheVariants.{Bytes, WholeLi
 use Rattle.io_rules.specs.Attempts.{io_step}
 use Rattle.io_rules.specs.Close.{after_close}
 use Rattle.io_rules.specs.Codes.{direction_of_call}
-use Rattle.io_rules.specs.Io.{Io, OpenPath, kept_at, new_desc, open_path, with_paths, with_pipes}
+use Rattle.io_rules.specs.Io.{Io, OpenPath, pending_at, new_desc, open_path, with_paths, with_pipes}
 use Rattle.io_rules.specs.Lead.{Lead, Search, to_terminal, to_pipe, nowhere, what_is_there, a_new_place, lead_by_device, lead_of, makes_dots, on_device, on_drive}
 use Rattle.io_rules.specs.Modes.{can_read, can_write, is_mode}
 use Rattle.io_rules.specs.Open.{begins, opened_regs, opens_lead, reads_list}
@@ -173,7 +173,7 @@ module _ (call : IoCall) (P : Io → Type 0) (caller : Caller) (io : Io) (terms 
   nothing-left true next left = walk.same
   nothing-left false next left = left
 
-  read-target : direction_of_call call ≡ Some Reading → (kind : ReadKind) (now : Kept) (target : Target)
+  read-target : direction_of_call call ≡ Some Reading → (kind : ReadKind) (now : PendingCall) (target : Target)
       → ((terminal : ℕ) → target ≡ Term terminal → HasPathOn caller io terminal)
       → Left (reads_target kind caller io now target)
   read-target direction kind now (File drive sector) on = tt
@@ -193,7 +193,8 @@ module _ (call : IoCall) (P : Io → Type 0) (caller : Caller) (io : Io) (terms 
       caller.regs.y) opened.desc.target (λ terminal on. (caller.regs.a, opened, is, on))))
 
   module _ (direction : direction_of_call call ≡ Some Writing) where
-    write-target : (sending : Sending) (now : Kept) (target : Target) → ((terminal : ℕ) → target ≡ Term terminal → HasPathOn caller io terminal) → Left (writes_target sending caller io now target)
+    write-target : (sending : Sending) (now : PendingCall) (target : Target) → ((terminal : ℕ) → target ≡ Term terminal → HasPathOn caller io terminal)
+        → Left (writes_target sending caller io now target)
     write-target sending now (File drive sector) on = tt
     write-target sending now (Folder drive sector) on = tt
     write-target sending now (Term terminal) on = (direction, on terminal refl)
@@ -262,7 +263,7 @@ step-gives Call.ReadLn P caller io drives terms walk =
 step-gives Call.Write P caller io drives terms walk =
     send-left Call.Write P caller io terms walk refl (sent_bytes caller) I_WRITE (user_bytes caller.cells caller.regs.x caller.regs.y)
 step-gives Call.WritLn P caller io drives terms walk =
-    send-left Call.WritLn P caller io terms walk refl (sent_line caller) I_WRITLN (line_bytes caller (kept_at io caller.process.0))
+    send-left Call.WritLn P caller io terms walk refl (sent_line caller) I_WRITLN (line_bytes caller (pending_at io caller.process.0))
 step-gives Call.GetStt P caller io drives terms walk =
     get-left Call.GetStt P caller io terms walk (open_path io caller.process.0 caller.regs.a)
 step-gives Call.SetStt P caller io drives terms walk =

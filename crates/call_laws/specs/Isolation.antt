@@ -2,7 +2,7 @@
 -- own.
 use Rattle.std.specs.Prelude.{◌≡◌, ◌≢◌, ℕ}
 use Rattle.proc_rules.specs.Records.{record_of}
-use Rattle.call_rules.specs.Inner.{Inner}
+use Rattle.call_rules.specs.Processes.{Processes}
 use Rattle.event_rules.specs.declared.ends.EventEnd.{EventEnd}
 use Rattle.call_laws.specs.NewObjects.{HoldNothingElse}
 use Rattle.call_laws.specs.Objects.{KeepsSizes, KeepsObjects, KeepsToItself}
@@ -11,7 +11,7 @@ use Rattle.call_laws.specs.Links.{ChangesLinks}
 use Rattle.call_laws.specs.Modules.{KeepsModules}
 
 -- an event of a process with this end leaves unchanged what is not its own
-pub record LeavesOthers (m : Inner) (p : ℕ) (end : EventEnd) (n : Inner) : Type 0 where
+pub record LeavesOthers (m : Processes) (p : ℕ) (end : EventEnd) (n : Processes) : Type 0 where
   pub sizes : KeepsSizes m.memory n.memory
   pub objects : KeepsObjects m.memory p n.memory
   pub new_objects : HoldNothingElse m p n.memory

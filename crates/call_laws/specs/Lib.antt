@@ -4,6 +4,6 @@ pub mod Modules
 pub mod NewObjects
 pub mod Objects
 pub mod Others
-pub mod Kept
+pub mod Pending
 pub mod PathOthers
 pub mod Terminals

@@ -5,14 +5,15 @@ ghost use Rattle.call_laws.specs.Isolation.{LeavesOthers};
 ghost use Rattle.call_laws.specs.Others.{AttemptsCall};
 ghost use Rattle.call_rules.specs.Attempts.{after_attempt, attempted};
 ghost use Rattle.call_rules.specs.declared.proc_call.ProcCall.{ProcCall};
-ghost use Rattle.call_rules.specs.Inner.{Inner};
+ghost use Rattle.call_rules.specs.Processes.{Processes};
 ghost use Rattle.event_rules.specs.Event.{call_event_end};
 ghost use Rattle.proc_rules.specs.Records.{IsLiving};
 
 /// An attempt of a call on processes and modules leaves unchanged the bytes of each object outside
 /// the map of the process, and every other process except what the call changes of it.
 pub fn a_call_leaves_what_it_does_not_name()
-    ensures { (m : Inner) (p : ℕ) (call : ProcCall) → IsLiving m.records p → AttemptsCall m p call
+    ensures { (m : Processes) (p : ℕ) (call : ProcCall) → IsLiving m.records p
+        → AttemptsCall m p call
         → LeavesOthers m p
         (call_event_end (attempted call m p)) (after_attempt m p (attempted call m p)) }
 {}

@@ -14,7 +14,7 @@ use Rattle.call_rules.specs.Exit.{f_exit}
 use Rattle.call_rules.specs.Fork.{f_fork}
 use Rattle.call_rules.specs.Icpt.{f_icpt}
 use Rattle.call_rules.specs.Id.{f_id}
-use Rattle.call_rules.specs.Inner.{Inner, own_at, regs_at, with_records, with_own}
+use Rattle.call_rules.specs.Processes.{Processes, own_at, regs_at, with_records, with_own}
 use Rattle.call_rules.specs.Link.{f_link}
 use Rattle.call_rules.specs.Mem.{f_mem}
 use Rattle.call_rules.specs.PrsNam.{f_prsnam}
@@ -28,7 +28,7 @@ use Rattle.call_rules.specs.UnLoad.{f_unload}
 use Rattle.call_rules.specs.Wait.{f_wait}
 
 -- an attempt of a call by a process
-abbrev pub attempted : ProcCall → Inner → ℕ → CallResult
+abbrev pub attempted : ProcCall → Processes → ℕ → CallResult
 attempted Call.Link s p = f_link s p
 attempted Call.UnLink s p = f_unlink s p
 attempted Call.Fork s p = f_fork s p
@@ -63,17 +63,17 @@ abbrev pub refused_regs : Regs → ℕ → Regs
 refused_regs regs number = record regs { cc = carry_set regs.cc; b = number }
 
 -- the state in which a process has no call any more, and goes on with these registers
-abbrev pub goes_on : Inner → ℕ → Regs → Inner
+abbrev pub goes_on : Processes → ℕ → Regs → Processes
 goes_on s p regs =
     with_own (with_records s (with_waiting (with_regs s.records p regs) p false)) p
     (record (own_at s p) { call = None; until = None; woken = false })
 
 -- the state in which a process waits
-abbrev pub waiting : Inner → ℕ → Inner
+abbrev pub waiting : Processes → ℕ → Processes
 waiting s p = with_records s (with_waiting s.records p true)
 
 -- the state after an attempt of a process
-abbrev pub after_attempt : Inner → ℕ → CallResult → Inner
+abbrev pub after_attempt : Processes → ℕ → CallResult → Processes
 after_attempt s p (done t) = goes_on t p (done_regs (regs_at t p))
 after_attempt s p (refused number) = goes_on s p (refused_regs (regs_at s p) number)
 after_attempt s p (waits t) = waiting t p

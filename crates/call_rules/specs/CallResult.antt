@@ -5,15 +5,15 @@ use Rattle.proc_model.specs.declared.memory.MemoryFault.{MemoryFault}
 use Rattle.proc_model.specs.Memory.{MemoryState, memory_error}
 use Rattle.user_names.specs.declared.name_fault.NameFault.{NameFault}
 use Rattle.user_names.specs.declared.name_fault.NameFault.TheVariants.{Unreadable, NoName}
-use Rattle.call_rules.specs.Inner.{Inner}
+use Rattle.call_rules.specs.Processes.{Processes}
 
 pub data CallResult : Type 0 where
   -- it is done, with this state afterwards
-  done : Inner → CallResult
+  done : Processes → CallResult
   -- it is refused with this number
   refused : ℕ → CallResult
   -- it waits, with this state afterwards
-  waits : Inner → CallResult
+  waits : Processes → CallResult
   -- the process ends with this status
   ends : ℕ → CallResult
 

@@ -8,22 +8,22 @@ use Rattle.proc_model.specs.Memory.{MemoryState}
 use Rattle.proc_model.specs.MemoryChanges.{linked, started}
 use Rattle.proc_rules.specs.Records.{with_regs}
 use Rattle.proc_rules.specs.Signals.{with_intercept}
-use Rattle.call_rules.specs.Inner.{Inner, own_at, with_memory, with_records, with_own}
+use Rattle.call_rules.specs.Processes.{Processes, own_at, with_memory, with_records, with_own}
 use Rattle.call_rules.specs.ModuleLinks.{without_primary_link}
 use Rattle.call_rules.specs.Program.{Program, most_pages, blocks_of_pages, start_regs, start_own, with_parameters, reads_program}
 use Rattle.call_rules.specs.CallResult.{CallResult, done, refuses, changes}
 
 -- the state in which a process begins anew with this program in this memory
-abbrev pub begun_anew : Inner → ℕ → Program → Inner
+abbrev pub begun_anew : Processes → ℕ → Program → Processes
 begun_anew s p program =
     with_own (with_records s (with_intercept (with_regs s.records p (start_regs program)) p None)) p (start_own program)
 
 -- the state with the new program linked and its parameters stored
-abbrev pub with_program : Inner → ℕ → Program → MemoryState → Inner
+abbrev pub with_program : Processes → ℕ → Program → MemoryState → Processes
 with_program s p program memory =
     with_memory s (with_parameters (linked memory program.entered.number) p program)
 
-abbrev pub f_chain : Inner → ℕ → CallResult
+abbrev pub f_chain : Processes → ℕ → CallResult
 f_chain s p =
     reads_program s p
     (λ program. refuses (nat_lt most_pages program.pages) E_MEMFUL

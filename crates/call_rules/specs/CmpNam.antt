@@ -7,7 +7,7 @@ use Rattle.os9_base.specs.Cells.{Cells}
 use Rattle.os9_base.specs.Name.{lower, low_bits}
 use Rattle.os9_base.specs.declared.errors.TheConstants.{E_BPADDR, E_BNAM}
 use Rattle.user_names.specs.UserNames.{user_cell}
-use Rattle.call_rules.specs.Inner.{Inner, regs_at, cells_at}
+use Rattle.call_rules.specs.Processes.{Processes, regs_at, cells_at}
 use Rattle.call_rules.specs.CallResult.{CallResult, done, needs, refuses}
 
 -- a character of the first name agrees with one of the second name
@@ -28,7 +28,7 @@ same_names cells one other zero = Some false
 same_names cells one other (suc left) =
     same_with (same_names cells (one + 1) (other + 1) left) left (user_cell cells one) (user_cell cells other)
 
-abbrev pub f_cmpnam : Inner → ℕ → CallResult
+abbrev pub f_cmpnam : Processes → ℕ → CallResult
 f_cmpnam s p =
     needs (same_names (cells_at s p) (regs_at s p).x (regs_at s p).y (regs_at s p).b) E_BPADDR
     (λ same. refuses (not same) E_BNAM (done s))

@@ -6,7 +6,7 @@ use Rattle.byteorder.specs.Endian.{big_number}
 use Rattle.os9_base.specs.declared.errors.TheConstants.{E_BPADDR}
 use Rattle.proc_model.specs.Crc.{crc_register}
 use Rattle.proc_model.specs.MemoryChanges.{stored}
-use Rattle.call_rules.specs.Inner.{Inner, regs_at, cells_at, with_memory}
+use Rattle.call_rules.specs.Processes.{Processes, regs_at, cells_at, with_memory}
 use Rattle.call_rules.specs.CallResult.{CallResult, done, needs}
 use Rattle.call_rules.specs.UserBytes.{user_bytes}
 
@@ -18,7 +18,7 @@ crc_bytes register = register / 65536 ∷ register / 256 % 256 ∷ register % 25
 abbrev pub crc_continued : List ℕ → List ℕ → List ℕ
 crc_continued accumulator bytes = crc_bytes (crc_register (big_number 3 accumulator) bytes)
 
-abbrev pub f_crc : Inner → ℕ → CallResult
+abbrev pub f_crc : Processes → ℕ → CallResult
 f_crc s p =
     needs (user_bytes (cells_at s p) (regs_at s p).x (regs_at s p).y) E_BPADDR
     (λ bytes. needs (user_bytes (cells_at s p) (regs_at s p).u 3) E_BPADDR

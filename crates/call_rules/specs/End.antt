@@ -4,11 +4,11 @@ use Rattle.std.specs.Prelude.{ℕ}
 use Rattle.proc_model.specs.MemoryChanges.{cleared}
 use Rattle.proc_rules.specs.Ends.{after_exit}
 use Rattle.proc_rules.specs.Turns.{without_turn}
-use Rattle.call_rules.specs.Inner.{Inner, no_own, own_at, with_own}
+use Rattle.call_rules.specs.Processes.{Processes, no_own, own_at, with_own}
 use Rattle.call_rules.specs.ModuleLinks.{without_primary_link}
 
 -- the state in which a process does not live any more, and has nothing
-abbrev pub without_process : Inner → ℕ → ℕ → Inner
+abbrev pub without_process : Processes → ℕ → ℕ → Processes
 without_process s p status =
     with_own (record s {
       memory =
@@ -18,5 +18,5 @@ without_process s p status =
     }) p no_own
 
 -- the state after the end of a process with a status
-abbrev pub ended : Inner → ℕ → ℕ → Inner
+abbrev pub ended : Processes → ℕ → ℕ → Processes
 ended s p status = without_process (without_primary_link s (own_at s p)) p status

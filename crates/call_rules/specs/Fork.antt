@@ -11,7 +11,7 @@ use Rattle.proc_model.specs.MemoryChanges.{linked, started}
 use Rattle.proc_rules.specs.declared.record.Record.{Record}
 use Rattle.proc_rules.specs.Records.{record_at, free_process, after_make, with_regs}
 use Rattle.proc_rules.specs.Turns.{with_turn}
-use Rattle.call_rules.specs.Inner.{Inner, regs_at, with_regs_of, with_own}
+use Rattle.call_rules.specs.Processes.{Processes, regs_at, with_regs_of, with_own}
 use Rattle.call_rules.specs.Program.{Program, most_pages, blocks_of_pages, start_regs, start_own, with_parameters, reads_program}
 use Rattle.call_rules.specs.CallResult.{CallResult, done, needs, refuses, changes}
 
@@ -22,7 +22,7 @@ with_child_record records p child program =
     (start_regs program)
 
 -- the state with a new child of a process, which starts the program in this memory
-abbrev pub with_child : Inner → ℕ → ℕ → Program → MemoryState → Inner
+abbrev pub with_child : Processes → ℕ → ℕ → Program → MemoryState → Processes
 with_child s p child program memory =
     with_own (record s {
       memory = with_parameters (linked memory program.entered.number) child program;
@@ -34,7 +34,7 @@ with_child s p child program memory =
 abbrev pub forked_regs : Regs → ℕ → Program → Regs
 forked_regs regs child program = record regs { a = child; x = (regs.x + program.count) % 65536 }
 
-abbrev pub f_fork : Inner → ℕ → CallResult
+abbrev pub f_fork : Processes → ℕ → CallResult
 f_fork s p =
     reads_program s p
     (λ program. needs (free_process s.records) E_PRCFUL

@@ -11,7 +11,7 @@ pub mod Exit
 pub mod Fork
 pub mod Icpt
 pub mod Id
-pub mod Inner
+pub mod Processes
 pub mod IoReady
 pub mod Link
 pub mod Mem

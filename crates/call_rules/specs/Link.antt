@@ -13,7 +13,7 @@ use Rattle.proc_model.specs.ModuleList.{ModuleEntry}
 use Rattle.proc_model.specs.Slots.{group_slot}
 use Rattle.proc_rules.specs.declared.own.Own.{Own}
 use Rattle.user_names.specs.UserNames.{name_at}
-use Rattle.call_rules.specs.Inner.{Inner, own_at, regs_at, cells_at, with_memory, with_regs_of, with_own}
+use Rattle.call_rules.specs.Processes.{Processes, own_at, regs_at, cells_at, with_memory, with_regs_of, with_own}
 use Rattle.call_rules.specs.ModuleLinks.{Entered, found_entry, header_address}
 use Rattle.call_rules.specs.CallResult.{CallResult, done, needs, refuses, reads_name}
 
@@ -48,13 +48,13 @@ linked_regs regs entry address count =
     }
 
 -- the state after a link
-abbrev pub after_link : Inner → ℕ → Entered → Mapped → ℕ → Inner
+abbrev pub after_link : Processes → ℕ → Entered → Mapped → ℕ → Processes
 after_link s p found mapped count =
     with_regs_of (with_own (with_memory s (linked mapped.memory found.number)) p
     (with_links_at (own_at s p) mapped.slot (links_at (own_at s p) mapped.slot + 1))) p
     (linked_regs (regs_at s p) found.entry (header_address mapped.slot found.entry) count)
 
-abbrev pub f_link : Inner → ℕ → CallResult
+abbrev pub f_link : Processes → ℕ → CallResult
 f_link s p =
     reads_name (name_at (cells_at s p) (regs_at s p).x) E_BNAM
     (λ name. needs (found_entry s.memory.modules name (regs_at s p).a) E_MNF

@@ -5,7 +5,7 @@ use Rattle.proc_model.specs.MemoryChanges.{unlinked}
 use Rattle.proc_model.specs.ModuleList.{ModuleEntry, module_entry_at, passes, found_module}
 use Rattle.proc_model.specs.Slots.{Slots, group_slot}
 use Rattle.proc_rules.specs.declared.own.Own.{Own}
-use Rattle.call_rules.specs.Inner.{Inner}
+use Rattle.call_rules.specs.Processes.{Processes}
 
 -- an entered module, with its number
 pub record Entered : Type 0 where
@@ -44,7 +44,7 @@ still_primary entries own =
 
 -- a link of an entered module is given up; if its group leaves memory with it, no process has a primary module of the
 -- group any more
-abbrev pub without_module_link : Inner → ℕ → Inner
+abbrev pub without_module_link : Processes → ℕ → Processes
 without_module_link s number =
     record s {
       memory =
@@ -53,5 +53,5 @@ without_module_link s number =
     }
 
 -- a process gives up the link to its primary module, if it has one
-abbrev pub without_primary_link : Inner → Own → Inner
+abbrev pub without_primary_link : Processes → Own → Processes
 without_primary_link s own = option_map_or (λ id. without_module_link s id.0) own.primary s

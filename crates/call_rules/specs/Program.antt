@@ -16,7 +16,7 @@ use Rattle.proc_rules.specs.declared.own.Own.{Own}
 use Rattle.user_names.specs.UserNames.{user_cell, run_bytes}
 use Rattle.call_rules.specs.declared.program_name.ProgramName.{ProgramName}
 use Rattle.call_rules.specs.declared.program_name.ProgramName.TheVariants.{Unreadable, OneName, PathList}
-use Rattle.call_rules.specs.Inner.{Inner, no_own, regs_at, cells_at}
+use Rattle.call_rules.specs.Processes.{Processes, no_own, regs_at, cells_at}
 use Rattle.call_rules.specs.ModuleLinks.{Entered, found_entry, header_address}
 use Rattle.call_rules.specs.CallResult.{CallResult, needs, refuses}
 use Rattle.call_rules.specs.UserBytes.{user_bytes}
@@ -63,7 +63,7 @@ module_name (OneName name) = Some name
 module_name PathList = None
 
 -- what the bytes at X name
-abbrev pub name_at_x : Inner → ℕ → ProgramName
+abbrev pub name_at_x : Processes → ℕ → ProgramName
 name_at_x s p = program_name (cells_at s p) (regs_at s p).x
 
 -- ---- its type
@@ -146,7 +146,7 @@ abbrev pub with_parameters : MemoryState → ℕ → Program → MemoryState
 with_parameters m p program = stored m p (parameters_at program) program.parameters
 
 -- the call goes on with the program that the registers of its process name
-abbrev pub reads_program : Inner → ℕ → (Program → CallResult) → CallResult
+abbrev pub reads_program : Processes → ℕ → (Program → CallResult) → CallResult
 reads_program s p next =
     refuses (is_unreadable (name_at_x s p)) E_BPADDR
     (needs (user_bytes (cells_at s p) (regs_at s p).u (regs_at s p).y) E_BPADDR

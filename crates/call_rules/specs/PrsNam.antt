@@ -8,7 +8,7 @@ use Rattle.os9_base.specs.declared.errors.TheConstants.{E_BPADDR, E_BNAM}
 use Rattle.os9_base.specs.declared.registers.Regs.{Regs}
 use Rattle.std.specs.Option.{option_map_or}
 use Rattle.user_names.specs.UserNames.{user_cell, name_at}
-use Rattle.call_rules.specs.Inner.{Inner, regs_at, cells_at, with_regs_of}
+use Rattle.call_rules.specs.Processes.{Processes, regs_at, cells_at, with_regs_of}
 use Rattle.call_rules.specs.Program.{slash}
 use Rattle.call_rules.specs.CallResult.{CallResult, done, needs, reads_name}
 
@@ -21,11 +21,11 @@ abbrev pub name_regs : Regs → ℕ → ℕ → ℕ → Regs
 name_regs regs first count next = record regs { a = next; b = count; x = first; y = first + count }
 
 -- a name at an address is parsed
-abbrev pub parses_name : Inner → ℕ → ℕ → CallResult
+abbrev pub parses_name : Processes → ℕ → ℕ → CallResult
 parses_name s p first =
     reads_name (name_at (cells_at s p) first) E_BNAM
     (λ name. needs (user_cell (cells_at s p) (first + length name)) E_BPADDR
     (λ next. done (with_regs_of s p (name_regs (regs_at s p) first (length name) next))))
 
-abbrev pub f_prsnam : Inner → ℕ → CallResult
+abbrev pub f_prsnam : Processes → ℕ → CallResult
 f_prsnam s p = parses_name s p (past_slash (cells_at s p) (regs_at s p).x)

@@ -5,10 +5,10 @@ use Rattle.std.specs.Prelude.{ℕ, not}
 use Rattle.os9_base.specs.declared.errors.TheConstants.{E_IPRCID}
 use Rattle.proc_rules.specs.Records.{with_priority}
 use Rattle.proc_rules.specs.Signals.{is_reached}
-use Rattle.call_rules.specs.Inner.{Inner, regs_at, user_at, with_records}
+use Rattle.call_rules.specs.Processes.{Processes, regs_at, user_at, with_records}
 use Rattle.call_rules.specs.CallResult.{CallResult, done, refuses}
 
-abbrev pub f_sprior : Inner → ℕ → CallResult
+abbrev pub f_sprior : Processes → ℕ → CallResult
 f_sprior s p =
     refuses (not (is_reached s.records (user_at s p) (regs_at s p).a)) E_IPRCID
     (done (with_records s (with_priority s.records (regs_at s p).a (regs_at s p).b)))

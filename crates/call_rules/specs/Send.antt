@@ -9,7 +9,7 @@ use Rattle.proc_rules.specs.declared.record.SendFault.{SendFault}
 use Rattle.proc_rules.specs.declared.record.SendFault.TheVariants.{NoProcess, Pending}
 use Rattle.proc_rules.specs.Records.{record_at, is_waiting}
 use Rattle.proc_rules.specs.Signals.{wake_signal, send_fault, with_sent}
-use Rattle.call_rules.specs.Inner.{Inner, own_at, regs_at, user_at, with_records, with_own}
+use Rattle.call_rules.specs.Processes.{Processes, own_at, regs_at, user_at, with_records, with_own}
 use Rattle.call_rules.specs.CallResult.{CallResult, done, refused}
 
 -- the unfinished call of a process has this code
@@ -18,20 +18,20 @@ is_call None code = false
 is_call (Some other) code = other == code
 
 -- a process sleeps
-abbrev pub is_asleep : Inner → ℕ → Bool
+abbrev pub is_asleep : Processes → ℕ → Bool
 is_asleep s p = is_waiting (record_at s.records p).life && is_call (own_at s p).call F_SLEEP
 
 -- the state in which a process has received a wake, if it sleeps
-abbrev pub woken : Inner → ℕ → Inner
+abbrev pub woken : Processes → ℕ → Processes
 woken s p = if is_asleep s p then with_own s p (record (own_at s p) { woken = true }) else s
 
 -- the state after a signal that is not refused
-abbrev pub after_signal : Inner → ℕ → ℕ → Inner
+abbrev pub after_signal : Processes → ℕ → ℕ → Processes
 after_signal s to signal =
     if signal == wake_signal then woken s to else with_records s (with_sent s.records to signal)
 
 -- a user sends a signal to a process
-abbrev pub sends : Inner → ℕ → ℕ → ℕ → CallResult
+abbrev pub sends : Processes → ℕ → ℕ → ℕ → CallResult
 sends s user to signal = answer (send_fault s.records user to signal)
   where
     answer : Option SendFault → CallResult
@@ -39,5 +39,5 @@ sends s user to signal = answer (send_fault s.records user to signal)
     answer (Some NoProcess) = refused E_IPRCID
     answer (Some Pending) = refused E_USIGP
 
-abbrev pub f_send : Inner → ℕ → CallResult
+abbrev pub f_send : Processes → ℕ → CallResult
 f_send s p = sends s (user_at s p) (regs_at s p).a (regs_at s p).b

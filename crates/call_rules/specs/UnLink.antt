@@ -7,7 +7,7 @@ use Rattle.os9_base.specs.declared.errors.TheConstants.{E_MNF}
 use Rattle.proc_model.specs.Memory.{MemoryState, map_at}
 use Rattle.proc_model.specs.MemoryChanges.{group_unmapped}
 use Rattle.proc_model.specs.Slots.{group_slot}
-use Rattle.call_rules.specs.Inner.{Inner, own_at, regs_at, with_memory, with_own}
+use Rattle.call_rules.specs.Processes.{Processes, own_at, regs_at, with_memory, with_own}
 use Rattle.call_rules.specs.Link.{links_at, with_links_at}
 use Rattle.call_rules.specs.ModuleLinks.{Entered, module_at, without_module_link}
 use Rattle.call_rules.specs.CallResult.{CallResult, done, needs}
@@ -17,18 +17,18 @@ abbrev pub with_links_left : MemoryState → ℕ → List ℕ → ℕ → Memory
 with_links_left m p group left = if left == 0 then group_unmapped m p group else m
 
 -- the state in which a process has one link less to a group, which begins at this slot of its map
-abbrev pub without_group_link : Inner → ℕ → List ℕ → ℕ → Inner
+abbrev pub without_group_link : Processes → ℕ → List ℕ → ℕ → Processes
 without_group_link s p group slot =
     with_own (with_memory s (with_links_left s.memory p group (links_at (own_at s p) slot - 1))) p
     (with_links_at (own_at s p) slot (links_at (own_at s p) slot - 1))
 
 -- the state in which a process has given up a link to a module in its map
-abbrev pub after_unlink : Inner → ℕ → Entered → Inner
+abbrev pub after_unlink : Processes → ℕ → Entered → Processes
 after_unlink s p found =
     without_module_link (option_map_or (without_group_link s p found.entry.group)
     (group_slot (map_at s.memory p) found.entry.group) s) found.number
 
-abbrev pub f_unlink : Inner → ℕ → CallResult
+abbrev pub f_unlink : Processes → ℕ → CallResult
 f_unlink s p =
     needs (module_at s.memory.modules (map_at s.memory p) (regs_at s p).u) E_MNF
     (λ found. done (after_unlink s p found))

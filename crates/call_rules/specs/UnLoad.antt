@@ -4,11 +4,11 @@
 use Rattle.std.specs.Prelude.{ℕ}
 use Rattle.os9_base.specs.declared.errors.TheConstants.{E_BNAM, E_MNF}
 use Rattle.user_names.specs.UserNames.{name_at}
-use Rattle.call_rules.specs.Inner.{Inner, regs_at, cells_at}
+use Rattle.call_rules.specs.Processes.{Processes, regs_at, cells_at}
 use Rattle.call_rules.specs.ModuleLinks.{found_entry, without_module_link}
 use Rattle.call_rules.specs.CallResult.{CallResult, done, needs, reads_name}
 
-abbrev pub f_unload : Inner → ℕ → CallResult
+abbrev pub f_unload : Processes → ℕ → CallResult
 f_unload s p =
     reads_name (name_at (cells_at s p) (regs_at s p).x) E_BNAM
     (λ name. needs (found_entry s.memory.modules name (regs_at s p).a) E_MNF

@@ -9,14 +9,14 @@ use Rattle.os9_base.specs.declared.registers.Regs.{Regs}
 use Rattle.proc_rules.specs.declared.record.Reap.{Reap}
 use Rattle.proc_rules.specs.declared.record.Reap.TheVariants.{NoChild, NotYet}
 use Rattle.proc_rules.specs.Ends.{reaped, after_reap}
-use Rattle.call_rules.specs.Inner.{Inner, regs_at, with_records, with_regs_of}
+use Rattle.call_rules.specs.Processes.{Processes, regs_at, with_records, with_regs_of}
 use Rattle.call_rules.specs.CallResult.{CallResult, done, refused, waits}
 
 -- the registers after a child is returned, with its status
 abbrev pub reaped_regs : Regs → Pid × ℕ → Regs
 reaped_regs regs child = record regs { a = child.0.0; b = child.1 }
 
-abbrev pub f_wait : Inner → ℕ → CallResult
+abbrev pub f_wait : Processes → ℕ → CallResult
 f_wait s p = answer (reaped s.records p)
   where
     answer : Result (Pid × ℕ) Reap → CallResult

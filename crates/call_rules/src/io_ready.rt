@@ -1,7 +1,7 @@
 ghost use Rattle.std.specs.Prelude.{◌≡◌, ◌≢◌, ◌<◌, ℕ, Bool, true};
 ghost use Rattle.proc_rules.specs.Records.{IsLiving};
 ghost use Rattle.call_rules.specs.Choice.{choice_of};
-ghost use Rattle.call_rules.specs.Inner.{Inner};
+ghost use Rattle.call_rules.specs.Processes.{Processes};
 ghost use Rattle.call_rules.specs.IoReady.{has_io};
 ghost use Rattle.call_rules.specs.Ready.{no_io};
 
@@ -46,7 +46,7 @@ impl IoReady {
 
 /// A choice asks input and output only about living processes.
 pub fn a_choice_asks_for_the_living()
-    ensures { (io other : ℕ → Bool) (s : Inner)
+    ensures { (io other : ℕ → Bool) (s : Processes)
         → ((p : ℕ) → IsLiving s.records p → io p ≡ other p)
         → choice_of io s ≡ choice_of other s }
 {}

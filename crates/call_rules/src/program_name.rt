@@ -1,5 +1,5 @@
 ghost use Rattle.std.specs.Prelude.{◌≡◌};
-ghost use Rattle.call_rules.specs.Program.{is_unreadable as is_unreadable_lem, module_name as module_name_lem};
+ghost use Rattle.call_rules.specs.Program as model;
 
 use os9_base::name::Name;
 
@@ -18,14 +18,14 @@ pub enum ProgramName {
 impl ProgramName {
     /// Is a byte missing that has to be read?
     pub fn is_unreadable(&self) -> bool
-        ensures { result ≡ is_unreadable_lem self.now }
+        ensures { result ≡ model.is_unreadable self.now }
     {
         matches!(self, ProgramName::Unreadable)
     }
 
     /// The name of the entered module that is meant, if the bytes are one name.
     pub fn module_name(self) -> Option<Name>
-        ensures { result ≡ module_name_lem self }
+        ensures { result ≡ model.module_name self }
     {
         match self {
             ProgramName::OneName(name) => Some(name),

@@ -7,7 +7,7 @@ ghost use Rattle.call_rules.specs.declared.program_name.ProgramName.TheVariants.
 ghost use Rattle.call_rules.specs.CmpNam.{f_cmpnam};
 ghost use Rattle.call_rules.specs.End.{ended};
 ghost use Rattle.call_rules.specs.Fork.{f_fork};
-ghost use Rattle.call_rules.specs.Inner.{regs_at, cells_at};
+ghost use Rattle.call_rules.specs.Processes.{regs_at, cells_at};
 ghost use Rattle.call_rules.specs.PrsNam.{f_prsnam};
 ghost use Rattle.call_rules.specs.Attempts.{refused_regs};
 ghost use Rattle.call_rules.specs.CallResult.{done, refused};

@@ -27,7 +27,7 @@ use Rattle.io_rules.specs.Write.{error_line, i_write as writes_device, i_writln 
 use Rattle.file_rules.specs.Attempts.{file_step, files_after, io_effect}
 use Rattle.file_rules.specs.Change.{Change, sizes, writes}
 use Rattle.file_rules.specs.Files.{Asker, Files, OpenFile, open_file, with_position, with_records}
-use Rattle.file_rules.specs.Locking.{answer_to, asks, asks_by, call_of, first_request, is_for_update, position_of, records_after, request_kept, request_now, start_of}
+use Rattle.file_rules.specs.Locking.{answer_to, asks, asks_by, call_of, first_request, is_for_update, position_of, records_after, pending_request, request_now, start_of}
 use Rattle.file_rules.specs.OnFile.{by_kind, moves_bytes}
 use Rattle.file_rules.specs.Read.{answers_bytes, bytes_at, lock_by, read_claim, read_start, reads_file, reads_freely, reads_locked, reads_on}
 use Rattle.file_rules.specs.Seek.{long_of}
@@ -120,7 +120,7 @@ module _ (asker : Asker) (files : Files) (terms : ℕ) where
         by_test false effect before after (inr long, same) = inl (E_SLF, ap (λ (it : FileEffect). it.end) long.effect_is)
 
     -- a read begins where its request does
-    begins : (kind : ReadKind) → is_for_update found.opened.desc.mode ≡ true → (kept : Option Request) → request_kept asker files ≡ kept
+    begins : (kind : ReadKind) → is_for_update found.opened.desc.mode ≡ true → (kept : Option Request) → pending_request asker files ≡ kept
         → (unwrap_or kept (first_request asker found (read_claim kind asker found (read_start asker files found)))).lock.range.start ≡ read_start asker files found
     begins kind update None is = refl
     begins kind update (Some other) is =
@@ -152,7 +152,7 @@ module _ (asker : Asker) (files : Files) (terms : ℕ) where
           ∙ ap (λ (b : Bool). reaches found.place.drive (refuses b E_EOF (if is_for_update found.opened.desc.mode then locked else free))) (is-less (length found.file.contents) at more)
           ∙ ap (λ (b : Bool). reaches found.place.drive (if b then locked else free)) update,
       holds-so call request kind bytes answered (count_regs asker.caller (length bytes)) refl refl
-          (IsTaken.by_read reads (ap (bytes_at kind asker found) (sym (begins kind update (request_kept asker files) refl)))),
+          (IsTaken.by_read reads (ap (bytes_at kind asker found) (sym (begins kind update (pending_request asker files) refl)))),
     )
       where
         at : ℕ
@@ -212,12 +212,12 @@ module _ (asker : Asker) (files : Files) (terms : ℕ) where
     )
 
     by-line : (bytes : List ℕ) → Named Call.WritLn → CanWrite asker found
-        → line_moved asker (request_kept asker files) ≡ Some bytes → AsksFor Call.WritLn found
+        → line_moved asker (pending_request asker files) ≡ Some bytes → AsksFor Call.WritLn found
         (write_claim found I_WRITLN (length bytes))
     by-line bytes named (may, some) is = (
       write_next Call.WritLn I_WRITLN bytes (count_regs asker.caller (length bytes)),
       ap (λ (o : Option OpenFile). by_kind o (writes_device_line asker.caller files.io)
-          (λ opened. needs (line_moved asker (request_kept asker files)) E_BPADDR (sends_bytes asker files opened
+          (λ opened. needs (line_moved asker (pending_request asker files)) E_BPADDR (sends_bytes asker files opened
           I_WRITLN))) named
           ∙ ap (λ (o : Option (List ℕ)). needs o E_BPADDR (sends_bytes asker files found I_WRITLN)) is
           ∙ moves-next can_write (writes_bytes asker files found I_WRITLN bytes (count_regs asker.caller (length bytes))) may some,
@@ -350,8 +350,8 @@ module _ (it : Attempt) where
   pub broken-fault : IsBroken step asker it.files it.attempted.effect → HasFault it
   broken-fault broken =
       subst (λ (result : CallResult). OneDriveFails (drive_of step) it.files result it.new) (sym it.attempted.result_is)
-      (subst (λ (new : Files). OneDriveFails (drive_of step) it.files (result_of it.inner it.process (io_effect it.attempted.effect)) new) (sym it.attempted.state)
-      (subst (λ (effect : FileEffect). OneDriveFails (drive_of step) it.files (result_of it.inner it.process (io_effect effect)) (files_after it.process effect)) (sym broken.effect_is) (record {
+      (subst (λ (new : Files). OneDriveFails (drive_of step) it.files (result_of it.processes it.process (io_effect it.attempted.effect)) new) (sym it.attempted.state)
+      (subst (λ (effect : FileEffect). OneDriveFails (drive_of step) it.files (result_of it.processes it.process (io_effect effect)) (files_after it.process effect)) (sym broken.effect_is) (record {
         drive = broken.drive;
         reaches = broken.reached;
         number = broken.number;
@@ -377,8 +377,8 @@ module _ (it : Attempt) where
           so.requests.is so.answer) step is well.it it.before it.after well.does)))
       by_does (inr (broken, same)) = inr (broken-fault broken)
 
-  pub result-by : (end : IoEnd) → it.attempted.effect.end ≡ end → it.result ≡ result_by end it.inner it.process (io_effect it.attempted.effect)
-  result-by end is = it.attempted.result_is ∙ ap (λ (end : IoEnd). result_by end it.inner it.process (io_effect it.attempted.effect)) is
+  pub result-by : (end : IoEnd) → it.attempted.effect.end ≡ end → it.result ≡ result_by end it.processes it.process (io_effect it.attempted.effect)
+  result-by end is = it.attempted.result_is ∙ ap (λ (end : IoEnd). result_by end it.processes it.process (io_effect it.attempted.effect)) is
 
   -- if its request is granted, it is refused, or the request takes effect
   pub takes-effect : (request : Request) (granted : IsGranted (made_in it) request)
@@ -489,7 +489,7 @@ module _ (it : Attempt) where
 
   opposed : (number : ℕ) → is_of_lock number ≡ true → it.result ≡ CallResult.refused number → DoesAsDevice it ⊎ Opposed number
   opposed number of_lock is =
-      by_does it.attempted.does (ends-refused it.attempted.effect.end it.inner it.process (io_effect it.attempted.effect) number (sym it.attempted.result_is ∙ is))
+      by_does it.attempted.does (ends-refused it.attempted.effect.end it.processes it.process (io_effect it.attempted.effect) number (sym it.attempted.result_is ∙ is))
     where
       by_does : FileDoes step asker it.files it.attempted.effect it.before it.after → it.attempted.effect.end ≡ fails number → DoesAsDevice it ⊎ Opposed number
       by_does (inl well) ends =

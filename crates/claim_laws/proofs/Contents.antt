@@ -15,7 +15,7 @@ use Rattle.rbf_model.specs.Volume.{DiskVolume}
 use Rattle.rbf_change.specs.Calls.{SetsSize}
 use Rattle.rbf_change.specs.Faults.{SizeEnds}
 use Rattle.rbf_change.specs.NewFiles.{directory_plan, file_plan}
-use Rattle.io_rules.specs.Attempts.{kept_in}
+use Rattle.io_rules.specs.Attempts.{pending_in}
 use Rattle.io_rules.specs.Step.{IoEnd, answers}
 use Rattle.file_rules.specs.Attempts.{file_step}
 use Rattle.file_rules.specs.Change.{Change, Makes, MayLeave}
@@ -287,7 +287,7 @@ module _ (it : Attempt) (place : FilePlace) (kinds : AreKinds it.files) (covered
       behind
       ∙ ap (λ (end : IoEnd). records_after end effect.files.records it.process) end
       ∙ ap (λ (records : Records). records_after done.end records it.process) records
-      ∙ over-drops done.end done.files.records it.process (ap kept_in answered)
+      ∙ over-drops done.end done.files.records it.process (ap pending_in answered)
 
   deed-come : (reached : Option ℕ) (deed : Deed) → Claimed it.call m.asker it.files m.terms reached deed
       → (effect : FileEffect) (before after : List TerminalState) → IsBehind effect → DoesDeed deed m.asker it.files

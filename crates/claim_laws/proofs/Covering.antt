@@ -9,7 +9,7 @@ use Rattle.io_model.specs.declared.terminal.ReadKind.{ReadKind}
 use Rattle.io_model.specs.declared.terminal.ReadKind.TheVariants.{Bytes, WholeLine}
 use Rattle.io_rules.specs.Write.{error_line}
 use Rattle.file_rules.specs.Files.{OpenFile}
-use Rattle.file_rules.specs.Locking.{first_request, range_of, request_kept}
+use Rattle.file_rules.specs.Locking.{first_request, range_of, pending_request}
 use Rattle.file_rules.specs.Seek.{long_of}
 use Rattle.file_rules.specs.Read.{read_claim, read_start}
 use Rattle.file_rules.specs.Status.{lock_claim, size_claim}
@@ -74,17 +74,17 @@ module _ (m : Made) (found : OpenFile) where
 
 module _ (m : Made) (covered : IsCovered m) (request : Request) (it : Requests m request) where
   pub request-covers : CoversCall m.call m.asker.caller.regs request
-  request-covers = by_kept (request_kept m.asker m.files) refl it.is
+  request-covers = by_kept (pending_request m.asker m.files) refl it.is
     where
-      by_kept : (kept : Option Request) → request_kept m.asker m.files ≡ kept → request ≡ unwrap_or kept (first_request m.asker it.found it.claim) → CoversCall m.call m.asker.caller.regs request
+      by_kept : (kept : Option Request) → pending_request m.asker m.files ≡ kept → request ≡ unwrap_or kept (first_request m.asker it.found it.claim) → CoversCall m.call m.asker.caller.regs request
       by_kept None none is =
           subst (CoversCall m.call m.asker.caller.regs) (sym is) (claim-covers m it.found it.claim it.claims)
       by_kept (Some other) there is = subst (CoversCall m.call m.asker.caller.regs) (sym is) (covered other there).0
 
   pub request-file : request.lock.file ≡ it.found.place
-  request-file = by_kept (request_kept m.asker m.files) refl it.is
+  request-file = by_kept (pending_request m.asker m.files) refl it.is
     where
-      by_kept : (kept : Option Request) → request_kept m.asker m.files ≡ kept → request ≡ unwrap_or kept (first_request m.asker it.found it.claim) → request.lock.file ≡ it.found.place
+      by_kept : (kept : Option Request) → pending_request m.asker m.files ≡ kept → request ≡ unwrap_or kept (first_request m.asker it.found it.claim) → request.lock.file ≡ it.found.place
       by_kept None none is = ap (λ (request : Request). request.lock.file) is
       by_kept (Some other) there is =
           ap (λ (request : Request). request.lock.file) is ∙ (covered other there).1 it.found it.names

@@ -100,13 +100,13 @@ module _ (boot : Boot) (s : State) (starts : Starts boot s) (ran : World) (new :
       ran.devices ⊎ BreaksAtEntry call t now p ran.devices → BreaksAtByte call t now p again.devices ⊎ BreaksAtEntry
       call t now p again.devices
   lacks-again t call now p none (inl it) =
-      inl (record { lacks = subst (λ (terms : List TerminalState). LacksMemory call t.inner t.files now p t.terms terms) (sym terms_left) it.lacks; drives = holds-again t none it.drives })
+      inl (record { lacks = subst (λ (terms : List TerminalState). LacksMemory call t.processes t.files now p t.terms terms) (sym terms_left) it.lacks; drives = holds-again t none it.drives })
   lacks-again t call now p none (inr it) =
       inr (record {
         done = it.done;
-        lacks = subst (λ (terms : List TerminalState). LacksEntry call t.inner t.files now p it.done t.terms terms) (sym terms_left) it.lacks;
+        lacks = subst (λ (terms : List TerminalState). LacksEntry call t.processes t.files now p it.done t.terms terms) (sym terms_left) it.lacks;
         drives = holds-again (record t { files = it.done })
-            (λ drive is. (path-keeps call t.inner t.files now p it.lacks.result it.done t.terms _
+            (λ drive is. (path-keeps call t.processes t.files now p it.lacks.result it.done t.terms _
             it.lacks.attempts).none drive (none drive is)) it.drives;
       })
 

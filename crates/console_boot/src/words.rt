@@ -3,7 +3,7 @@
 ghost use Rattle.std.specs.Prelude.{◌≡◌, ◌+◌, ◌∷◌, ◌++◌, None, Some, [], IfOk, map, option_map, string_bytes, take};
 ghost use Rattle.os9_words.specs.Command.{most_images, IsBoot, OnRefused};
 ghost use Rattle.console_boot.specs.Words.{console_of, option_words, replay_words};
-ghost use Rattle.console_boot.specs.Words.{is_image as is_image_lem, overwrites as overwrites_lem};
+ghost use Rattle.console_boot.specs.Words as model;
 
 use command_files::names::name_in;
 use command_files::status::Input;
@@ -127,14 +127,14 @@ fn push_option(
 
 /// Has a file of the record the name of an image?
 fn overwrites(boot: &RunWords) -> bool
-    ensures { result ≡ overwrites_lem boot.now }
+    ensures { result ≡ model.overwrites boot.now }
 {
     is_image(boot, name_in(boot, Input::Script)) || is_image(boot, boot.slices.text())
 }
 
 /// Has an image this name?
 fn is_image(boot: &RunWords, name: &str) -> bool
-    ensures { result ≡ is_image_lem boot.now name.now }
+    ensures { result ≡ model.is_image boot.now name.now }
 {
     for place in 0..boot.files.len() {
         if name == boot.files.word(place).text() {

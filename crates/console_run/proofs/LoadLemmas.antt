@@ -38,7 +38,7 @@ represents-with kernel devices now s drives count tied =
     let same : here ≡ now = λ i. record { drives = sym drives i; terms = now.terms } in
     subst (λ (outside : Outside). Represents kernel outside (record s { terms = now.terms })) same
     (record {
-      inner = tied.inner;
+      processes = tied.processes;
       files = tied.files;
       is = λ i. record (tied.is i) { terms = now.terms };
       run = terminals-open s now.terms (count ∙ ap length (sym there)) tied.run;

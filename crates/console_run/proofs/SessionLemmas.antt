@@ -233,7 +233,7 @@ module _ (setup : Setup) (typed : Typed) (from to : KeyboardState) (kernel later
     -- to its end
     pub session-over : (living ticks : ℕ) (end : RunEnd) → ((s : State) → All IsObserved started.terms
         → Represents kernel started s → RunsSession Stop.Over s later typed from to began after)
-        → ((t : State) → Represents later after.devices t → living ≡ living_count t.inner)
+        → ((t : State) → Represents later after.devices t → living ≡ living_count t.processes)
         → (living ≡ 0 → end ≡ Ended ticks) → (living ≢ 0 → end ≡ Living ticks)
         → All IsObserved before.devices.terms → IsSessionTo (LeadsSession setup typed history before after) (OfRun end) from to before after
     session-over zero ticks end session alive idle lives told =

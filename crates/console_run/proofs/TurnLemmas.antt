@@ -11,7 +11,7 @@ use Rattle.boot_run.specs.Loaded.{keys_for}
 use Rattle.script_text.specs.declared.script.ScriptKey.{ScriptKey}
 use Rattle.device_table.proofs.StreamLemmas.{appended-twice, appended-nothing}
 use Rattle.file_drives.specs.Drives.{DriveView}
-use Rattle.call_rules.specs.Inner.{Inner}
+use Rattle.call_rules.specs.Processes.{Processes}
 use Rattle.event_rules.specs.Console.{console_bytes, terminals_emptied}
 use Rattle.event_rules.specs.State.{living_count}
 use Rattle.event_rules.specs.declared.ends.SliceEnd.{SliceEnd}
@@ -59,13 +59,13 @@ asks-with drive at keys it = record {
   now = it.now;
   is_now = it.is_now;
   step = it.step;
-  step_is = it.step_is ∙ ap (λ (count : ℕ). file_step it.call (asker_of at.inner it.p it.now) at.files count) (sym (count-loaded at.terms keys));
+  step_is = it.step_is ∙ ap (λ (count : ℕ). file_step it.call (asker_of at.processes it.p it.now) at.files count) (sym (count-loaded at.terms keys));
   reached = it.reached;
   change = it.change;
   deed = it.deed;
 }
 
-begins-at-with : (n : ℕ) (u at : State) (states : List State) (keys : Keys) → AreLater (u.inner.tick + 1) keys
+begins-at-with : (n : ℕ) (u at : State) (states : List State) (keys : Keys) → AreLater (u.processes.tick + 1) keys
     → BeginsAt (BeginsSlice n u) states at → BeginsAt (BeginsSlice n (with_keys u keys)) (each_with keys states)
     (with_keys at keys)
 begins-at-with n u at states keys later it = record {
@@ -73,13 +73,13 @@ begins-at-with n u at states keys later it = record {
   there = begins-with n u at it.first keys later it.there;
   next = with_keys it.next keys;
   end = it.end;
-  event = event-with (u.inner.tick + 1) at it.next it.end keys later it.event;
+  event = event-with (u.processes.tick + 1) at it.next it.end keys later it.event;
   later = each_with keys it.later;
   all = ap (each_with keys) it.all ∙ map-append (λ (s : State). with_keys s keys) it.first (it.next ∷ it.later);
 }
 
 keeps-with : (n : ℕ) (u : State) (states : List State) (keys : Keys) (before after : List DriveView)
-    → AreLater (u.inner.tick + 1) keys → KeepsImages (BeginsSlice n u) states before after
+    → AreLater (u.processes.tick + 1) keys → KeepsImages (BeginsSlice n u) states before after
     → KeepsImages (BeginsSlice n (with_keys u keys)) (each_with keys states) before after
 keeps-with n u states keys before after later kept drive none =
     kept drive (λ at it asks. none (with_keys at keys) (begins-at-with n u at states keys later it) (asks-with drive at keys asks))
@@ -117,7 +117,7 @@ pub record HasCome (start : List DriveView) (first : Option (List ℕ)) (place :
   pub tied : Represents kernel devices m
   pub gained : out ≡ stream_with first written
   pub turns : HasTurns place last first from s m written
-  pub goes : (more : Keys) (extra : List ℕ) → AreLater m.inner.tick more → GoesWith start devices.drives (keys_for 0 (kept_keys place.typed)) (kept_slices place.typed) s m written more extra
+  pub goes : (more : Keys) (extra : List ℕ) → AreLater m.processes.tick more → GoesWith start devices.drives (keys_for 0 (kept_keys place.typed)) (kept_slices place.typed) s m written more extra
 
 -- nothing was typed or run yet
 goes-none : (start : List DriveView) (s : State) (more : Keys) (extra : List ℕ) → GoesWith start start [] [] s s [] more extra
@@ -157,12 +157,12 @@ comes-untyped first place s kernel devices untyped no_rest told tied =
 
 -- ---- one turn more
 
-pub tick-tied : (kernel : Kernel) (devices : Outside) (m : State) → Represents kernel devices m → m.inner.tick ≡ ticks kernel
-tick-tied kernel devices m tied = ap (λ (inner : Inner). inner.tick) tied.inner.is
+pub tick-tied : (kernel : Kernel) (devices : Outside) (m : State) → Represents kernel devices m → m.processes.tick ≡ ticks kernel
+tick-tied kernel devices m tied = ap (λ (processes : Processes). processes.tick) tied.processes.is
 
 -- one turn
 types-one : (last : SliceEnd) (rest : List ℕ) (m t : State) (turn : TypedTurn) (first : List State) → has_living m ≡ true
-    → turn.tick ≡ m.inner.tick + 1 → TypesIf (WaitsForLine last m) rest turn.line turn.bytes
+    → turn.tick ≡ m.processes.tick + 1 → TypesIf (WaitsForLine last m) rest turn.line turn.bytes
     → Slice SLICE (with_keys m (turn_of turn).load) first turn.end t → turn.written ≡ console_bytes t.terms
     → TypedTurns last rest (turn ∷ []) m first (console_bytes t.terms) (record t { terms = terminals_emptied t.terms })
 types-one last rest m t turn first lives tick asked slice wrote =
@@ -171,7 +171,7 @@ types-one last rest m t turn first lives tick asked slice wrote =
 -- turns with one more
 types-more : (last : SliceEnd) (rest : List ℕ) (turns : List TypedTurn) (s m t : State) (turn : TypedTurn)
     (states first : List State) (written : List ℕ) → TypedTurns last rest turns s states written m → has_living m ≡ true
-    → turn.tick ≡ m.inner.tick + 1
+    → turn.tick ≡ m.processes.tick + 1
     → TypesIf (WaitsForLine (last_end last turns) m) (left_of rest turns) turn.line turn.bytes
     → Slice SLICE (with_keys m (turn_of turn).load) first turn.end t → turn.written ≡ console_bytes t.terms
     → TypedTurns last rest (turns ++ turn ∷ []) s (states ++ first) (written ++ console_bytes t.terms) (record t { terms = terminals_emptied t.terms })
@@ -233,7 +233,7 @@ lines-behind turns turn =
 
 -- where some process lives
 abbrev pub SomeLives : Kernel → Outside → Type 0
-SomeLives kernel devices = (m : State) → Represents kernel devices m → living_count m.inner ≢ 0
+SomeLives kernel devices = (m : State) → Represents kernel devices m → living_count m.processes ≢ 0
 
 pub get-behind : (ran extra : List ℕ) (n : ℕ) → slice_get (ran ++ n ∷ extra) (length ran) ≡ Some n
 get-behind [] extra n = refl
@@ -258,8 +258,8 @@ stops-from u origin before now first written out gained_first none stops = by st
 
 module _ (start : List DriveView) (keys load : List Key) (ran : List ℕ) (s m : State) (written : List ℕ)
     (kernel after : Kernel) (before now : World) (tied : Represents kernel before.devices m)
-    (alive : has_living m ≡ true) (goes : (more : Keys) (extra : List ℕ) → AreLater m.inner.tick more
-    → GoesWith start before.devices.drives keys ran s m written more extra) (due : AreLater m.inner.tick (load ∷ []))
+    (alive : has_living m ≡ true) (goes : (more : Keys) (extra : List ℕ) → AreLater m.processes.tick more
+    → GoesWith start before.devices.drives keys ran s m written more extra) (due : AreLater m.processes.tick (load ∷ []))
   where
     -- a slice was run from there, with the keys that were loaded
     module _ (end : SliceEnd) (passes : PassesSlice (with_keys m (load ∷ [])) after before now end) (count : ticks after ≡ ticks kernel + 1) where
@@ -272,16 +272,16 @@ module _ (start : List DriveView) (keys load : List Key) (ran : List ℕ) (s m :
       abbrev emptied : State
       emptied = record t { terms = terminals_emptied t.terms }
 
-      pub ticked : t.inner.tick ≡ m.inner.tick + 1
+      pub ticked : t.processes.tick ≡ m.processes.tick + 1
       ticked = tick-tied after now.devices emptied passes.there ∙ count ∙ ap (λ (tick : ℕ). tick + 1) (sym (tick-tied kernel before.devices m tied))
 
-      pub goes-on : (more : Keys) (extra : List ℕ) → AreLater t.inner.tick more → GoesWith start now.devices.drives
+      pub goes-on : (more : Keys) (extra : List ℕ) → AreLater t.processes.tick more → GoesWith start now.devices.drives
           (keys ++ load) (ran ++ SLICE ∷ []) s emptied (written ++ console_bytes t.terms) more extra
       goes-on more extra later =
-          let due_more : AreLater (m.inner.tick + 1) more = subst (λ (tick : ℕ). AreLater tick more) ticked later in
+          let due_more : AreLater (m.processes.tick + 1) more = subst (λ (tick : ℕ). AreLater tick more) ticked later in
           let behind : Keys = keys_then (load ∷ []) more in
           let it : GoesWith start before.devices.drives keys ran s m written behind (SLICE ∷ extra) = goes behind
-          (SLICE ∷ extra) (later-then m.inner.tick (load ∷ []) more due (later-before m.inner.tick more due_more))
+          (SLICE ∷ extra) (later-then m.processes.tick (load ∷ []) more due (later-before m.processes.tick more due_more))
           in
           let loaded : with_keys m behind ≡ with_keys u more = ap (λ (terms : List TerminalState). record m { terms = terms }) (load-then m.terms (load ∷ []) more) in
           let slice : Slice SLICE (with_keys u more) (each_with more passes.states) end (with_keys t more) = slice-with SLICE u t passes.states end more due_more passes.slice in
@@ -440,12 +440,12 @@ module _ (start : List DriveView) (first : Option (List ℕ)) (was place : Conso
   alive : has_living m ≡ true
   alive = some-living m (lives m here.tied)
 
-  tick-here : m.inner.tick ≡ ticks kernel
+  tick-here : m.processes.tick ≡ ticks kernel
   tick-here = tick-tied kernel before.devices m here.tied
 
   -- a turn was made
   module _ (end : SliceEnd) (made : TakesTurn was place last kernel after (Ok end) before now) where
-    passes : PassesSlice (with_keys m (load_of (keys_typed (m.inner.tick + 1) made.bytes))) after before now end
+    passes : PassesSlice (with_keys m (load_of (keys_typed (m.processes.tick + 1) made.bytes))) after before now end
     passes =
         subst (λ (tick : ℕ). PassesSlice (with_keys m (load_of (keys_typed (tick + 1) made.bytes))) after before now end) (sym tick-here) (made.ran m here.tied)
 
@@ -454,15 +454,15 @@ module _ (start : List DriveView) (first : Option (List ℕ)) (was place : Conso
 
     abbrev turn : TypedTurn
     turn = record {
-      tick = m.inner.tick + 1;
+      tick = m.processes.tick + 1;
       line = made.line;
       bytes = made.bytes;
       end = end;
       written = console_bytes over.terms;
     }
 
-    due : AreLater m.inner.tick (load_of (turn_keys turn))
-    due = load-later m.inner.tick (turn_keys turn) (all-typed (m.inner.tick + 1) made.bytes)
+    due : AreLater m.processes.tick (load_of (turn_keys turn))
+    due = load-later m.processes.tick (turn_keys turn) (all-typed (m.processes.tick + 1) made.bytes)
 
     kept : kept_keys new ≡ kept_keys old ++ turn_keys turn
     kept = made.kept ∙ ap (λ (tick : ℕ). kept_keys old ++ keys_typed (tick + 1) made.bytes) (sym tick-here)
@@ -470,7 +470,7 @@ module _ (start : List DriveView) (first : Option (List ℕ)) (was place : Conso
     abbrev bare : State
     bare = record over { terms = terminals_emptied over.terms }
 
-    ticked-then : over.inner.tick ≡ m.inner.tick + 1
+    ticked-then : over.processes.tick ≡ m.processes.tick + 1
     ticked-then = ticked start (keys_for 0 (kept_keys old)) (keys_for 0 (turn_keys turn)) (kept_slices old) s m here.written kernel after before now here.tied alive here.goes due end passes made.count
 
     turns-on : HasTurns place end first from s bare (here.written ++ console_bytes over.terms)
@@ -506,7 +506,7 @@ module _ (start : List DriveView) (first : Option (List ℕ)) (was place : Conso
               (takes-then (lines_of it.turns) (line_list made.line) (shown_at first it.turns) (shown_for before.out made.line) from was.keyboard place.keyboard it.taken made.taken));
         }
 
-    goes-then : (more : Keys) (extra : List ℕ) → AreLater over.inner.tick more → GoesWith start now.devices.drives
+    goes-then : (more : Keys) (extra : List ℕ) → AreLater over.processes.tick more → GoesWith start now.devices.drives
         (keys_for 0 (kept_keys new)) (kept_slices new) s bare (here.written ++ console_bytes over.terms) more extra
     goes-then more extra later =
         let gone : GoesWith start now.devices.drives (keys_for 0 (kept_keys old) ++ keys_for 0 (turn_keys turn))
@@ -542,10 +542,10 @@ module _ (start : List DriveView) (first : Option (List ℕ)) (was place : Conso
       → TakesTurn was place last kernel after (Err fault) before now → HasPart s new from place.keyboard origin now
   part-typed fault origin out none made =
       let it : HasTurns was last first from s m here.written = here.turns in
-      let load : List ScriptKey = keys_typed (m.inner.tick + 1) made.bytes in
+      let load : List ScriptKey = keys_typed (m.processes.tick + 1) made.bytes in
       let kept : kept_keys new ≡ kept_keys old ++ load = made.kept ∙ ap (λ (tick : ℕ). kept_keys old ++ keys_typed (tick + 1) made.bytes) (sym tick-here) in
       let gone : GoesWith start before.devices.drives (keys_for 0 (kept_keys old)) (kept_slices old) s m here.written
-      (load_of load) (SLICE ∷ []) = here.goes (load_of load) (SLICE ∷ []) (load-later m.inner.tick load (all-typed (m.inner.tick + 1) made.bytes)) in
+      (load_of load) (SLICE ∷ []) = here.goes (load_of load) (SLICE ∷ []) (load-later m.processes.tick load (all-typed (m.processes.tick + 1) made.bytes)) in
       let ran : Run (kept_slices old) (with_keys s (load_of (kept_keys new))) gone.states here.written (with_bytes m made.bytes) = subst
       (λ (keys : List Key). Run (kept_slices old) (with_keys s (keys ∷ [])) gone.states here.written (with_bytes m made.bytes)) (all-keys old new load kept) gone.run in
       let stops : StopsTurn (with_bytes m made.bytes) before now = subst (λ (tick : ℕ). StopsTurn (with_keys m (load_of (keys_typed (tick + 1) made.bytes))) before now)
@@ -581,7 +581,8 @@ module _ (start : List DriveView) (first : Option (List ℕ)) (was place : Conso
       (with_keys s (load_of (kept_keys new))) origin now
   partly-typed fault origin out none made =
       let load : List ScriptKey = keys_typed (ticks kernel + 1) made.bytes in
-      let due : AreLater m.inner.tick (load_of load) = subst (λ (tick : ℕ). AreLater tick (load_of load)) (sym tick-here) (load-later (ticks kernel) load (all-typed (ticks kernel + 1) made.bytes)) in
+      let due : AreLater m.processes.tick (load_of load) =
+          subst (λ (tick : ℕ). AreLater tick (load_of load)) (sym tick-here) (load-later (ticks kernel) load (all-typed (ticks kernel + 1) made.bytes)) in
       let part : RunsPartly (kept_slices old ++ SLICE ∷ [])
       (with_keys s ((keys_for 0 (kept_keys old) ++ keys_for 0 load) ∷ [])) origin now = comes-partly start
       (keys_for 0 (kept_keys old)) (keys_for 0 load) (kept_slices old) s m here.written kernel after before now

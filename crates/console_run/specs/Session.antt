@@ -87,7 +87,7 @@ StopsFor Stop.LineLost turns t from to before after = StopsAtLine turns t from t
 
 -- a state with keys of these bytes, due in the tick that comes
 abbrev pub with_bytes : State → List ℕ → State
-with_bytes m bytes = with_keys m (load_of (keys_typed (m.inner.tick + 1) bytes))
+with_bytes m bytes = with_keys m (load_of (keys_typed (m.processes.tick + 1) bytes))
 
 -- A session from s that stopped within the slice behind these turns, or as the bytes of that slice were put out. What
 -- is kept was typed in these turns and before that slice, each at its time, and over it the turns are one run.
@@ -101,7 +101,7 @@ pub record HasPart (s : State) (typed : Typed) (from to : KeyboardState) (before
   pub line : Option (List ℕ)
   pub bytes : List ℕ
   pub types : TypesIf (WaitsForLine (last_end at_start turns) m) (left_of [] turns) line bytes
-  pub keys : kept_keys typed ≡ flat_map turn_keys turns ++ keys_typed (m.inner.tick + 1) bytes
+  pub keys : kept_keys typed ≡ flat_map turn_keys turns ++ keys_typed (m.processes.tick + 1) bytes
   pub slices : typed.slices ≡ length turns + 1
   pub through : List State
   pub run : Run (replicate (length turns) SLICE) (with_keys s (load_of (kept_keys typed))) through written

@@ -57,7 +57,7 @@ left_of rest (turn ∷ turns) = left_of (left_after rest turn.line turn.bytes) t
 abbrev pub TypedTurns : SliceEnd → List ℕ → List TypedTurn → State → List State → List ℕ → State → Type 0
 TypedTurns last rest [] s states written t = (states ≡ []) × (written ≡ []) × (t ≡ s)
 TypedTurns last rest (turn ∷ turns) s states written t =
-    (has_living s ≡ true) × (turn.tick ≡ s.inner.tick + 1) × TypesIf (WaitsForLine last s) rest turn.line turn.bytes
+    (has_living s ≡ true) × (turn.tick ≡ s.processes.tick + 1) × TypesIf (WaitsForLine last s) rest turn.line turn.bytes
     × (m : State) × (first later : List State) × (more : List ℕ)
     × Slice SLICE (with_keys s (turn_of turn).load) first turn.end m × (states ≡ first ++ later)
     × (turn.written ≡ console_bytes m.terms) × (written ≡ turn.written ++ more)

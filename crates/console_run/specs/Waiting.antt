@@ -25,4 +25,4 @@ pub record WaitsForLine (end : SliceEnd) (s : State) : Type 0 where
 
 -- no slice can follow: no process lives, or the last tick would come
 abbrev pub IsOver : State → Type 0
-IsOver s = (has_living s ≡ false) ⊎ (s.inner.tick + 1 ≡ LAST_TICK)
+IsOver s = (has_living s ≡ false) ⊎ (s.processes.tick + 1 ≡ LAST_TICK)

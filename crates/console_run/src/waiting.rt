@@ -5,7 +5,7 @@ ghost use Rattle.machine_model.specs.State.{State};
 ghost use Rattle.os9_base.specs.declared.limits.TheConstants.{PROCESS_PLACES};
 ghost use Rattle.os9_kernel.specs.Outside.{Outside, outside};
 ghost use Rattle.os9_kernel.specs.Tie.{Represents};
-ghost use Rattle.os9_kernel.specs.View.{wakes_by_clock as wakes_by_clock_lem};
+ghost use Rattle.os9_kernel.specs.View as model;
 ghost use Rattle.console_run.specs.Turn.{AllWait};
 ghost use Rattle.console_run.specs.Waiting.{NoneWakes, WaitsForLine};
 
@@ -50,7 +50,7 @@ pub(crate) fn waits_for_line(
 fn wakes_by_clock(kernel: &Kernel) -> bool
     ensures one { IsTrue result → (devices : Outside) (s : State)
         → Represents kernel.now devices s
-        → (p : ℕ) × (p < PROCESS_PLACES) × IsTrue (wakes_by_clock_lem s p) }
+        → (p : ℕ) × (p < PROCESS_PLACES) × IsTrue (model.wakes_by_clock s p) }
     ensures none { IsFalse result → (devices : Outside) (s : State)
         → Represents kernel.now devices s → NoneWakes s }
 {

@@ -5,7 +5,7 @@ use Rattle.std.specs.List.{range_with_len}
 use Rattle.os9_base.specs.Cells.{Cells}
 use Rattle.os9_base.specs.declared.registers.Regs.{Regs}
 use Rattle.proc_rules.specs.Records.{is_living}
-use Rattle.call_rules.specs.Inner.{cells_at, regs_at}
+use Rattle.call_rules.specs.Processes.{cells_at, regs_at}
 use Rattle.event_rules.specs.Start.{first_process}
 use Rattle.machine_model.specs.State.{State}
 use Rattle.asm_model.specs.Numbers.{two_digits, four_digits}
@@ -17,11 +17,11 @@ shown s = unwrap_or s.chosen first_process.0
 
 -- its registers, if it lives
 abbrev pub shown_regs : State → Option Regs
-shown_regs s = if is_living s.inner.records (shown s) then Some (regs_at s.inner (shown s)) else None
+shown_regs s = if is_living s.processes.records (shown s) then Some (regs_at s.processes (shown s)) else None
 
 -- the bytes that it sees
 abbrev pub shown_cells : State → Cells
-shown_cells s = cells_at s.inner (shown s)
+shown_cells s = cells_at s.processes (shown s)
 
 -- registers in upper-case hexadecimal digits
 abbrev pub regs_text : Regs → List ℕ

@@ -1,6 +1,6 @@
 ghost use Rattle.std.specs.Prelude.{◌≡◌, ◌++◌, IfOk, OnOk};
 ghost use Rattle.std.specs.List.{flat_map};
-ghost use Rattle.asm_model.specs.Numbers.{four_digits as four_digits_lem};
+ghost use Rattle.asm_model.specs.Numbers as model;
 ghost use Rattle.cpu_model.specs.Reading.{reading};
 ghost use Rattle.debug_text.specs.Disassembly.{dis_line, reading_length};
 ghost use Rattle.debug_text.specs.Show.{byte_text, end_line, life_text, regs_line, regs_text};
@@ -103,7 +103,7 @@ fn push_registers(out: &mut Vec<u8>, regs: &Regs) -> Result<(), AllocError>
 
 /// Appends an address, in four hexadecimal digits.
 pub fn push_address(out: &mut Vec<u8>, at: u16) -> Result<(), AllocError>
-    ensures { OnOk result (out.new.items ≡ out.old.items ++ four_digits_lem at) }
+    ensures { OnOk result (out.new.items ≡ out.old.items ++ model.four_digits at) }
 {
     out.extend_from_slice(&four_digits(at))
 }

@@ -3,30 +3,30 @@ use Rattle.std.proofs.Common.{◌≡◌, ◌∙◌, ℕ, Option, Some, List, ap,
 use Rattle.os9_base.specs.declared.call.CallEnd.{CallEnd}
 use Rattle.os9_base.specs.declared.registers.Regs.{Regs}
 use Rattle.os9_outer.specs.TerminalState.{TerminalState, ChangesOneTerminal}
-use Rattle.call_rules.specs.Inner.{Inner, regs_at}
+use Rattle.call_rules.specs.Processes.{Processes, regs_at}
 use Rattle.io_model.specs.Terminal.{Reads, stored_bytes}
-use Rattle.io_model.specs.declared.kept.Kept.{Kept}
+use Rattle.io_model.specs.declared.pending.PendingCall.{PendingCall}
 use Rattle.io_model.specs.declared.terminal.Progress.{Progress}
 use Rattle.io_model.specs.declared.terminal.Progress.TheVariants.{Done, Wait, End, Fault, NoMemory}
-use Rattle.io_rules.specs.Attempts.{caller_of, kept_in, result_by}
+use Rattle.io_rules.specs.Attempts.{caller_of, pending_in, result_by}
 use Rattle.io_rules.specs.Io.{Io, terminal_at, with_call, with_terminal}
 use Rattle.io_rules.specs.Step.{IoEnd, TerminalRead, reads, stores}
 use Rattle.io_rules.specs.Terminals.{read_ends, read_leaves, request_of}
-use Rattle.io_state.specs.Terminals.{kept_after}
+use Rattle.io_state.specs.Terminals.{pending_after}
 use Rattle.proc_state.specs.Tie.{Comes}
 use Rattle.proc_state.specs.declared.state.ProcState.{ProcState}
 use Rattle.io_rules.specs.Memory.{WantsMemory}
 use Rattle.device_io.specs.Trying.{EndsBy, Tries}
 use Rattle.device_io.proofs.TryingLemmas.{never-wants, tries-takes}
 
-module _ (m : Inner) (io : Io) (p : ℕ) (processes : ProcState) (new : Io) (before after : List TerminalState) (read : TerminalRead) (regs : Regs) (taken : List ℕ) (end : CallEnd) where
+module _ (m : Processes) (io : Io) (p : ℕ) (processes : ProcState) (new : Io) (before after : List TerminalState) (read : TerminalRead) (regs : Regs) (taken : List ℕ) (end : CallEnd) where
   -- a read that the terminal answered so, and that has this end
-  ended : (answer : Progress) (it : IoEnd) → read_ends (caller_of m p) read answer ≡ Some it → kept_after answer
-      read.call ≡ kept_in it → regs ≡ regs_at m p → ChangesOneTerminal (Reads (request_of (caller_of m p) read) answer
+  ended : (answer : Progress) (it : IoEnd) → read_ends (caller_of m p) read answer ≡ Some it → pending_after answer
+      read.call ≡ pending_in it → regs ≡ regs_at m p → ChangesOneTerminal (Reads (request_of (caller_of m p) read) answer
       (terminal_at io read.terminal) (terminal_at new read.terminal)) read.terminal before after
       → taken ≡ stored_bytes answer (request_of (caller_of m p) read) (terminal_at io read.terminal)
       → new ≡ with_call (with_terminal io read.terminal (terminal_at new read.terminal)) p
-      (kept_after answer read.call) → ((other : Io) → Comes m p (result_by it m p (stores regs.x taken it other)) end
+      (pending_after answer read.call) → ((other : Io) → Comes m p (result_by it m p (stores regs.x taken it other)) end
       processes) → Tries (reads read) m io p end processes new before after
   ended answer it ends_is kept_is same device stored_is state came =
       let bytes : List ℕ = stored_bytes answer (request_of (caller_of m p) read) (terminal_at io read.terminal) in
@@ -41,7 +41,7 @@ module _ (m : Inner) (io : Io) (p : ℕ) (processes : ProcState) (new : Io) (bef
         effect = read_leaves (caller_of m p) io read answer (terminal_at new read.terminal) it;
         does = record { answer = answer; new = terminal_at new read.terminal; end = it; device = device; ends = ends_is; effect_is = refl };
         comes = by_regs;
-        state = state ∙ ap (λ (k : Option Kept). with_call io_then p k) kept_is;
+        state = state ∙ ap (λ (k : Option PendingCall). with_call io_then p k) kept_is;
       })
 
   -- by what the terminal answered
@@ -49,7 +49,7 @@ module _ (m : Inner) (io : Io) (p : ℕ) (processes : ProcState) (new : Io) (bef
       (Reads (request_of (caller_of m p) read) answer (terminal_at io read.terminal) (terminal_at new read.terminal))
       read.terminal before after → taken ≡ stored_bytes answer (request_of (caller_of m p) read)
       (terminal_at io read.terminal) → new ≡ with_call (with_terminal io read.terminal
-      (terminal_at new read.terminal)) p (kept_after answer read.call)
+      (terminal_at new read.terminal)) p (pending_after answer read.call)
       → EndsBy (read_ends (caller_of m p) read answer) regs.x taken m p end processes → Tries (reads read) m io p end
       processes new before after
   tries-read (Done count) same device stored_is state ends = ended (Done count) _ refl refl same device stored_is state ends

@@ -4,11 +4,11 @@ use Rattle.os9_base.specs.Cells.{Cells, FitsIn}
 use Rattle.os9_base.specs.declared.call.CallEnd.{CallEnd}
 use Rattle.os9_base.specs.declared.registers.Regs.{Regs}
 use Rattle.proc_model.specs.MemoryChanges.{stored}
-use Rattle.call_rules.specs.Inner.{Inner, regs_at, with_memory, with_regs_of}
-use Rattle.io_model.specs.Kept.{count_left, moved_on}
+use Rattle.call_rules.specs.Processes.{Processes, regs_at, with_memory, with_regs_of}
+use Rattle.io_model.specs.Pending.{count_left, moved_on}
 use Rattle.io_model.specs.Path.{PathTable}
 use Rattle.io_model.specs.Pipe.{read_answer, read_line_answer, bytes_moved}
-use Rattle.io_model.specs.declared.kept.Kept.{Kept}
+use Rattle.io_model.specs.declared.pending.PendingCall.{PendingCall}
 use Rattle.io_model.specs.declared.pipe.PipeAns.{PipeAns}
 use Rattle.io_rules.specs.Attempts.{caller_of}
 use Rattle.io_rules.specs.Codes.{direction_of}
@@ -20,7 +20,7 @@ use Rattle.proc_state.specs.Tie.{Represents}
 use Rattle.proc_state.specs.declared.state.ProcState.{ProcState}
 use Rattle.device_io.specs.Leaving.{Leaves}
 
-module _ (m : Inner) (p : ℕ) (at : ℕ) (bytes : List ℕ) (io : Io) (end : CallEnd) (processes : ProcState) (new : Io) where
+module _ (m : Processes) (p : ℕ) (at : ℕ) (bytes : List ℕ) (io : Io) (end : CallEnd) (processes : ProcState) (new : Io) where
   -- it is done, and the count is answered
   pub leaves-answer : (count : ℕ) (regs : Regs) → regs ≡ regs_at m p → end ≡ CallEnd.Done → Represents processes
       (with_regs_of (with_memory m (stored m.memory p at bytes)) p (record regs { y = count })) → new ≡ with_call io p
@@ -29,7 +29,7 @@ module _ (m : Inner) (p : ℕ) (at : ℕ) (bytes : List ℕ) (io : Io) (end : Ca
       ((is, subst (λ (r : Regs). Represents processes (with_regs_of (with_memory m (stored m.memory p at bytes)) p (record r { y = count }))) same tied), left)
 
   -- it waits
-  pub leaves-wait : (call : Kept) → end ≡ CallEnd.Wait → Represents processes
+  pub leaves-wait : (call : PendingCall) → end ≡ CallEnd.Wait → Represents processes
       (with_memory m (stored m.memory p at bytes)) → new ≡ with_call io p (Some call)
       → Leaves (stores at bytes (keeps call) io) m p end processes new
   leaves-wait call is tied left = ((is, tied), left)
@@ -39,15 +39,16 @@ module _ (m : Inner) (p : ℕ) (at : ℕ) (bytes : List ℕ) (io : Io) (end : Ca
   leaves-refusal number is tied left = ((is, tied), left)
 
 -- a call of which more bytes were moved moves bytes or sets a status, as before
-moves-on : (paths : PathTable) (call : Kept) (count : ℕ) → IsSome (direction_of call.code) ⊎ SetsStatus paths call → IsSome (direction_of call.code) ⊎ SetsStatus paths (moved_on call count)
+moves-on : (paths : PathTable) (call : PendingCall) (count : ℕ) → IsSome (direction_of call.code) ⊎ SetsStatus paths call → IsSome (direction_of call.code) ⊎ SetsStatus paths (moved_on call count)
 moves-on paths call count (inl way) = inl way
 moves-on paths call count (inr it) = inr (record { sets = it.sets; target = it.target; on = it.on; on_disk = it.on_disk })
 
 -- a call may wait still after an attempt that moved bytes, if they were not the last
-pub may-wait-on : (paths : PathTable) (p : ℕ) (call new : Kept) (count : ℕ) → new ≡ moved_on call count
+pub may-wait-on : (paths : PathTable) (p : ℕ) (call new : PendingCall) (count : ℕ) → new ≡ moved_on call count
     → call.moved + count ≤ call.count → MayWait paths p call → new.moved ≢ new.count → MayWait paths p new
 may-wait-on paths p call new count is few may =
-    subst (λ (k : Kept). k.moved ≢ k.count → MayWait paths p k) (sym is) (λ differ. record { moves = moves-on paths call count may.moves; left = omega arith; held = may.held; reads = may.reads })
+    subst (λ (k : PendingCall). k.moved ≢ k.count → MayWait paths p k) (sym is)
+        (λ differ. record { moves = moves-on paths call count may.moves; left = omega arith; held = may.held; reads = may.reads })
 
 -- a range that fits has parts that fit
 pub fits-behind : (cells : Cells) (at count moved most : ℕ) → FitsIn cells at count → moved + most ≤ count → FitsIn cells (at + moved) most
@@ -58,7 +59,7 @@ fits-behind cells at count moved most fits within = (omega (arith, fits.0), λ k
         let same : at + (moved + k) ≡ at + moved + k = omega arith in
         subst (λ (place : ℕ). IsSome (cells place)) same (fits.1 (moved + k) (omega arith))
 
-module _ (m : Inner) (p pipe : ℕ) (regs : Regs) (call : Kept) (alone : Bool) (io between : Io) (moved : PipeAns) (taken : List ℕ) (end : CallEnd) (processes : ProcState) (new : Io) where
+module _ (m : Processes) (p pipe : ℕ) (regs : Regs) (call : PendingCall) (alone : Bool) (io between : Io) (moved : PipeAns) (taken : List ℕ) (end : CallEnd) (processes : ProcState) (new : Io) where
   -- an I$Read, by what the pipe answered
   pub read-leaves : regs ≡ regs_at m p → moved ≡ read_answer (pipe_bytes io pipe) alone call.count
       → taken ≡ bytes_moved moved (pipe_bytes io pipe) → between ≡ after_taking io pipe moved

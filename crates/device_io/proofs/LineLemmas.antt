@@ -13,8 +13,8 @@ use Rattle.user_names.specs.UserNames.{user_cell}
 use Rattle.call_rules.specs.UserBytes.{byte_before, user_bytes}
 use Rattle.io_model.specs.Line.{line_length, return_place}
 use Rattle.io_model.specs.declared.keys.TheConstants.{RETURN}
-use Rattle.io_model.specs.declared.kept.Kept.{Kept}
-use Rattle.io_rules.specs.Again.{IsKept}
+use Rattle.io_model.specs.declared.pending.PendingCall.{PendingCall}
+use Rattle.io_rules.specs.Again.{IsPending}
 use Rattle.io_rules.specs.Io.{Io}
 use Rattle.io_rules.specs.Step.{Caller}
 use Rattle.io_rules.specs.Transfer.{line_at, line_with}
@@ -143,21 +143,21 @@ error-whole number = line-whole (error_line number) (after_word number (digits n
 -- ---- the line of an I$WritLn
 
 -- what is known of the line that an attempt moves
-pub record IsSentLine (regs : Regs) (kept : Option Kept) (line : List ℕ) : Type 0 where
+pub record IsSentLine (regs : Regs) (pending : Option PendingCall) (line : List ℕ) : Type 0 where
   pub few : length line ≤ regs.y
   pub some : 0 < regs.y → 0 < length line
-  pub whole : kept ≡ None → line_length line ≡ length line
+  pub whole : pending ≡ None → line_length line ≡ length line
 
-pub sent-line : (caller : Caller) (io : Io) (p : ℕ) (kept : Option Kept) (line : List ℕ)
-    → IfSome kept (IsKept Call.WritLn caller.regs io p) → line_bytes caller kept ≡ Some line → IsSentLine caller.regs
-    kept line
+pub sent-line : (caller : Caller) (io : Io) (p : ℕ) (pending : Option PendingCall) (line : List ℕ)
+    → IfSome pending (IsPending Call.WritLn caller.regs io p) → line_bytes caller pending ≡ Some line → IsSentLine caller.regs
+    pending line
 sent-line caller io p None line again is =
     let it : IsLine caller.regs.y line = line-is caller.cells caller.regs.x caller.regs.y line is in
     record { few = it.few; some = it.some; whole = λ none. line-whole line it.only }
-sent-line caller io p (Some kept) line again is =
-    let all : length line ≡ kept.count = user-length caller.cells caller.regs.x kept.count line is in
+sent-line caller io p (Some pending) line again is =
+    let all : length line ≡ pending.count = user-length caller.cells caller.regs.x pending.count line is in
     record {
       few = omega (arith, all, again.count);
       some = λ more. omega (arith, all, again.unfinished);
-      whole = λ none. absurd (none-some kept (sym none));
+      whole = λ none. absurd (none-some pending (sym none));
     }

@@ -3,9 +3,9 @@ use Rattle.std.proofs.Common.{◌≡◌, ◌≢◌, ℕ, Bool, true, false, Opti
 use Rattle.std.specs.Prelude.{IfSome}
 use Rattle.std.proofs.lemmas.Bool.{false≢true}
 use Rattle.os9_base.specs.declared.registers.Regs.{Regs}
-use Rattle.call_rules.specs.Inner.{Inner, regs_at}
+use Rattle.call_rules.specs.Processes.{Processes, regs_at}
 use Rattle.io_model.specs.Path.{slot_of, desc_of}
-use Rattle.io_model.specs.declared.kept.Kept.{Kept}
+use Rattle.io_model.specs.declared.pending.PendingCall.{PendingCall}
 use Rattle.io_model.specs.declared.path.Desc.{Desc}
 use Rattle.io_model.specs.declared.path.SysPath.{SysPath}
 use Rattle.io_model.specs.declared.path.Target.{Target}
@@ -13,12 +13,12 @@ use Rattle.io_model.specs.declared.path.Target.TheVariants.{Term}
 use Rattle.io_model.specs.declared.terminal.ReadKind.{ReadKind}
 use Rattle.io_model.specs.declared.terminal.ReadKind.TheVariants.{Bytes, WholeLine}
 use Rattle.io_rules.specs.Codes.{direction_of}
-use Rattle.io_rules.specs.Io.{Io, OpenPath, open_path, kept_at}
+use Rattle.io_rules.specs.Io.{Io, OpenPath, open_path, pending_at}
 use Rattle.io_rules.specs.Transfer.{first_call}
 use Rattle.io_rules.specs.declared.io_call.Direction.{Direction}
 use Rattle.io_rules.specs.declared.io_call.Direction.TheVariants as Way
 use Rattle.io_rules.specs.declared.io_call.IoCall.{IoCall}
-use Rattle.io_rules.specs.Again.{IsAgain, IsKept, KeepsCount, path_number}
+use Rattle.io_rules.specs.Again.{IsAgain, IsPending, KeepsCount, path_number}
 use Rattle.io_state.proofs.HeldLemmas.{slot-held}
 use Rattle.io_state.proofs.WaitLemmas.{none-some, some-same}
 use Rattle.io_state.specs.Sound.{IsIo, IsNoRead, read_kind, read_kind_of, target_at}
@@ -29,8 +29,8 @@ use Rattle.proc_rules.specs.Records.{record_at}
 use Rattle.device_io.specs.Moving.{MayMove, read_call, read_code}
 
 -- the registers of the processes are those of the machine
-pub regs-tied : (s : ProcState) (m : Inner) (p : ℕ) → Represents s m → (record_at s.table p).regs ≡ regs_at m p
-regs-tied s m p tied = ap (λ (i : Inner). regs_at i p) (sym tied.is)
+pub regs-tied : (s : ProcState) (m : Processes) (p : ℕ) → Represents s m → (record_at s.table p).regs ≡ regs_at m p
+regs-tied s m p tied = ap (λ (i : Processes). regs_at i p) (sym tied.is)
 
 -- what is not there is nothing
 pub none-of : {A : Type 0} (o : Option A) (there : Bool) → there ≡ is_some o → there ≡ false → is_none o ≡ true
@@ -70,18 +70,18 @@ opened-parts io p n opened is = by_slot (slot_of io.paths p n) refl is
 -- ---- the call of an attempt
 
 -- a call that is kept is this one, which reads no terminal: nothing that is kept reads one
-pub no-read-on : (io : Io) (p : ℕ) (target : Target) (call : Kept) → ((n : ℕ) → target ≡ Term n → ⊥) → MayMove io p target call → ReadsNoTerminal io p
-no-read-on io p target call other move = by (kept_at io p) move.same
+pub no-read-on : (io : Io) (p : ℕ) (target : Target) (call : PendingCall) → ((n : ℕ) → target ≡ Term n → ⊥) → MayMove io p target call → ReadsNoTerminal io p
+no-read-on io p target call other move = by (pending_at io p) move.same
   where
     no_read : IsNoRead io call
     no_read n on reads = other n (let e : Some target ≡ Some (Term n) = sym move.on ∙ on in cc)
 
-    by : (kept : Option Kept) → IfSome kept (λ kept. kept ≡ call) → IfSome kept (IsNoRead io)
+    by : (pending : Option PendingCall) → IfSome pending (λ pending. pending ≡ call) → IfSome pending (IsNoRead io)
     by None same = tt
-    by (Some kept) same = subst (λ (k : Kept). IsNoRead io k) (sym same) no_read
+    by (Some pending) same = subst (λ (k : PendingCall). IsNoRead io k) (sym same) no_read
 
 -- where no call may be kept none is
-pub kept-none : (kept : Option Kept) (Q P : Kept → Type 0) → IfSome kept Q → ((call : Kept) → Q call → ⊥) → IfSome kept P
+pub kept-none : (pending : Option PendingCall) (Q P : PendingCall → Type 0) → IfSome pending Q → ((call : PendingCall) → Q call → ⊥) → IfSome pending P
 kept-none None Q P fact never = tt
 kept-none (Some call) Q P fact never = absurd (never call fact)
 
@@ -108,15 +108,15 @@ way-of Bytes = refl
 way-of WholeLine = refl
 
 -- what is known of the call of a read
-pub record IsReadCall (kind : ReadKind) (regs : Regs) (io : Io) (p : ℕ) (target : Target) (call : Kept) : Type 0 where
+pub record IsReadCall (kind : ReadKind) (regs : Regs) (io : Io) (p : ℕ) (target : Target) (call : PendingCall) : Type 0 where
   pub move : MayMove io p target call
   pub kind_is : read_kind call.code ≡ Some kind
   pub count : call.count ≡ regs.y
 
-pub read-call : (kind : ReadKind) (regs : Regs) (io : Io) (p : ℕ) (opened : OpenPath) (call : Kept) → IsIo io
-    → IsAgain (read_call kind) regs io p → open_path io p regs.a ≡ Some opened → call ≡ unwrap_or (kept_at io p)
+pub read-call : (kind : ReadKind) (regs : Regs) (io : Io) (p : ℕ) (opened : OpenPath) (call : PendingCall) → IsIo io
+    → IsAgain (read_call kind) regs io p → open_path io p regs.a ≡ Some opened → call ≡ unwrap_or (pending_at io p)
     (first_call (read_code kind) opened regs.y) → regs.y ≢ 0 → IsReadCall kind regs io p opened.desc.target call
-read-call kind regs io p opened call is again open_is call_is some = by (kept_at io p) refl again call_is
+read-call kind regs io p opened call is again open_is call_is some = by (pending_at io p) refl again call_is
   where
     parts : (slot_of io.paths p regs.a ≡ Some opened.path) × (desc_of io.paths opened.path.0 ≡ Some opened.desc)
     parts = opened-parts io p regs.a opened open_is
@@ -124,10 +124,10 @@ read-call kind regs io p opened call is again open_is call_is some = by (kept_at
     on : target_at io.paths opened.path.0 ≡ Some opened.desc.target
     on = ap (λ (o : Option Desc). option_map (λ (desc : Desc). desc.target) o) parts.1
 
-    first : Kept
+    first : PendingCall
     first = first_call (read_code kind) opened regs.y
 
-    begun : kept_at io p ≡ None → IsReadCall kind regs io p opened.desc.target first
+    begun : pending_at io p ≡ None → IsReadCall kind regs io p opened.desc.target first
     begun none = record {
       move = record {
         may = record {
@@ -137,26 +137,27 @@ read-call kind regs io p opened call is again open_is call_is some = by (kept_at
           reads = λ n at. way-of kind;
         };
         on = on;
-        same = subst (λ (o : Option Kept). IfSome o (λ kept. kept ≡ first)) (sym none) tt;
+        same = subst (λ (o : Option PendingCall). IfSome o (λ pending. pending ≡ first)) (sym none) tt;
       };
       kind_is = code-of kind;
       count = refl;
     }
 
-    further : (kept : Kept) → kept_at io p ≡ Some kept → IsKept (read_call kind) regs io p kept → IsReadCall kind regs io p opened.desc.target kept
-    further kept at fact =
-        let slot : slot_of io.paths p regs.a ≡ Some kept.path = subst (λ (n : ℕ). slot_of io.paths p n ≡ Some kept.path) (number-of kind regs) fact.path in
-        let same_path : kept.path ≡ opened.path = some-same kept.path opened.path (sym slot ∙ parts.0) in
+    further : (pending : PendingCall) → pending_at io p ≡ Some pending → IsPending (read_call kind) regs io p pending → IsReadCall kind regs io p opened.desc.target pending
+    further pending at fact =
+        let slot : slot_of io.paths p regs.a ≡ Some pending.path = subst (λ (n : ℕ). slot_of io.paths p n ≡ Some pending.path) (number-of kind regs) fact.path in
+        let same_path : pending.path ≡ opened.path = some-same pending.path opened.path (sym slot ∙ parts.0) in
         record {
           move = record {
-            may = is.waits.calls p kept at;
+            may = is.waits.calls p pending at;
             on = ap (λ (s : SysPath). target_at io.paths s.0) same_path ∙ on;
-            same = subst (λ (o : Option Kept). IfSome o (λ it. it ≡ kept)) (sym at) refl;
+            same = subst (λ (o : Option PendingCall). IfSome o (λ it. it ≡ pending)) (sym at) refl;
           };
           kind_is = ap (λ (o : Option IoCall). option_and_then read_kind_of o) fact.code ∙ kind-of kind;
-          count = kept-count kind regs kept.count fact.count;
+          count = kept-count kind regs pending.count fact.count;
         }
 
-    by : (kept : Option Kept) → kept_at io p ≡ kept → IfSome kept (IsKept (read_call kind) regs io p) → call ≡ unwrap_or kept first → IsReadCall kind regs io p opened.desc.target call
-    by None none fact same = subst (λ (k : Kept). IsReadCall kind regs io p opened.desc.target k) (sym same) (begun none)
-    by (Some kept) at fact same = subst (λ (k : Kept). IsReadCall kind regs io p opened.desc.target k) (sym same) (further kept at fact)
+    by : (pending : Option PendingCall) → pending_at io p ≡ pending → IfSome pending (IsPending (read_call kind) regs io p) → call ≡ unwrap_or pending first
+        → IsReadCall kind regs io p opened.desc.target call
+    by None none fact same = subst (λ (k : PendingCall). IsReadCall kind regs io p opened.desc.target k) (sym same) (begun none)
+    by (Some pending) at fact same = subst (λ (k : PendingCall). IsReadCall kind regs io p opened.desc.target k) (sym same) (further pending at fact)

@@ -14,14 +14,14 @@ use Rattle.os9_outer.specs.TerminalState.{TerminalState}
 use Rattle.user_names.specs.UserNames.{user_cell}
 use Rattle.call_rules.specs.UserBytes.{byte_before, user_bytes}
 use Rattle.io_model.specs.Pipe.{added_to, answer_unmoved, moved_count, pipe_room, write_answer}
-use Rattle.io_model.specs.declared.kept.Kept.{Kept}
+use Rattle.io_model.specs.declared.pending.PendingCall.{PendingCall}
 use Rattle.io_model.specs.declared.path.Target.{Target}
 use Rattle.io_model.specs.declared.path.Target.TheVariants.{File, Folder, Term, Pipe}
 use Rattle.io_model.specs.declared.pipe.PipeAns.{PipeAns}
 use Rattle.io_model.specs.declared.pipe.PipeAns.TheVariants.{Done, NoReader}
 use Rattle.io_rules.specs.Again.{path_number}
 use Rattle.io_rules.specs.Alone.{is_alone}
-use Rattle.io_rules.specs.Io.{Io, OpenPath, kept_at, open_path, pipe_bytes, with_pipe_bytes}
+use Rattle.io_rules.specs.Io.{Io, OpenPath, pending_at, open_path, pipe_bytes, with_pipe_bytes}
 use Rattle.io_rules.specs.Modes.{can_write}
 use Rattle.io_rules.specs.Pipes.{write_end, write_leaves, writes_pipe}
 use Rattle.io_rules.specs.Step.{Caller, IoEffect, IoStep, comes, done, leaves, needs, refuses}
@@ -130,11 +130,11 @@ module _ (io : Io) (p number : ℕ) where
   read-all (Some bytes) None buffer is = absurd (none-some bytes (sym is))
   read-all (Some bytes) (Some count) buffer is =
       let same : take count buffer ≡ bytes = same_Some (take count buffer) bytes (sym is) in
-      record { count = ap (λ (it : List ℕ). length it) same; all = λ none. same; moving = ap (λ (it : List ℕ). window (moved_before (kept_at io p)) it) same }
+      record { count = ap (λ (it : List ℕ). length it) same; all = λ none. same; moving = ap (λ (it : List ℕ). window (moved_before (pending_at io p)) it) same }
 
   pub read-window : (found : Option (List ℕ)) (count moved : ℕ) (buffer : List ℕ) → is_some found ≡ true
       → ((bytes : List ℕ) → found ≡ Some bytes → length bytes ≡ count) → is_on_pipe (open_path io p number) ≡ true
-      → moved ≡ moved_before (kept_at io p) → count ≤ length buffer
+      → moved ≡ moved_before (pending_at io p) → count ≤ length buffer
       → IfSome found (λ bytes. window moved (take count buffer) ≡ window moved bytes) → IsRead io p number found
       (Some count) buffer
   read-window None count moved buffer there all on same room fact = absurd (false≢true there)
@@ -168,7 +168,7 @@ added-same answer held one other few same =
     ap (λ (it : List ℕ). held ++ it)
     (sym (take-take (moved_count answer) 256 one few) ∙ ap (λ (it : List ℕ). take (moved_count answer) it) same ∙ take-take (moved_count answer) 256 other few)
 
-pipe-same : (io : Io) (pipe : ℕ) (call : Kept) (alone : Bool) (bytes read : List ℕ) (regs : Regs)
+pipe-same : (io : Io) (pipe : ℕ) (call : PendingCall) (alone : Bool) (bytes read : List ℕ) (regs : Regs)
     → length read ≡ length bytes → window call.moved read ≡ window call.moved bytes → writes_pipe io pipe call alone
     read regs ≡ writes_pipe io pipe call alone bytes regs
 pipe-same io pipe call alone bytes read regs long same =
@@ -181,7 +181,7 @@ pipe-same io pipe call alone bytes read regs long same =
     ∙ ap (λ (now : List ℕ). leaves (write_end alone call regs answer) (with_pipe_bytes io pipe now)) (added-same answer held one other (few-moved held alone (length other)) same)
 
 module _ (kind : WriteKind) (caller : Caller) (io : Io) (bytes read : List ℕ) (stands : StandsFor io caller.process.0 (path_number (write_call kind) caller.regs) bytes read) where
-  abbrev call_of : OpenPath → ℕ → Kept
+  abbrev call_of : OpenPath → ℕ → PendingCall
   call_of opened count = call_now caller io (write_code kind) opened count
 
   abbrev On : OpenPath → Target → List ℕ → IoStep
@@ -198,17 +198,17 @@ module _ (kind : WriteKind) (caller : Caller) (io : Io) (bytes read : List ℕ) 
   on-pipe-is opened pipe it =
       λ i. if length it == 0 then done (done-regs kind caller it i) io else sym (on-pipe kind caller io it (call_of opened (length it)) pipe) i
 
-  moved-is : (opened : OpenPath) (count : ℕ) → moved_before (kept_at io caller.process.0) ≡ (call_of opened count).moved
-  moved-is opened count = by (kept_at io caller.process.0)
+  moved-is : (opened : OpenPath) (count : ℕ) → moved_before (pending_at io caller.process.0) ≡ (call_of opened count).moved
+  moved-is opened count = by (pending_at io caller.process.0)
     where
-      by : (kept : Option Kept) → moved_before kept ≡ (unwrap_or kept (first_call (write_code kind) opened count)).moved
+      by : (pending : Option PendingCall) → moved_before pending ≡ (unwrap_or pending (first_call (write_code kind) opened count)).moved
       by None = refl
-      by (Some kept) = refl
+      by (Some pending) = refl
 
   into-pipe : (opened : OpenPath) (pipe : ℕ) → On opened (Pipe pipe) read ≡ On opened (Pipe pipe) bytes
   into-pipe opened pipe =
       let count : ℕ = length bytes in
-      let call : Kept = call_of opened count in
+      let call : PendingCall = call_of opened count in
       let regs : Regs = regs_done kind caller.regs count in
       let same : window call.moved read ≡ window call.moved bytes = subst (λ (n : ℕ). window n read ≡ window n bytes) (moved-is opened count) stands.moving in
       on-pipe-is opened pipe read

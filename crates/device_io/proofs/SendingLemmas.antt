@@ -8,20 +8,20 @@ use Rattle.os9_base.specs.declared.errors.TheConstants.{E_BPADDR, E_WRITE}
 use Rattle.os9_base.specs.declared.registers.Pid.{Pid}
 use Rattle.os9_base.specs.declared.registers.Regs.{Regs}
 use Rattle.os9_outer.specs.TerminalState.{TerminalState, ChangesOneTerminal}
-use Rattle.call_rules.specs.Inner.{Inner, cells_at, regs_at}
+use Rattle.call_rules.specs.Processes.{Processes, cells_at, regs_at}
 use Rattle.call_rules.specs.UserBytes.{user_bytes}
 use Rattle.io_model.specs.Path.{desc_of, slot_of}
 use Rattle.io_model.specs.Terminal.{Writes}
-use Rattle.io_model.specs.declared.kept.Kept.{Kept}
+use Rattle.io_model.specs.declared.pending.PendingCall.{PendingCall}
 use Rattle.io_model.specs.declared.path.Desc.{Desc}
 use Rattle.io_model.specs.declared.path.SysPath.{SysPath}
 use Rattle.io_model.specs.declared.path.Target.{Target}
 use Rattle.io_model.specs.declared.path.Target.TheVariants.{Pipe, Term}
 use Rattle.io_model.specs.declared.terminal.Progress.{Progress}
-use Rattle.io_rules.specs.Again.{IsAgain, IsKept, path_number}
+use Rattle.io_rules.specs.Again.{IsAgain, IsPending, path_number}
 use Rattle.io_rules.specs.Attempts.{caller_of, result_by}
 use Rattle.io_rules.specs.Codes.{io_call_of, direction_of, direction_of_call}
-use Rattle.io_rules.specs.Io.{Io, OpenPath, kept_at, open_path, terminal_at, with_call, with_terminal}
+use Rattle.io_rules.specs.Io.{Io, OpenPath, pending_at, open_path, terminal_at, with_call, with_terminal}
 use Rattle.io_rules.specs.Modes.{can_write}
 use Rattle.io_rules.specs.Step.{Caller, IoEffect, IoEnd, IoStep, TerminalWrite, answers, fails, keeps, comes, done, leaves, refused, writes}
 use Rattle.io_rules.specs.Transfer.{first_call, on_path, unless_nothing}
@@ -69,22 +69,22 @@ no-way-back e = cc
 
 -- a call that is kept of such a write reads no terminal
 pub no-read : (kind : WriteKind) (regs : Regs) (io : Io) (p : ℕ) → IsAgain (write_call kind) regs io p → ReadsNoTerminal io p
-no-read kind regs io p again = by (kept_at io p) again
+no-read kind regs io p again = by (pending_at io p) again
   where
-    by : (kept : Option Kept) → IfSome kept (IsKept (write_call kind) regs io p) → IfSome kept (IsNoRead io)
+    by : (pending : Option PendingCall) → IfSome pending (IsPending (write_call kind) regs io p) → IfSome pending (IsNoRead io)
     by None fact = tt
-    by (Some kept) fact = λ n on reads. no-way-back (sym (kept-writes kind kept.code fact.code) ∙ reads)
+    by (Some pending) fact = λ n on reads. no-way-back (sym (kept-writes kind pending.code fact.code) ∙ reads)
 
 -- what is known of the call of a write
-pub record IsWriteCall (io : Io) (p : ℕ) (target : Target) (call : Kept) (count : ℕ) : Type 0 where
+pub record IsWriteCall (io : Io) (p : ℕ) (target : Target) (call : PendingCall) (count : ℕ) : Type 0 where
   pub may : MayWrite io p target call count
-  pub first : (n : ℕ) → target ≡ Term n → kept_at io p ≡ None
+  pub first : (n : ℕ) → target ≡ Term n → pending_at io p ≡ None
 
-pub write-call : (kind : WriteKind) (regs : Regs) (io : Io) (p : ℕ) (opened : OpenPath) (call : Kept) (count : ℕ)
+pub write-call : (kind : WriteKind) (regs : Regs) (io : Io) (p : ℕ) (opened : OpenPath) (call : PendingCall) (count : ℕ)
     → IsIo io → MaySend kind regs io p count → open_path io p (path_number (write_call kind) regs) ≡ Some opened
-    → call ≡ unwrap_or (kept_at io p) (first_call (write_code kind) opened count) → count ≢ 0
+    → call ≡ unwrap_or (pending_at io p) (first_call (write_code kind) opened count) → count ≢ 0
     → IsWriteCall io p opened.desc.target call count
-write-call kind regs io p opened call count is may open_is call_is some = by (kept_at io p) refl may.again may.same call_is
+write-call kind regs io p opened call count is may open_is call_is some = by (pending_at io p) refl may.again may.same call_is
   where
     number : ℕ
     number = path_number (write_call kind) regs
@@ -95,10 +95,10 @@ write-call kind regs io p opened call count is may open_is call_is some = by (ke
     on : target_at io.paths opened.path.0 ≡ Some opened.desc.target
     on = ap (λ (o : Option Desc). option_map (λ (desc : Desc). desc.target) o) parts.1
 
-    first : Kept
+    first : PendingCall
     first = first_call (write_code kind) opened count
 
-    begun : kept_at io p ≡ None → IsWriteCall io p opened.desc.target first count
+    begun : pending_at io p ≡ None → IsWriteCall io p opened.desc.target first count
     begun none = record {
       may = record {
         on = on;
@@ -115,20 +115,20 @@ write-call kind regs io p opened call count is may open_is call_is some = by (ke
       first = λ n is_term. none;
     }
 
-    further : (kept : Kept) → kept_at io p ≡ Some kept → IsKept (write_call kind) regs io p kept → kept.count ≡ count → IsWriteCall io p opened.desc.target kept count
-    further kept at fact same =
-        let same_path : kept.path ≡ opened.path = some-same kept.path opened.path (sym fact.path ∙ parts.0) in
-        let kept_on : target_at io.paths kept.path.0 ≡ Some opened.desc.target = ap (λ (s : SysPath). target_at io.paths s.0) same_path ∙ on in
+    further : (pending : PendingCall) → pending_at io p ≡ Some pending → IsPending (write_call kind) regs io p pending → pending.count ≡ count → IsWriteCall io p opened.desc.target pending count
+    further pending at fact same =
+        let same_path : pending.path ≡ opened.path = some-same pending.path opened.path (sym fact.path ∙ parts.0) in
+        let kept_on : target_at io.paths pending.path.0 ≡ Some opened.desc.target = ap (λ (s : SysPath). target_at io.paths s.0) same_path ∙ on in
         record {
-          may = record { on = kept_on; may = λ pipe is_pipe. is.waits.calls p kept at; all = sym same };
-          first = λ n is_term. absurd (no-way-back (sym (kept-writes kind kept.code fact.code) ∙ (is.waits.calls p kept at).reads n (kept_on ∙ ap (λ (t : Target). Some t) is_term)));
+          may = record { on = kept_on; may = λ pipe is_pipe. is.waits.calls p pending at; all = sym same };
+          first = λ n is_term. absurd (no-way-back (sym (kept-writes kind pending.code fact.code) ∙ (is.waits.calls p pending at).reads n (kept_on ∙ ap (λ (t : Target). Some t) is_term)));
         }
 
-    by : (kept : Option Kept) → kept_at io p ≡ kept → IfSome kept (IsKept (write_call kind) regs io p)
-        → IfSome kept (λ kept. kept.count ≡ count) → call ≡ unwrap_or kept first → IsWriteCall io p opened.desc.target
+    by : (pending : Option PendingCall) → pending_at io p ≡ pending → IfSome pending (IsPending (write_call kind) regs io p)
+        → IfSome pending (λ pending. pending.count ≡ count) → call ≡ unwrap_or pending first → IsWriteCall io p opened.desc.target
         call count
-    by None none fact same call_is = subst (λ (k : Kept). IsWriteCall io p opened.desc.target k count) (sym call_is) (begun none)
-    by (Some kept) at fact same call_is = subst (λ (k : Kept). IsWriteCall io p opened.desc.target k count) (sym call_is) (further kept at fact same)
+    by None none fact same call_is = subst (λ (k : PendingCall). IsWriteCall io p opened.desc.target k count) (sym call_is) (begun none)
+    by (Some pending) at fact same call_is = subst (λ (k : PendingCall). IsWriteCall io p opened.desc.target k count) (sym call_is) (further pending at fact same)
 
 -- ---- ends
 
@@ -140,7 +140,7 @@ module _ (caller : Caller) (io : Io) (regs : Regs) (new : Io) (before after : Li
   never-told : (it : IoEnd) → IsTold it regs End.NoMemory → ⊥
   never-told (answers it) told = let e : End.NoMemory ≡ End.Done = told.0 in cc
   never-told (fails number) told = let e : End.NoMemory ≡ End.Error number = told in cc
-  never-told (keeps kept) told = let e : End.NoMemory ≡ End.Wait = told in cc
+  never-told (keeps pending) told = let e : End.NoMemory ≡ End.Wait = told in cc
 
   pub sends-tells : (step : IoStep) (end : CallEnd) → Tells step caller io regs end new before after → Sends step caller io regs end new before after
   sends-tells step End.Done tells = tells
@@ -224,7 +224,7 @@ module _ (caller : Caller) (io new : Io) (n : ℕ) (put : List ℕ) (count : ℕ
       put-ends answer end (subst (λ (c : ℕ). Changes c answer) same device) state ends
 
 -- what a write does on a terminal, and on a pipe
-pub on-terminal : (kind : WriteKind) (caller : Caller) (io : Io) (bytes : List ℕ) (call : Kept) (n : ℕ)
+pub on-terminal : (kind : WriteKind) (caller : Caller) (io : Io) (bytes : List ℕ) (call : PendingCall) (n : ℕ)
     → writes (record {
       terminal = n;
       put = put_of kind bytes;
@@ -236,7 +236,7 @@ on-terminal Bytes caller io bytes call n = refl
 on-terminal Line caller io bytes call n = refl
 on-terminal ErrorLine caller io bytes call n = refl
 
-pub on-pipe : (kind : WriteKind) (caller : Caller) (io : Io) (bytes : List ℕ) (call : Kept) (n : ℕ)
+pub on-pipe : (kind : WriteKind) (caller : Caller) (io : Io) (bytes : List ℕ) (call : PendingCall) (n : ℕ)
     → comes (writes_pipe io n call (is_alone io caller.process.0 call.path.0 Way.Writing) bytes
     (regs_done kind caller.regs (length bytes))) ≡ writes_target (sent kind caller bytes) caller io call (Pipe n)
 on-pipe Bytes caller io bytes call n = refl
@@ -251,7 +251,7 @@ done-regs ErrorLine caller bytes = refl
 
 -- ---- what is told
 
-module _ (m : Inner) (io : Io) (p : ℕ) (processes : ProcState) (regs : Regs) (new : Io) (before after : List TerminalState) (step : IoStep) where
+module _ (m : Processes) (io : Io) (p : ℕ) (processes : ProcState) (regs : Regs) (new : Io) (before after : List TerminalState) (step : IoStep) where
   pub tries-told : (end : CallEnd) → Sends step (caller_of m p) io regs end new before after
       → ((it : IoEnd) (between : Io) → IsTold it regs end → Comes m p (result_by it m p (leaves it between)) end
       processes) → Tries step m io p end processes new before after
@@ -262,7 +262,7 @@ module _ (m : Inner) (io : Io) (p : ℕ) (processes : ProcState) (regs : Regs) (
   tries-told End.NoMemory it told = it
 
 -- an attempt whose process was told of it
-pub sends-tries : (m : Inner) (io : Io) (process : Pid) (processes : ProcState) (new : Io)
+pub sends-tries : (m : Processes) (io : Io) (process : Pid) (processes : ProcState) (new : Io)
     (before after : List TerminalState) (kind : WriteKind) (bytes : List ℕ) (regs told : Regs) (end : CallEnd)
     → regs ≡ regs_at m process.0 → regs_done kind regs (length bytes) ≡ told
     → Sends (write_named kind (sender process regs (cells_at m process.0)) io bytes)
@@ -317,25 +317,25 @@ error-step caller io = refl
 -- ---- the three calls
 
 -- the count of a call that is kept
-pub kept-same : (kept : Option Kept) (count other : ℕ) → count ≡ other → IfSome kept (λ kept. kept.count ≡ count) → IfSome kept (λ kept. kept.count ≡ other)
-kept-same kept count other same is = subst (λ (n : ℕ). IfSome kept (λ kept. kept.count ≡ n)) same is
+pub kept-same : (pending : Option PendingCall) (count other : ℕ) → count ≡ other → IfSome pending (λ pending. pending.count ≡ count) → IfSome pending (λ pending. pending.count ≡ other)
+kept-same pending count other same is = subst (λ (n : ℕ). IfSome pending (λ pending. pending.count ≡ n)) same is
 
 -- the count that is kept of an I$Write, and of an F$PErr
-pub kept-bytes : (regs : Regs) (io : Io) (p : ℕ) → IsAgain Call.Write regs io p → IfSome (kept_at io p) (λ kept. kept.count ≡ regs.y)
-kept-bytes regs io p again = by (kept_at io p) again
+pub kept-bytes : (regs : Regs) (io : Io) (p : ℕ) → IsAgain Call.Write regs io p → IfSome (pending_at io p) (λ pending. pending.count ≡ regs.y)
+kept-bytes regs io p again = by (pending_at io p) again
   where
-    by : (kept : Option Kept) → IfSome kept (IsKept Call.Write regs io p) → IfSome kept (λ kept. kept.count ≡ regs.y)
+    by : (pending : Option PendingCall) → IfSome pending (IsPending Call.Write regs io p) → IfSome pending (λ pending. pending.count ≡ regs.y)
     by None fact = tt
-    by (Some kept) fact = fact.count
+    by (Some pending) fact = fact.count
 
-pub kept-error : (regs : Regs) (io : Io) (p : ℕ) → IsAgain Call.PErr regs io p → IfSome (kept_at io p) (λ kept. kept.count ≡ length (error_line regs.b))
-kept-error regs io p again = by (kept_at io p) again
+pub kept-error : (regs : Regs) (io : Io) (p : ℕ) → IsAgain Call.PErr regs io p → IfSome (pending_at io p) (λ pending. pending.count ≡ length (error_line regs.b))
+kept-error regs io p again = by (pending_at io p) again
   where
-    by : (kept : Option Kept) → IfSome kept (IsKept Call.PErr regs io p) → IfSome kept (λ kept. kept.count ≡ length (error_line regs.b))
+    by : (pending : Option PendingCall) → IfSome pending (IsPending Call.PErr regs io p) → IfSome pending (λ pending. pending.count ≡ length (error_line regs.b))
     by None fact = tt
-    by (Some kept) fact = fact.count
+    by (Some pending) fact = fact.count
 
-module _ (m : Inner) (io : Io) (process : Pid) (processes : ProcState) (new : Io) (before after : List TerminalState)
+module _ (m : Processes) (io : Io) (process : Pid) (processes : ProcState) (new : Io) (before after : List TerminalState)
     (bytes : List ℕ) (regs : Regs) (end : CallEnd) (same : regs ≡ regs_at m process.0) where
   abbrev Sent : WriteKind → Type 0
   Sent kind =
@@ -355,14 +355,14 @@ module _ (m : Inner) (io : Io) (process : Pid) (processes : ProcState) (new : Io
       (tries-same m io process.0 end processes new before after (write_named Bytes caller io bytes) (next bytes) (bytes-step caller io bytes (subst (λ (r : Regs). length bytes ≡ r.y) same all))
       (sends-tries m io process processes new before after Bytes bytes regs regs end same (ap (λ (n : ℕ). record regs { y = n }) all) sends told))
 
-  pub line-tries : (y : ℕ) → length bytes ≡ y → line_bytes (caller_of m process.0) (kept_at io process.0) ≡ Some bytes
-      → IsSentLine regs (kept_at io process.0) bytes → Sent Line → Told (record regs { y = y })
+  pub line-tries : (y : ℕ) → length bytes ≡ y → line_bytes (caller_of m process.0) (pending_at io process.0) ≡ Some bytes
+      → IsSentLine regs (pending_at io process.0) bytes → Sent Line → Told (record regs { y = y })
       → Tries (i_writln (caller_of m process.0) io) m io process.0 end processes new before after
   line-tries y all there line sends told =
       let caller : Caller = caller_of m process.0 in
-      let known : IsSentLine caller.regs (kept_at io process.0) bytes = subst (λ (r : Regs). IsSentLine r (kept_at io process.0) bytes) same line in
+      let known : IsSentLine caller.regs (pending_at io process.0) bytes = subst (λ (r : Regs). IsSentLine r (pending_at io process.0) bytes) same line in
       let next : List ℕ → IoStep = λ line. on_path caller io caller.regs.a can_write (λ (opened : OpenPath). unless_nothing caller io (sends_on (sent_line caller line) I_WRITLN caller io opened)) in
-      tries-needs-some m io process.0 end processes new before after (line_bytes caller (kept_at io process.0)) bytes E_BPADDR next there
+      tries-needs-some m io process.0 end processes new before after (line_bytes caller (pending_at io process.0)) bytes E_BPADDR next there
       (tries-same m io process.0 end processes new before after (write_named Line caller io bytes) (next bytes) (line-step caller io bytes (asks-none known.some) (λ none. has-none known.few none))
       (sends-tries m io process processes new before after Line bytes regs (record regs { y = y }) end same (ap (λ (n : ℕ). record regs { y = n }) all) sends told))
     where

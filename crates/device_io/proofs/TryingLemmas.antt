@@ -6,7 +6,7 @@ use Rattle.os9_base.specs.declared.call.CallEnd.TheVariants.{Done, Error, Wait, 
 use Rattle.os9_base.specs.declared.registers.Regs.{Regs}
 use Rattle.os9_outer.specs.TerminalState.{TerminalState}
 use Rattle.call_rules.specs.CallResult.{CallResult}
-use Rattle.call_rules.specs.Inner.{Inner, regs_at, with_regs_of}
+use Rattle.call_rules.specs.Processes.{Processes, regs_at, with_regs_of}
 use Rattle.io_rules.specs.Attempts.{caller_of, result_of, step_of}
 use Rattle.io_rules.specs.Io.{Io, with_call}
 use Rattle.io_rules.specs.Step.{IoEffect, IoStep, refused, comes, needs, refuses, done, leaves, fails, answers}
@@ -19,13 +19,13 @@ use Rattle.io_rules.specs.Memory.{WantsMemory}
 use Rattle.device_io.specs.Trying.{Takes, Tries}
 
 -- no call comes to want of memory
-pub never-wants : (m : Inner) (p : ℕ) (processes : ProcState) (result : CallResult) → Comes m p result NoMemory processes → ⊥
+pub never-wants : (m : Processes) (p : ℕ) (processes : ProcState) (result : CallResult) → Comes m p result NoMemory processes → ⊥
 never-wants m p processes (CallResult.done t) came = let e : NoMemory ≡ Done = came.0 in cc
 never-wants m p processes (CallResult.refused number) came = let e : NoMemory ≡ Error number = came.0 in cc
 never-wants m p processes (CallResult.waits t) came = let e : NoMemory ≡ Wait = came.0 in cc
 never-wants m p processes (CallResult.ends status) came = let e : NoMemory ≡ Ended = came.0 in cc
 
-module _ (m : Inner) (io : Io) (p : ℕ) (processes : ProcState) (new : Io) (terms : List TerminalState) where
+module _ (m : Processes) (io : Io) (p : ℕ) (processes : ProcState) (new : Io) (terms : List TerminalState) where
   -- it comes to an end
   pub tries-takes : (step : IoStep) (end : CallEnd) (after : List TerminalState) → end ≢ NoMemory → Takes step m io p end processes new terms after → Tries step m io p end processes new terms after
   tries-takes step Done after differ takes = takes
@@ -55,7 +55,7 @@ module _ (m : Inner) (io : Io) (p : ℕ) (processes : ProcState) (new : Io) (ter
   tries-done regs end same is tied left =
       tries-comes (leaves (answers (regs_at m p)) io) end ((is, subst (λ (r : Regs). Represents processes (with_regs_of m p r)) same tied), left)
 
-module _ (m : Inner) (io : Io) (p : ℕ) (end : CallEnd) (processes : ProcState) (new : Io) (before after : List TerminalState) where
+module _ (m : Processes) (io : Io) (p : ℕ) (end : CallEnd) (processes : ProcState) (new : Io) (before after : List TerminalState) where
   -- ---- the tests of a step
 
   pub tries-needs-none : {A : Type 0} (o : Option A) (number : ℕ) (next : A → IoStep) → o ≡ None
@@ -83,7 +83,7 @@ module _ (m : Inner) (io : Io) (p : ℕ) (end : CallEnd) (processes : ProcState)
   tries-if-false test one other is tries = subst (λ (t : Bool). Tries (if t then one else other) m io p end processes new before after) (sym is) tries
 
 -- what an attempt did is what its call does
-module _ (call : IoCall) (m : Inner) (io : Io) (drives p : ℕ) (processes : ProcState) (new : Io) (before after : List TerminalState) where
+module _ (call : IoCall) (m : Processes) (io : Io) (drives p : ℕ) (processes : ProcState) (new : Io) (before after : List TerminalState) where
   by-step : (end : CallEnd) → Takes (step_of call m p io drives before) m io p end processes new before after → Attempts call m io drives p end processes new before after
   by-step end takes = record {
     result = result_of m p takes.effect;
@@ -98,7 +98,7 @@ module _ (call : IoCall) (m : Inner) (io : Io) (drives p : ℕ) (processes : Pro
   attempts-of Ended differ tries = by-step Ended tries
   attempts-of NoMemory differ tries = absurd (differ refl)
 
-module _ (m : Inner) (io : Io) (p : ℕ) (end : CallEnd) (processes : ProcState) (new : Io) (before after : List TerminalState) where
+module _ (m : Processes) (io : Io) (p : ℕ) (end : CallEnd) (processes : ProcState) (new : Io) (before after : List TerminalState) where
   -- a step that is another one
   pub tries-same : (one other : IoStep) → one ≡ other → Tries one m io p end processes new before after → Tries other m io p end processes new before after
   tries-same one other same tries = subst (λ (step : IoStep). Tries step m io p end processes new before after) same tries

@@ -3,23 +3,23 @@ use Rattle.std.specs.Prelude.{◌≡◌, ℕ, IfSome}
 use Rattle.os9_base.specs.declared.call.CallEnd.{CallEnd}
 use Rattle.os9_base.specs.declared.call.CallEnd.TheVariants.{Done, Error, Wait}
 use Rattle.os9_base.specs.declared.registers.Regs.{Regs}
-use Rattle.call_rules.specs.Inner.{Inner}
+use Rattle.call_rules.specs.Processes.{Processes}
 use Rattle.io_rules.specs.Attempts.{io_after, result_of}
-use Rattle.io_rules.specs.Io.{Io, kept_at}
+use Rattle.io_rules.specs.Io.{Io, pending_at}
 use Rattle.io_rules.specs.Step.{IoEffect, IoEnd, answers, fails, keeps}
 use Rattle.io_state.specs.Sound.{IsNoRead}
 use Rattle.proc_state.specs.Tie.{Comes}
 use Rattle.proc_state.specs.declared.state.ProcState.{ProcState}
 
 -- an attempt of a process with this effect ends in this way, and leaves these processes and this state
-abbrev pub Leaves : IoEffect → Inner → ℕ → CallEnd → ProcState → Io → Type 0
+abbrev pub Leaves : IoEffect → Processes → ℕ → CallEnd → ProcState → Io → Type 0
 Leaves effect m p end processes new = Comes m p (result_of m p effect) end processes × (new ≡ io_after p effect)
 
 -- a call with this end returns in this way; if it is done its process has these registers
 abbrev pub IsTold : IoEnd → Regs → CallEnd → Type 0
 IsTold (answers it) regs end = (end ≡ Done) × (it ≡ regs)
 IsTold (fails number) regs end = end ≡ Error number
-IsTold (keeps kept) regs end = end ≡ Wait
+IsTold (keeps pending) regs end = end ≡ Wait
 
 -- an attempt of a process with this effect returns in this way, and leaves this state; its process has these registers
 -- if it is done
@@ -28,4 +28,4 @@ Settles effect regs p end new = IsTold effect.end regs end × (new ≡ io_after 
 
 -- no call of a process is pending, or the pending call is not a read of a terminal
 abbrev pub ReadsNoTerminal : Io → ℕ → Type 0
-ReadsNoTerminal io p = IfSome (kept_at io p) (IsNoRead io)
+ReadsNoTerminal io p = IfSome (pending_at io p) (IsNoRead io)

@@ -8,7 +8,7 @@ use Rattle.proc_rules.specs.Records.{record_at}
 use Rattle.call_rules.specs.UserBytes.{user_bytes}
 use Rattle.guest_memory.specs.Tie.{cells_of}
 use Rattle.io_model.specs.Path.{PathTable}
-use Rattle.io_model.specs.declared.kept.Kept.{Kept}
+use Rattle.io_model.specs.declared.pending.PendingCall.{PendingCall}
 use Rattle.io_model.specs.declared.path.Desc.{Desc}
 use Rattle.io_model.specs.declared.path.SysPath.{SysPath}
 use Rattle.io_model.specs.declared.path.Target.{Target}
@@ -16,7 +16,7 @@ use Rattle.io_model.specs.declared.path.Target.TheVariants.{Term}
 use Rattle.io_model.specs.declared.terminal.ReadKind.{ReadKind}
 use Rattle.io_model.specs.declared.terminal.ReadKind.TheVariants.{Bytes, WholeLine}
 use Rattle.io_rules.specs.Again.{IsAgain}
-use Rattle.io_rules.specs.Io.{Io, OpenPath, open_path, kept_at}
+use Rattle.io_rules.specs.Io.{Io, OpenPath, open_path, pending_at}
 use Rattle.io_rules.specs.Modes.{can_read}
 use Rattle.io_rules.specs.Read.{reads_target}
 use Rattle.io_rules.specs.Step.{Caller, IoStep, reads, refuses}
@@ -30,12 +30,12 @@ use Rattle.proc_state.specs.declared.state.ProcState.{ProcState}
 abbrev pub AreTerminals : PathTable → ℕ → Type 0
 AreTerminals paths count = (s n : ℕ) → target_at paths s ≡ Some (Term n) → n < count
 
--- a process may attempt this call, whose path has this target: it may wait in it, and it is the kept call, if there
+-- a process may attempt this call, whose path has this target: it may wait in it, and it is the pending call, if there
 -- is one
-pub record MayMove (io : Io) (p : ℕ) (target : Target) (call : Kept) : Type 0 where
+pub record MayMove (io : Io) (p : ℕ) (target : Target) (call : PendingCall) : Type 0 where
   pub may : MayWait io.paths p call
   pub on : target_at io.paths call.path.0 ≡ Some target
-  pub same : IfSome (kept_at io p) (λ kept. kept ≡ call)
+  pub same : IfSome (pending_at io p) (λ pending. pending ≡ call)
 
 -- ---- the path of a number
 
@@ -65,15 +65,15 @@ pub record StaysRead (cells : Cells) (regs : Regs) (io : Io) (p : ℕ) : Type 0 
   pub may : IsSomeAnd (open_path io p regs.a) (λ opened. can_read opened.desc.mode ≡ true)
 
 -- if a read of the process is pending, it is not refused
-abbrev pub StaysIfKept : Cells → Regs → Io → ℕ → Type 0
-StaysIfKept cells regs io p = IfSome (kept_at io p) (λ kept. StaysRead cells regs io p)
+abbrev pub StaysIfPending : Cells → Regs → Io → ℕ → Type 0
+StaysIfPending cells regs io p = IfSome (pending_at io p) (λ pending. StaysRead cells regs io p)
 
 -- an attempt on a terminal
-abbrev pub read_terminal : ReadKind → ℕ → Kept → Caller → Io → IoStep
+abbrev pub read_terminal : ReadKind → ℕ → PendingCall → Caller → Io → IoStep
 read_terminal kind n call caller io = reads (record { terminal = n; kind = kind; call = call })
 
 -- an attempt on the target of a path
-unfoldable pub read_on : ReadKind → Kept → Target → Caller → Io → IoStep
+unfoldable pub read_on : ReadKind → PendingCall → Target → Caller → Io → IoStep
 read_on kind call target caller io = reads_target kind caller io call target
 
 -- an attempt on a path that may be read
@@ -99,8 +99,8 @@ read_step kind caller io =
 
 -- if a read of the process is pending, it is not refused
 abbrev pub StaysAllowed : IoCall → Cells → Regs → Io → ℕ → Type 0
-StaysAllowed Call.Read cells regs io p = StaysIfKept cells regs io p
-StaysAllowed Call.ReadLn cells regs io p = StaysIfKept cells regs io p
+StaysAllowed Call.Read cells regs io p = StaysIfPending cells regs io p
+StaysAllowed Call.ReadLn cells regs io p = StaysIfPending cells regs io p
 StaysAllowed call cells regs io p = ⊤
 
 -- a process may attempt this call, on a machine with `terms` terminals

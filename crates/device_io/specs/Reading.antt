@@ -3,11 +3,11 @@ use Rattle.std.specs.Prelude.{◌≡◌, ℕ, Bool, true, false, ⊤, IfSome, Op
 use Rattle.std.specs.Option.{option_map_or}
 use Rattle.os9_base.specs.Cells.{Cells}
 use Rattle.call_rules.specs.UserBytes.{user_bytes}
-use Rattle.io_model.specs.declared.kept.Kept.{Kept}
+use Rattle.io_model.specs.declared.pending.PendingCall.{PendingCall}
 use Rattle.io_model.specs.declared.path.Target.{Target}
 use Rattle.io_model.specs.declared.path.Target.TheVariants.{File, Folder, Term, Pipe}
 use Rattle.io_model.specs.declared.pipe.TheConstants.{PIPE_BYTES}
-use Rattle.io_rules.specs.Io.{Io, OpenPath, kept_at, open_path}
+use Rattle.io_rules.specs.Io.{Io, OpenPath, pending_at, open_path}
 
 -- the target of a path is a pipe
 abbrev pub is_pipe : Target → Bool
@@ -20,8 +20,8 @@ abbrev pub is_on_pipe : Option OpenPath → Bool
 is_on_pipe path = option_map_or (λ (opened : OpenPath). is_pipe opened.desc.target) path false
 
 -- the number of bytes of a call that earlier attempts moved
-abbrev pub moved_before : Option Kept → ℕ
-moved_before kept = option_map_or (λ (kept : Kept). kept.moved) kept 0
+abbrev pub moved_before : Option PendingCall → ℕ
+moved_before pending = option_map_or (λ (pending : PendingCall). pending.moved) pending 0
 
 -- the bytes of a call that one attempt may put into a pipe, after the first `moved`
 abbrev pub window : ℕ → List ℕ → List ℕ
@@ -38,7 +38,7 @@ HasWindow cells at moved count buffer =
 pub record StandsFor (io : Io) (p number : ℕ) (bytes read : List ℕ) : Type 0 where
   pub count : length read ≡ length bytes
   pub all : is_on_pipe (open_path io p number) ≡ false → read ≡ bytes
-  pub moving : window (moved_before (kept_at io p)) read ≡ window (moved_before (kept_at io p)) bytes
+  pub moving : window (moved_before (pending_at io p)) read ≡ window (moved_before (pending_at io p)) bytes
 
 -- `count` bytes at the front of a buffer were read for a write on the path of a number, if it has bytes
 abbrev pub IsRead : Io → ℕ → ℕ → Option (List ℕ) → Option ℕ → List ℕ → Type 0

@@ -10,13 +10,13 @@ use Rattle.os9_base.specs.declared.registers.Regs.{Regs}
 use Rattle.os9_outer.specs.TerminalState.{TerminalState, ChangesOneTerminal}
 use Rattle.io_model.specs.Line.{line_length, line_put}
 use Rattle.io_model.specs.Terminal.{Writes}
-use Rattle.io_model.specs.declared.kept.Kept.{Kept}
+use Rattle.io_model.specs.declared.pending.PendingCall.{PendingCall}
 use Rattle.io_model.specs.declared.path.Target.{Target}
 use Rattle.io_model.specs.declared.path.Target.TheVariants.{Pipe, Term}
 use Rattle.io_model.specs.declared.terminal.Progress.{Progress}
 use Rattle.io_rules.specs.Again.{IsAgain, path_number}
-use Rattle.io_rules.specs.Attempts.{Does, kept_in}
-use Rattle.io_rules.specs.Io.{Io, OpenPath, kept_at, terminal_at, with_call, with_terminal}
+use Rattle.io_rules.specs.Attempts.{Does, pending_in}
+use Rattle.io_rules.specs.Io.{Io, OpenPath, pending_at, terminal_at, with_call, with_terminal}
 use Rattle.io_rules.specs.Modes.{can_write}
 use Rattle.io_rules.specs.Step.{Caller, IoEnd, IoStep, done, leaves, refuses, writes}
 use Rattle.io_rules.specs.Transfer.{call_now, on_path}
@@ -71,7 +71,7 @@ IsLineOf kind bytes = put_count kind bytes ≡ length bytes
 
 -- the first attempt of a line write moves a line
 abbrev pub IsLineFirst : WriteKind → Io → ℕ → List ℕ → Type 0
-IsLineFirst kind io p bytes = kept_at io p ≡ None → IsLineOf kind bytes
+IsLineFirst kind io p bytes = pending_at io p ≡ None → IsLineOf kind bytes
 
 -- on a terminal a line write moves a line
 abbrev pub IsLineOn : Target → WriteKind → List ℕ → Type 0
@@ -80,10 +80,10 @@ IsLineOn target kind bytes = (n : ℕ) → target ≡ Term n → IsLineOf kind b
 -- a process may attempt this kind of write of `count` bytes: its pending call, if it has one, is this write
 pub record MaySend (kind : WriteKind) (regs : Regs) (io : Io) (p count : ℕ) : Type 0 where
   pub again : IsAgain (write_call kind) regs io p
-  pub same : IfSome (kept_at io p) (λ kept. kept.count ≡ count)
+  pub same : IfSome (pending_at io p) (λ pending. pending.count ≡ count)
 
 -- a process may attempt a write of `count` bytes in this call, on this target: on a pipe it may wait in it
-pub record MayWrite (io : Io) (p : ℕ) (target : Target) (call : Kept) (count : ℕ) : Type 0 where
+pub record MayWrite (io : Io) (p : ℕ) (target : Target) (call : PendingCall) (count : ℕ) : Type 0 where
   pub on : target_at io.paths call.path.0 ≡ Some target
   pub may : (pipe : ℕ) → target ≡ Pipe pipe → MayWait io.paths p call
   pub all : count ≡ call.count
@@ -99,7 +99,7 @@ abbrev pub put_on : WriteKind → ℕ → List ℕ → Regs → IoStep
 put_on kind n bytes told = writes (record { terminal = n; put = put_of kind bytes; count = length bytes; regs = told })
 
 -- an attempt on the target of its path
-unfoldable pub write_on : WriteKind → Kept → Target → Caller → Io → List ℕ → IoStep
+unfoldable pub write_on : WriteKind → PendingCall → Target → Caller → Io → List ℕ → IoStep
 write_on kind call target caller io bytes = writes_target (sent kind caller bytes) caller io call target
 
 -- an attempt on a path that may be written
@@ -129,7 +129,7 @@ pub record Tells (step : IoStep) (caller : Caller) (io : Io) (regs : Regs) (end 
   pub between : Io
   pub does : Does step caller io (leaves it between) before after
   pub told : IsTold it regs end
-  pub state : new ≡ with_call between caller.process.0 (kept_in it)
+  pub state : new ≡ with_call between caller.process.0 (pending_in it)
 
 -- an attempt ends in this way, or is out of memory
 abbrev pub Sends : IoStep → Caller → Io → Regs → CallEnd → Io → List TerminalState → List TerminalState → Type 0
@@ -148,7 +148,7 @@ SendsFrom kind step p regs bytes end before after =
     (cells : Cells) → Sends (step (sender p regs cells) before.io bytes) (sender p regs cells) before.io
     (regs_done kind regs (length bytes)) end after.io before.terms after.terms
 
--- a terminal gives this answer to this kind of write of these bytes, and nothing is kept of the call
+-- a terminal gives this answer to this kind of write of these bytes, and the call is not pending
 pub record IsPut (kind : WriteKind) (p : Pid) (n : ℕ) (bytes : List ℕ) (answer : Progress) (before after : Streams)
     : Type 0 where
   pub device : ChangesOneTerminal

@@ -4,7 +4,7 @@ use Rattle.os9_base.specs.declared.call.CallEnd.{CallEnd}
 use Rattle.os9_base.specs.declared.call.CallEnd.TheVariants.{Done, Error, Wait, Ended, NoMemory}
 use Rattle.os9_base.specs.declared.registers.Regs.{Regs}
 use Rattle.os9_outer.specs.TerminalState.{TerminalState}
-use Rattle.call_rules.specs.Inner.{Inner, regs_at}
+use Rattle.call_rules.specs.Processes.{Processes, regs_at}
 use Rattle.io_rules.specs.Attempts.{Does, caller_of, io_after, result_by, result_of, step_of}
 use Rattle.io_rules.specs.Io.{Io}
 use Rattle.io_rules.specs.Memory.{WantsMemory}
@@ -16,7 +16,7 @@ use Rattle.proc_state.specs.declared.state.ProcState.{ProcState}
 use Rattle.device_io.specs.Streams.{Streams}
 
 -- an attempt of a process does this: its end, and the processes, the state and the terminals after it
-pub record Takes (step : IoStep) (m : Inner) (io : Io) (p : ℕ) (end : CallEnd) (processes : ProcState) (new : Io)
+pub record Takes (step : IoStep) (m : Processes) (io : Io) (p : ℕ) (end : CallEnd) (processes : ProcState) (new : Io)
     (before after : List TerminalState) : Type 0 where
   pub effect : IoEffect
   pub does : Does step (caller_of m p) io effect before after
@@ -24,7 +24,8 @@ pub record Takes (step : IoStep) (m : Inner) (io : Io) (p : ℕ) (end : CallEnd)
   pub state : new ≡ io_after p effect
 
 -- an attempt of a process ends in this way, with these processes, this state and these terminals after it
-abbrev pub Tries : IoStep → Inner → Io → ℕ → CallEnd → ProcState → Io → List TerminalState → List TerminalState → Type 0
+abbrev pub Tries : IoStep → Processes → Io → ℕ → CallEnd → ProcState → Io → List TerminalState → List TerminalState
+    → Type 0
 Tries step m io p Done processes new before after = Takes step m io p Done processes new before after
 Tries step m io p (Error number) processes new before after =
     Takes step m io p (Error number) processes new before after
@@ -33,7 +34,7 @@ Tries step m io p Ended processes new before after = Takes step m io p Ended pro
 Tries step m io p NoMemory processes new before after = WantsMemory step (caller_of m p) io before after
 
 -- the result of a call that ends in this way and stores these bytes at an address; without an end it is out of memory
-abbrev pub EndsBy : Option IoEnd → ℕ → List ℕ → Inner → ℕ → CallEnd → ProcState → Type 0
+abbrev pub EndsBy : Option IoEnd → ℕ → List ℕ → Processes → ℕ → CallEnd → ProcState → Type 0
 EndsBy None at bytes m p end processes = end ≡ NoMemory
 EndsBy (Some it) at bytes m p end processes =
     (io : Io) → Comes m p (result_by it m p (stores at bytes it io)) end processes
@@ -43,17 +44,17 @@ EndsBy (Some it) at bytes m p end processes =
 -- an attempt that does this, of a process with these registers, ends in this way
 abbrev pub TriesFrom : (Caller → Io → IoStep) → Regs → ℕ → CallEnd → ProcState → ProcState → Streams → Streams → Type 0
 TriesFrom step regs p end old new before after =
-    (m : Inner) → Represents old m → regs ≡ regs_at m p
+    (m : Processes) → Represents old m → regs ≡ regs_at m p
     → Tries (step (caller_of m p) before.io) m before.io p end new after.io before.terms after.terms
 
 -- an attempt of a call, on a machine with `drives` drives, has this result, unless it is out of memory
 abbrev pub AttemptsFrom : IoCall → ℕ → ℕ → CallEnd → ProcState → ProcState → Streams → Streams → Type 0
 AttemptsFrom call drives p end old new before after =
-    (m : Inner) → Represents old m → end ≢ NoMemory
+    (m : Processes) → Represents old m → end ≢ NoMemory
     → Attempts call m before.io drives p end new after.io before.terms after.terms
 
 -- if this attempt is out of memory, its terminal is as the call left it, and no other terminal has changed
 abbrev pub WantsMemoryFrom : IoCall → ℕ → ℕ → CallEnd → ProcState → Streams → Streams → Type 0
 WantsMemoryFrom call drives p end old before after =
-    (m : Inner) → Represents old m → end ≡ NoMemory
+    (m : Processes) → Represents old m → end ≡ NoMemory
     → WantsMemory (step_of call m p before.io drives before.terms) (caller_of m p) before.io before.terms after.terms

@@ -1,20 +1,20 @@
 //! What a path's mode allows.
 
 ghost use Rattle.std.specs.Prelude.{◌≡◌};
-ghost use Rattle.io_rules.specs.Modes.{can_read as can_read_lem, can_write as can_write_lem};
+ghost use Rattle.io_rules.specs.Modes as model;
 
 use io_rules::modes::{MODE_EXECUTE, MODE_READ, MODE_WRITE};
 
 /// May a path of this mode be read?
 pub(crate) fn can_read(mode: u8) -> bool
-    ensures { result ≡ can_read_lem mode }
+    ensures { result ≡ model.can_read mode }
 {
     mode & (MODE_READ + MODE_EXECUTE) != 0
 }
 
 /// May a path of this mode be written?
 pub(crate) fn can_write(mode: u8) -> bool
-    ensures { result ≡ can_write_lem mode }
+    ensures { result ≡ model.can_write mode }
 {
     mode & MODE_WRITE != 0
 }

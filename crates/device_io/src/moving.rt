@@ -2,12 +2,13 @@
 
 ghost use Rattle.std.specs.Prelude.{◌≡◌, ◌<◌, ◌≤◌, IfSome, length, option_map, take};
 ghost use Rattle.os9_base.specs.Cells.{FitsIn};
-ghost use Rattle.call_rules.specs.Inner.{Inner, cells_at};
+ghost use Rattle.call_rules.specs.Processes.{Processes, cells_at};
 ghost use Rattle.call_rules.specs.UserBytes.{user_bytes};
 ghost use Rattle.guest_memory.specs.Tie.{IsSame as IsSameMemory, cells_of};
-ghost use Rattle.io_rules.specs.Io.{kept_at, open_path};
+ghost use Rattle.io_rules.specs.Io.{pending_at, open_path};
 ghost use Rattle.proc_state.specs.Tie.{IsSame, Represents};
-ghost use Rattle.device_io.specs.Reading.{HasWindow, IsRead, is_on_pipe as is_on_pipe_lem, moved_before as moved_before_lem};
+ghost use Rattle.device_io.specs.Reading as model;
+ghost use Rattle.device_io.specs.Reading.{HasWindow, IsRead};
 
 use guest_memory::memory::Memory;
 use io_model::path::Target;
@@ -28,8 +29,8 @@ pub(crate) fn read_moving(
     count: u16,
 ) -> Option<u16>
     requires process { p.0 < 33 }
-    requires left { IfSome (kept_at io.now p.0) (λ kept. kept.moved < count) }
-    ensures read { (m : Inner) → Represents s.old m → IsRead io.now p.0 number
+    requires left { IfSome (pending_at io.now p.0) (λ pending. pending.moved < count) }
+    ensures read { (m : Processes) → Represents s.old m → IsRead io.now p.0 number
         (user_bytes (cells_at m p.0) at count) result s.new.buffer.items }
     ensures count { IfSome result (λ all. all ≡ count) }
     ensures same { IsSame s.old s.new }
@@ -46,7 +47,7 @@ pub(crate) fn read_moving(
 
 /// Is the path of a number on a pipe?
 fn is_on_pipe(io: &IoState, p: Pid, number: u8) -> bool
-    ensures { result ≡ is_on_pipe_lem (open_path io.now p.0 number) }
+    ensures { result ≡ model.is_on_pipe (open_path io.now p.0 number) }
 {
     match io.open_path(p, number) {
         None => false,
@@ -57,18 +58,18 @@ fn is_on_pipe(io: &IoState, p: Pid, number: u8) -> bool
 /// The number of bytes that earlier attempts of the call of a process moved.
 fn moved_before(io: &IoState, p: Pid) -> u16
     requires { p.0 < 33 }
-    ensures { result ≡ moved_before_lem (kept_at io.now p.0) }
+    ensures { result ≡ model.moved_before (pending_at io.now p.0) }
 {
-    match io.kept(p) {
+    match io.pending(p) {
         None => 0,
-        Some(kept) => kept.moved,
+        Some(pending) => pending.moved,
     }
 }
 
 /// Reads all `count` bytes into the front of the buffer.
 fn read_all(s: &mut ProcState, p: Pid, at: u16, count: u16) -> Option<u16>
     requires { p.0 < 33 }
-    ensures read { (m : Inner) → Represents s.old m → user_bytes (cells_at m p.0) at count
+    ensures read { (m : Processes) → Represents s.old m → user_bytes (cells_at m p.0) at count
         ≡ option_map (λ count. take count s.new.buffer.items) result }
     ensures count { IfSome result (λ all. all ≡ count) }
     ensures same { IsSame s.old s.new }
@@ -86,7 +87,7 @@ fn read_window(s: &mut ProcState, p: Pid, at: u16, moved: u16, count: u16)
     requires process { p.0 < 33 }
     requires fits { FitsIn (cells_of s.old.memory p.0) at count }
     requires left { moved < count }
-    ensures window { (m : Inner) → Represents s.old m
+    ensures window { (m : Processes) → Represents s.old m
         → HasWindow (cells_at m p.0) at moved count s.new.buffer.items }
     ensures same { IsSame s.old s.new }
 {

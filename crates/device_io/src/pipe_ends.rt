@@ -1,21 +1,21 @@
 //! How attempts end.
 
 ghost use Rattle.std.specs.Prelude.{◌≡◌, ◌<◌, ◌+◌, ◌≤◌, None, Some};
-ghost use Rattle.io_model.specs.Kept.{moved_on as moved_on_lem};
+ghost use Rattle.io_model.specs.Pending as model;
 ghost use Rattle.io_rules.specs.Io.{with_call};
 ghost use Rattle.io_state.specs.Sound.{MayWait};
 ghost use Rattle.device_io.specs.Leaving.{ReadsNoTerminal};
 ghost use Rattle.proc_rules.specs.Records.{IsLiving};
-ghost use Rattle.call_rules.specs.Inner.{Inner, with_regs_of};
+ghost use Rattle.call_rules.specs.Processes.{Processes, with_regs_of};
 ghost use Rattle.proc_state.specs.Tie.{Represents};
 
-use io_model::kept::Kept;
+use io_model::pending::PendingCall;
 use io_state::state::IoState;
 use os9_base::call::CallEnd;
 use os9_base::registers::{Pid, Regs};
 use proc_state::state::ProcState;
 
-/// Refuses the call with this number. Nothing is kept of it.
+/// Refuses the call with this number. It is not pending.
 pub(crate) fn refuse(io: &mut IoState, p: Pid, number: u8) -> CallEnd
     requires process { p.0 < 33 }
     requires no_read { ReadsNoTerminal io.old p.0 }
@@ -26,8 +26,8 @@ pub(crate) fn refuse(io: &mut IoState, p: Pid, number: u8) -> CallEnd
     CallEnd::Error(number)
 }
 
-/// The call waits, and this is kept of it.
-pub(crate) fn keep(io: &mut IoState, p: Pid, call: Kept) -> CallEnd
+/// The call waits, and is pending.
+pub(crate) fn keep(io: &mut IoState, p: Pid, call: PendingCall) -> CallEnd
     requires process { p.0 < 33 }
     requires may { MayWait io.old.paths p.0 call }
     requires no_read { ReadsNoTerminal io.old p.0 }
@@ -38,7 +38,7 @@ pub(crate) fn keep(io: &mut IoState, p: Pid, call: Kept) -> CallEnd
     CallEnd::Wait
 }
 
-/// The call is done. Nothing is kept of it.
+/// The call is done. It is not pending.
 pub(crate) fn finish(io: &mut IoState, p: Pid) -> CallEnd
     requires process { p.0 < 33 }
     requires no_read { ReadsNoTerminal io.old p.0 }
@@ -49,12 +49,13 @@ pub(crate) fn finish(io: &mut IoState, p: Pid) -> CallEnd
     CallEnd::Done
 }
 
-/// The call is done, and its process has these registers. Nothing is kept of it.
+/// The call is done, and its process has these registers. It is not pending.
 pub(crate) fn answer(s: &mut ProcState, io: &mut IoState, p: Pid, regs: Regs) -> CallEnd
     requires lives { IsLiving s.old.table p.0 }
     requires no_read { ReadsNoTerminal io.old p.0 }
     ensures end { result ≡ CallEnd.Done }
-    ensures tied { (m : Inner) → Represents s.old m → Represents s.new (with_regs_of m p.0 regs) }
+    ensures tied { (m : Processes) → Represents s.old m
+        → Represents s.new (with_regs_of m p.0 regs) }
     ensures io { io.new ≡ with_call io.old p.0 None }
     ensures lives { IsLiving s.new.table p.0 }
 {
@@ -64,10 +65,10 @@ pub(crate) fn answer(s: &mut ProcState, io: &mut IoState, p: Pid, regs: Regs) ->
 }
 
 /// A call after an attempt that moved `count` more bytes.
-pub(crate) fn moved_on(call: Kept, count: u16) -> Kept
+pub(crate) fn moved_on(call: PendingCall, count: u16) -> PendingCall
     requires { call.moved + count ≤ 65535 }
-    ensures { result ≡ moved_on_lem call count }
+    ensures { result ≡ model.moved_on call count }
 {
     let moved = call.moved + count;
-    Kept { moved, ..call }
+    PendingCall { moved, ..call }
 }

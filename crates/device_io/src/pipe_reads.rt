@@ -3,11 +3,11 @@
 ghost use Rattle.std.specs.Prelude.{◌≡◌, ◌≢◌, ℕ, ◌<◌, ◌≤◌, ◌+◌, ◌||◌, false, [], length, take};
 ghost use Rattle.os9_base.specs.Cells.{FitsIn};
 ghost use Rattle.proc_rules.specs.Records.{IsLiving};
-ghost use Rattle.call_rules.specs.Inner.{Inner, regs_at, with_memory};
+ghost use Rattle.call_rules.specs.Processes.{Processes, regs_at, with_memory};
 ghost use Rattle.proc_model.specs.MemoryChanges.{stored};
 ghost use Rattle.guest_memory.specs.Tie.{cells_of};
-ghost use Rattle.io_model.specs.Kept.{is_complete};
-ghost use Rattle.io_model.specs.Line.{has_return as has_return_lem};
+ghost use Rattle.io_model.specs.Pending.{is_complete};
+ghost use Rattle.io_model.specs.Line as model;
 ghost use Rattle.io_model.specs.Pipe.{IsPipe, moved_count};
 ghost use Rattle.io_rules.specs.Alone.{is_alone};
 ghost use Rattle.io_rules.specs.Attempts.{caller_of};
@@ -20,7 +20,7 @@ ghost use Rattle.device_io.specs.Leaving.{Leaves, ReadsNoTerminal};
 
 use crate::lines::has_return;
 use crate::pipe_ends::{answer, keep, moved_on, refuse};
-use io_model::kept::Kept;
+use io_model::pending::PendingCall;
 use io_model::pipe::{PIPE_BYTES, PipeAns};
 use io_rules::io_call::Direction;
 use io_state::state::IoState;
@@ -42,14 +42,14 @@ pub fn read_pipe(
     p: Pid,
     regs: Regs,
     pipe: u8,
-    call: Kept,
+    call: PendingCall,
 ) -> CallEnd
     requires lives { IsLiving s.old.table p.0 }
     requires named { FitsIn (cells_of s.old.memory p.0) regs.x call.count }
     requires pipe { IsPipe io.old.pipes pipe }
     requires may { MayWait io.old.paths p.0 call }
     requires no_read { ReadsNoTerminal io.old p.0 }
-    ensures call { (m : Inner) → Represents s.old m → regs ≡ regs_at m p.0
+    ensures call { (m : Processes) → Represents s.old m → regs ≡ regs_at m p.0
         → Leaves (reads_pipe (caller_of m p.0) io.old pipe call
         (is_alone io.old p.0 call.path.0 Direction.Reading)) m p.0 result s.new io.new }
     ensures lives { IsLiving s.new.table p.0 }
@@ -66,7 +66,7 @@ fn take_bytes(
     io: &mut IoState,
     p: Pid,
     regs: Regs,
-    call: Kept,
+    call: PendingCall,
     moved: PipeAns,
     bytes: &[u8; PIPE_BYTES],
 ) -> CallEnd
@@ -76,7 +76,7 @@ fn take_bytes(
     requires room { moved_count moved ≤ 256 }
     requires may { MayWait io.old.paths p.0 call }
     requires no_read { ReadsNoTerminal io.old p.0 }
-    ensures call { (m : Inner) → Represents s.old m → regs ≡ regs_at m p.0
+    ensures call { (m : Processes) → Represents s.old m → regs ≡ regs_at m p.0
         → Leaves (stores regs.x (take (moved_count moved) bytes.now)
         (read_end (caller_of m p.0) call moved) io.old) m p.0 result s.new io.new }
     ensures lives { IsLiving s.new.table p.0 }
@@ -108,14 +108,14 @@ pub fn read_pipe_line(
     p: Pid,
     regs: Regs,
     pipe: u8,
-    call: Kept,
+    call: PendingCall,
 ) -> CallEnd
     requires lives { IsLiving s.old.table p.0 }
     requires named { FitsIn (cells_of s.old.memory p.0) regs.x call.count }
     requires pipe { IsPipe io.old.pipes pipe }
     requires may { MayWait io.old.paths p.0 call }
     requires no_read { ReadsNoTerminal io.old p.0 }
-    ensures call { (m : Inner) → Represents s.old m → regs ≡ regs_at m p.0
+    ensures call { (m : Processes) → Represents s.old m → regs ≡ regs_at m p.0
         → Leaves (reads_pipe_line (caller_of m p.0) io.old pipe call
         (is_alone io.old p.0 call.path.0 Direction.Reading)) m p.0 result s.new io.new }
     ensures lives { IsLiving s.new.table p.0 }
@@ -134,7 +134,7 @@ fn take_line(
     p: Pid,
     regs: Regs,
     alone: bool,
-    call: Kept,
+    call: PendingCall,
     moved: PipeAns,
     bytes: &[u8; PIPE_BYTES],
 ) -> CallEnd
@@ -144,7 +144,7 @@ fn take_line(
     requires room { moved_count moved ≤ 256 }
     requires may { MayWait io.old.paths p.0 call }
     requires no_read { ReadsNoTerminal io.old p.0 }
-    ensures call { (m : Inner) → Represents s.old m → regs ≡ regs_at m p.0
+    ensures call { (m : Processes) → Represents s.old m → regs ≡ regs_at m p.0
         → Leaves (stores (regs.x + call.moved) (take (moved_count moved) bytes.now)
         (read_line_end (caller_of m p.0) alone call (take (moved_count moved) bytes.now) moved)
         io.old) m p.0 result s.new io.new }
@@ -169,13 +169,13 @@ fn end_line(
     p: Pid,
     regs: Regs,
     alone: bool,
-    call: Kept,
+    call: PendingCall,
     taken: &[u8],
 ) -> CallEnd
     requires lives { IsLiving s.old.table p.0 }
     requires may { call.moved ≢ call.count → MayWait io.old.paths p.0 call }
     requires no_read { ReadsNoTerminal io.old p.0 }
-    ensures call { (m : Inner) (at : ℕ)
+    ensures call { (m : Processes) (at : ℕ)
         → Represents s.old (with_memory m (stored m.memory p.0 at taken.now)) → regs ≡ regs_at m p.0
         → Leaves (stores at taken.now (line_end (caller_of m p.0) alone call taken.now) io.old)
         m p.0 result s.new io.new }
@@ -189,18 +189,18 @@ fn end_line(
 }
 
 /// Is an I$ReadLn over that took these bytes? `call` is the call after them.
-fn is_over(taken: &[u8], alone: bool, call: Kept) -> bool
-    ensures over { result ≡ (has_return_lem taken.now || (is_complete call || alone)) }
+fn is_over(taken: &[u8], alone: bool, call: PendingCall) -> bool
+    ensures over { result ≡ (model.has_return taken.now || (is_complete call || alone)) }
     ensures left { result ≡ false → call.moved ≢ call.count }
 {
     has_return(taken) || call.moved == call.count || alone
 }
 
 /// An I$ReadLn finds the pipe empty, and its process alone.
-fn end_of_file(s: &mut ProcState, io: &mut IoState, p: Pid, regs: Regs, call: Kept) -> CallEnd
+fn end_of_file(s: &mut ProcState, io: &mut IoState, p: Pid, regs: Regs, call: PendingCall) -> CallEnd
     requires lives { IsLiving s.old.table p.0 }
     requires no_read { ReadsNoTerminal io.old p.0 }
-    ensures call { (m : Inner) (at : ℕ) → Represents s.old m → regs ≡ regs_at m p.0
+    ensures call { (m : Processes) (at : ℕ) → Represents s.old m → regs ≡ regs_at m p.0
         → Leaves (stores at [] (line_ended (caller_of m p.0) call) io.old)
         m p.0 result s.new io.new }
     ensures lives { IsLiving s.new.table p.0 }

@@ -11,7 +11,7 @@ ghost use Rattle.io_rules.specs.declared.io_call.Direction.TheVariants as Direct
 ghost use Rattle.device_io.specs.Leaving.{ReadsNoTerminal, Settles};
 
 use crate::pipe_ends::{finish, keep, moved_on, refuse};
-use io_model::kept::Kept;
+use io_model::pending::PendingCall;
 use io_model::pipe::PipeAns;
 use io_rules::io_call::Direction;
 use io_state::state::IoState;
@@ -27,7 +27,7 @@ use os9_base::registers::Pid;
 ///
 /// E$Write exactly if a byte is left, and no other process outside the same wait holds the path.
 /// The moved bytes stay in the pipe.
-pub fn write_pipe(io: &mut IoState, p: Pid, pipe: u8, call: Kept, bytes: &[u8]) -> CallEnd
+pub fn write_pipe(io: &mut IoState, p: Pid, pipe: u8, call: PendingCall, bytes: &[u8]) -> CallEnd
     requires process { p.0 < 33 }
     requires pipe { IsPipe io.old.pipes pipe }
     requires all { length bytes.now ≡ call.count }
@@ -41,7 +41,7 @@ pub fn write_pipe(io: &mut IoState, p: Pid, pipe: u8, call: Kept, bytes: &[u8]) 
 }
 
 /// An attempt to write the remaining bytes of a call.
-fn write_rest(io: &mut IoState, p: Pid, pipe: u8, alone: bool, call: Kept, rest: &[u8]) -> CallEnd
+fn write_rest(io: &mut IoState, p: Pid, pipe: u8, alone: bool, call: PendingCall, rest: &[u8]) -> CallEnd
     requires process { p.0 < 33 }
     requires pipe { IsPipe io.old.pipes pipe }
     requires left { call.moved + length rest.now ≡ call.count }
@@ -55,7 +55,7 @@ fn write_rest(io: &mut IoState, p: Pid, pipe: u8, alone: bool, call: Kept, rest:
 }
 
 /// Ends a write by the pipe's answer.
-fn settle(io: &mut IoState, p: Pid, alone: bool, call: Kept, moved: PipeAns) -> CallEnd
+fn settle(io: &mut IoState, p: Pid, alone: bool, call: PendingCall, moved: PipeAns) -> CallEnd
     requires process { p.0 < 33 }
     requires few { call.moved + moved_count moved ≤ call.count }
     requires may { MayWait io.old.paths p.0 call }
@@ -73,7 +73,7 @@ fn settle(io: &mut IoState, p: Pid, alone: bool, call: Kept, moved: PipeAns) -> 
 
 /// A write that moved bytes is done if they were the last. Else it waits if another process outside
 /// the same wait holds the path, and is refused if none does.
-fn go_on(io: &mut IoState, p: Pid, alone: bool, call: Kept) -> CallEnd
+fn go_on(io: &mut IoState, p: Pid, alone: bool, call: PendingCall) -> CallEnd
     requires process { p.0 < 33 }
     requires may { call.moved ≢ call.count → MayWait io.old.paths p.0 call }
     requires no_read { ReadsNoTerminal io.old p.0 }

@@ -3,18 +3,18 @@
 ghost use Rattle.std.specs.Prelude.{◌≡◌, ◌<◌, length, vec_len};
 ghost use Rattle.os9_base.specs.Cells.{Cells};
 ghost use Rattle.device_table.specs.Seen.{terminals_seen};
-ghost use Rattle.io_rules.specs.Again.{path_number as path_number_lem};
+ghost use Rattle.io_rules.specs.Again.{path_number as path_number_model};
 ghost use Rattle.io_state.specs.Sound.{IsThere};
 ghost use Rattle.device_io.specs.Leaving.{ReadsNoTerminal};
 ghost use Rattle.device_io.specs.Moving.{AreTerminals, Finds, open_as};
-ghost use Rattle.device_io.specs.Sending.{IsLineFirst, IsLineOf, IsLineOn, IsPut, IsPutAnswer, MaySend, MayWrite, PutEnds, Sends, SendsFrom, put_on, sender, write_call, write_code as write_code_lem, write_found, write_named, write_on, write_open};
+ghost use Rattle.device_io.specs.Sending.{IsLineFirst, IsLineOf, IsLineOn, IsPut, IsPutAnswer, MaySend, MayWrite, PutEnds, Sends, SendsFrom, put_on, sender, write_call, write_code as write_code_model, write_found, write_named, write_on, write_open};
 ghost use Rattle.device_io.specs.Streams.{streams};
 
 use crate::modes::can_write;
 use crate::pipe_writes::write_pipe;
 use crate::stream_ends::{call_now, finish, refuse};
 use device_table::devices::Devices;
-use io_model::kept::Kept;
+use io_model::pending::PendingCall;
 use io_model::path::{Desc, SysPath, Target};
 use io_model::terminal::Progress;
 use io_rules::modes::STANDARD_ERROR;
@@ -70,7 +70,7 @@ pub(crate) fn send(
 
 /// The path number that this kind of write uses.
 fn path_number(kind: WriteKind, regs: Regs) -> u8
-    ensures { result ≡ path_number_lem (write_call kind) regs }
+    ensures { result ≡ path_number_model (write_call kind) regs }
 {
     match kind {
         WriteKind::Bytes | WriteKind::Line => regs.a,
@@ -80,7 +80,7 @@ fn path_number(kind: WriteKind, regs: Regs) -> u8
 
 /// The code of the call for this kind of write.
 fn write_code(kind: WriteKind) -> u8
-    ensures { result ≡ write_code_lem kind }
+    ensures { result ≡ write_code_model kind }
 {
     match kind {
         WriteKind::Bytes => I_WRITE,
@@ -103,7 +103,8 @@ fn send_found(
     requires process { p.0 < 33 }
     requires may { MaySend kind regs io.old p.0 (length bytes.now) }
     requires short { length bytes.now < 65536 }
-    requires finds { Finds io.old p.0 (path_number_lem (write_call kind) regs) (open_as path desc) }
+    requires finds { Finds io.old p.0 (path_number_model (write_call kind) regs)
+        (open_as path desc) }
     requires terminals { AreTerminals io.old.paths (vec_len devices.old.terms) }
     ensures call { IsLineFirst kind io.old p.0 bytes.now
         → SendsFrom kind (write_found kind (open_as path desc)) p regs bytes.now result
@@ -131,7 +132,8 @@ fn send_open(
     requires process { p.0 < 33 }
     requires may { MaySend kind regs io.old p.0 (length bytes.now) }
     requires short { length bytes.now < 65536 }
-    requires finds { Finds io.old p.0 (path_number_lem (write_call kind) regs) (open_as path desc) }
+    requires finds { Finds io.old p.0 (path_number_model (write_call kind) regs)
+        (open_as path desc) }
     requires terminals { AreTerminals io.old.paths (vec_len devices.old.terms) }
     ensures call { IsLineFirst kind io.old p.0 bytes.now
         → SendsFrom kind (write_open kind (open_as path desc)) p regs bytes.now result
@@ -154,7 +156,7 @@ fn send_on(
     p: Pid,
     regs: Regs,
     kind: WriteKind,
-    call: Kept,
+    call: PendingCall,
     target: Target,
     bytes: &[u8],
 ) -> CallEnd

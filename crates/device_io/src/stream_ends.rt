@@ -2,31 +2,31 @@
 
 ghost use Rattle.std.specs.Prelude.{◌≡◌, ◌<◌, None, unwrap_or};
 ghost use Rattle.io_rules.specs.Attempts.{result_by};
-ghost use Rattle.io_rules.specs.Io.{Io, kept_at, with_call};
+ghost use Rattle.io_rules.specs.Io.{Io, pending_at, with_call};
 ghost use Rattle.io_rules.specs.Step.{IoEnd, leaves};
 ghost use Rattle.io_state.specs.Sound.{IsIo};
 ghost use Rattle.proc_rules.specs.Records.{IsLiving};
-ghost use Rattle.call_rules.specs.Inner.{Inner, with_regs_of};
+ghost use Rattle.call_rules.specs.Processes.{Processes, with_regs_of};
 ghost use Rattle.device_io.specs.Leaving.{IsTold, ReadsNoTerminal};
 ghost use Rattle.proc_state.specs.Tie.{Comes, Represents};
 
-use io_model::kept::Kept;
+use io_model::pending::PendingCall;
 use io_model::path::SysPath;
 use io_state::state::IoState;
 use os9_base::call::CallEnd;
 use os9_base::registers::{Pid, Regs};
 use proc_state::state::ProcState;
 
-/// The call as an attempt finds it: the kept call, or at the first attempt the call of this code on
-/// this path for `count` bytes.
-pub(crate) fn call_now(io: &IoState, p: Pid, code: u8, path: SysPath, count: u16) -> Kept
+/// The call as an attempt finds it: the pending call, or at the first attempt the call of this code
+/// on this path for `count` bytes.
+pub(crate) fn call_now(io: &IoState, p: Pid, code: u8, path: SysPath, count: u16) -> PendingCall
     requires { p.0 < 33 }
-    ensures call { result ≡ unwrap_or (kept_at io.now p.0)
+    ensures call { result ≡ unwrap_or (pending_at io.now p.0)
         (record { code = code; path = path; moved = 0; count = count }) }
     ensures sound { IsIo io.now }
 {
     let moved = 0;
-    io.kept(p).unwrap_or(Kept {
+    io.pending(p).unwrap_or(PendingCall {
         code,
         path,
         moved,
@@ -34,7 +34,7 @@ pub(crate) fn call_now(io: &IoState, p: Pid, code: u8, path: SysPath, count: u16
     })
 }
 
-/// Refuses the call with this number. Nothing is kept of it.
+/// Refuses the call with this number. It is not pending.
 pub(crate) fn refuse(io: &mut IoState, p: Pid, number: u8) -> CallEnd
     requires process { p.0 < 33 }
     requires no_read { ReadsNoTerminal io.old p.0 }
@@ -45,12 +45,13 @@ pub(crate) fn refuse(io: &mut IoState, p: Pid, number: u8) -> CallEnd
     CallEnd::Error(number)
 }
 
-/// The call is done, and its process has these registers. Nothing is kept of it.
+/// The call is done, and its process has these registers. It is not pending.
 pub(crate) fn answer(s: &mut ProcState, io: &mut IoState, p: Pid, regs: Regs) -> CallEnd
     requires lives { IsLiving s.old.table p.0 }
     requires no_read { ReadsNoTerminal io.old p.0 }
     ensures end { result ≡ CallEnd.Done }
-    ensures tied { (m : Inner) → Represents s.old m → Represents s.new (with_regs_of m p.0 regs) }
+    ensures tied { (m : Processes) → Represents s.old m
+        → Represents s.new (with_regs_of m p.0 regs) }
     ensures io { io.new ≡ with_call io.old p.0 None }
     ensures lives { IsLiving s.new.table p.0 }
 {
@@ -59,7 +60,7 @@ pub(crate) fn answer(s: &mut ProcState, io: &mut IoState, p: Pid, regs: Regs) ->
     CallEnd::Done
 }
 
-/// The call is done. Nothing is kept of it.
+/// The call is done. It is not pending.
 pub(crate) fn finish(io: &mut IoState, p: Pid) -> CallEnd
     requires process { p.0 < 33 }
     requires no_read { ReadsNoTerminal io.old p.0 }
@@ -74,7 +75,7 @@ pub(crate) fn finish(io: &mut IoState, p: Pid) -> CallEnd
 /// call is done.
 pub(crate) fn tell(s: &mut ProcState, p: Pid, end: CallEnd, regs: Regs)
     requires lives { IsLiving s.old.table p.0 }
-    ensures told { (m : Inner) (it : IoEnd) (io : Io) → Represents s.old m → IsTold it regs end
+    ensures told { (m : Processes) (it : IoEnd) (io : Io) → Represents s.old m → IsTold it regs end
         → Comes m p.0 (result_by it m p.0 (leaves it io)) end s.new }
     ensures lives { IsLiving s.new.table p.0 }
 {

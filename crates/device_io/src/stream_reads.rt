@@ -3,7 +3,7 @@
 ghost use Rattle.std.specs.Prelude.{◌≡◌, ℕ, ◌<◌, Some, vec_len};
 ghost use Rattle.os9_base.specs.Cells.{FitsIn};
 ghost use Rattle.proc_rules.specs.Records.{IsLiving};
-ghost use Rattle.call_rules.specs.Inner.{Inner, regs_at};
+ghost use Rattle.call_rules.specs.Processes.{Processes, regs_at};
 ghost use Rattle.guest_memory.specs.Tie.{cells_of};
 ghost use Rattle.io_model.specs.Pipe.{IsPipe};
 ghost use Rattle.io_rules.specs.Attempts.{caller_of};
@@ -13,7 +13,8 @@ ghost use Rattle.io_state.specs.Again.{IsAgain};
 ghost use Rattle.io_state.specs.Sound.{IsThere, MayWait, read_kind};
 ghost use Rattle.device_io.specs.Leaving.{Leaves, ReadsNoTerminal};
 ghost use Rattle.proc_state.specs.Tie.{Represents};
-ghost use Rattle.device_io.specs.Moving.{AreTerminals, Finds, MayAttempt, MayMove, StaysIfKept, open_as, read_call, read_code as read_code_lem, read_found as read_found_lem, read_step, read_named as read_named_lem, read_open as read_open_lem, read_on as read_on_lem};
+ghost use Rattle.device_io.specs.Moving as model;
+ghost use Rattle.device_io.specs.Moving.{AreTerminals, Finds, MayAttempt, MayMove, StaysIfPending, open_as, read_call, read_step};
 ghost use Rattle.device_io.specs.Streams.{streams};
 ghost use Rattle.device_io.specs.Trying.{AttemptsFrom, TriesFrom, WantsMemoryFrom};
 
@@ -22,7 +23,7 @@ use crate::pipe_reads::{read_pipe, read_pipe_line};
 use crate::stream_ends::{answer, call_now, refuse};
 use crate::terminals::read_terminal;
 use device_table::devices::Devices;
-use io_model::kept::Kept;
+use io_model::pending::PendingCall;
 use io_model::path::{Desc, SysPath, Target};
 use io_model::terminal::ReadKind;
 use io_state::state::IoState;
@@ -94,7 +95,7 @@ fn read(
 ) -> CallEnd
     requires lives { IsLiving s.old.table p.0 }
     requires again { IsAgain (read_call kind) regs io.old p.0 }
-    requires stays { StaysIfKept (cells_of s.old.memory p.0) regs io.old p.0 }
+    requires stays { StaysIfPending (cells_of s.old.memory p.0) regs io.old p.0 }
     requires terminals { AreTerminals io.old.paths (vec_len devices.old.terms) }
     ensures call { TriesFrom (read_step kind) regs p.0 result s.old s.new
         (streams CharDriver-box io.old devices.old) (streams CharDriver-box io.new devices.new) }
@@ -119,10 +120,10 @@ fn read_named(
 ) -> CallEnd
     requires lives { IsLiving s.old.table p.0 }
     requires again { IsAgain (read_call kind) regs io.old p.0 }
-    requires stays { StaysIfKept (cells_of s.old.memory p.0) regs io.old p.0 }
+    requires stays { StaysIfPending (cells_of s.old.memory p.0) regs io.old p.0 }
     requires named { FitsIn (cells_of s.old.memory p.0) regs.x regs.y }
     requires terminals { AreTerminals io.old.paths (vec_len devices.old.terms) }
-    ensures call { TriesFrom (read_named_lem kind) regs p.0 result s.old s.new
+    ensures call { TriesFrom (model.read_named kind) regs p.0 result s.old s.new
         (streams CharDriver-box io.old devices.old) (streams CharDriver-box io.new devices.new) }
     ensures lives { IsLiving s.new.table p.0 }
     ensures drives { devices.new.drives ≡ devices.old.drives }
@@ -147,11 +148,11 @@ fn read_found(
 ) -> CallEnd
     requires lives { IsLiving s.old.table p.0 }
     requires again { IsAgain (read_call kind) regs io.old p.0 }
-    requires stays { StaysIfKept (cells_of s.old.memory p.0) regs io.old p.0 }
+    requires stays { StaysIfPending (cells_of s.old.memory p.0) regs io.old p.0 }
     requires named { FitsIn (cells_of s.old.memory p.0) regs.x regs.y }
     requires finds { Finds io.old p.0 regs.a (open_as path desc) }
     requires terminals { AreTerminals io.old.paths (vec_len devices.old.terms) }
-    ensures call { TriesFrom (read_found_lem kind (open_as path desc)) regs p.0 result s.old s.new
+    ensures call { TriesFrom (model.read_found kind (open_as path desc)) regs p.0 result s.old s.new
         (streams CharDriver-box io.old devices.old) (streams CharDriver-box io.new devices.new) }
     ensures lives { IsLiving s.new.table p.0 }
     ensures drives { devices.new.drives ≡ devices.old.drives }
@@ -179,7 +180,7 @@ fn read_open(
     requires named { FitsIn (cells_of s.old.memory p.0) regs.x regs.y }
     requires finds { Finds io.old p.0 regs.a (open_as path desc) }
     requires terminals { AreTerminals io.old.paths (vec_len devices.old.terms) }
-    ensures call { TriesFrom (read_open_lem kind (open_as path desc)) regs p.0 result s.old s.new
+    ensures call { TriesFrom (model.read_open kind (open_as path desc)) regs p.0 result s.old s.new
         (streams CharDriver-box io.old devices.old) (streams CharDriver-box io.new devices.new) }
     ensures lives { IsLiving s.new.table p.0 }
     ensures drives { devices.new.drives ≡ devices.old.drives }
@@ -195,7 +196,7 @@ fn read_open(
 
 /// The code of the call for this kind of read.
 fn read_code(kind: ReadKind) -> u8
-    ensures { result ≡ read_code_lem kind }
+    ensures { result ≡ model.read_code kind }
 {
     match kind {
         ReadKind::Bytes => I_READ,
@@ -211,7 +212,7 @@ fn read_on(
     p: Pid,
     regs: Regs,
     kind: ReadKind,
-    call: Kept,
+    call: PendingCall,
     target: Target,
 ) -> CallEnd
     requires lives { IsLiving s.old.table p.0 }
@@ -220,7 +221,7 @@ fn read_on(
     requires kind_is { read_kind call.code ≡ Some kind }
     requires there { IsThere io.old target }
     requires terminals { AreTerminals io.old.paths (vec_len devices.old.terms) }
-    ensures call { TriesFrom (read_on_lem kind call target) regs p.0 result s.old s.new
+    ensures call { TriesFrom (model.read_on kind call target) regs p.0 result s.old s.new
         (streams CharDriver-box io.old devices.old) (streams CharDriver-box io.new devices.new) }
     ensures lives { IsLiving s.new.table p.0 }
     ensures drives { devices.new.drives ≡ devices.old.drives }
@@ -242,14 +243,14 @@ fn read_pipe_as(
     regs: Regs,
     kind: ReadKind,
     pipe: u8,
-    call: Kept,
+    call: PendingCall,
 ) -> CallEnd
     requires lives { IsLiving s.old.table p.0 }
     requires named { FitsIn (cells_of s.old.memory p.0) regs.x call.count }
     requires pipe { IsPipe io.old.pipes pipe }
     requires may { MayWait io.old.paths p.0 call }
     requires no_read { ReadsNoTerminal io.old p.0 }
-    ensures call { (m : Inner) → Represents s.old m → regs ≡ regs_at m p.0
+    ensures call { (m : Processes) → Represents s.old m → regs ≡ regs_at m p.0
         → Leaves (pipe_read kind (caller_of m p.0) io.old pipe call) m p.0 result s.new io.new }
     ensures lives { IsLiving s.new.table p.0 }
 {

@@ -2,10 +2,11 @@
 
 ghost use Rattle.std.specs.Prelude.{◌≡◌, ℕ, ◌<◌, IfSome, None, option_map, take, vec_len};
 ghost use Rattle.proc_rules.specs.Records.{IsLiving};
-ghost use Rattle.call_rules.specs.Inner.{Inner};
+ghost use Rattle.call_rules.specs.Processes.{Processes};
 ghost use Rattle.io_rules.specs.Attempts.{caller_of};
-ghost use Rattle.io_rules.specs.Io.{kept_at};
-ghost use Rattle.io_rules.specs.Write.{error_line as error_line_lem, line_bytes};
+ghost use Rattle.io_rules.specs.Io.{pending_at};
+ghost use Rattle.io_rules.specs.Write as model;
+ghost use Rattle.io_rules.specs.Write.{line_bytes};
 ghost use Rattle.io_rules.specs.declared.io_call.IoCall.TheVariants as Call;
 ghost use Rattle.proc_state.specs.Tie.{IsSame, Represents};
 ghost use Rattle.device_io.specs.Moving.{MayAttempt};
@@ -122,28 +123,28 @@ pub fn f_perr(s: &mut ProcState, io: &mut IoState, devices: &mut Devices, p: Pid
 /// bytes that it may move. None if one of them is in no named slot or past `FFFF`.
 fn read_line_now(s: &mut ProcState, io: &IoState, p: Pid, regs: Regs) -> Option<u16>
     requires { p.0 < 33 }
-    ensures line { (m : Inner) → Represents s.old m → regs ≡ (caller_of m p.0).regs
-        → IsRead io.now p.0 regs.a (line_bytes (caller_of m p.0) (kept_at io.now p.0)) result
+    ensures line { (m : Processes) → Represents s.old m → regs ≡ (caller_of m p.0).regs
+        → IsRead io.now p.0 regs.a (line_bytes (caller_of m p.0) (pending_at io.now p.0)) result
         s.new.buffer.items }
-    ensures first { (m : Inner) → Represents s.old m → regs ≡ (caller_of m p.0).regs
-        → kept_at io.now p.0 ≡ None → line_bytes (caller_of m p.0) None
+    ensures first { (m : Processes) → Represents s.old m → regs ≡ (caller_of m p.0).regs
+        → pending_at io.now p.0 ≡ None → line_bytes (caller_of m p.0) None
         ≡ option_map (λ count. take count s.new.buffer.items) result }
     ensures kept { IfSome result
-        (λ count. IfSome (kept_at io.now p.0) (λ kept. kept.count ≡ count)) }
+        (λ count. IfSome (pending_at io.now p.0) (λ pending. pending.count ≡ count)) }
     ensures same { IsSame s.old s.new }
 {
-    match io.kept(p) {
+    match io.pending(p) {
         None => match s.read_line(p, regs.x, regs.y) {
             None => None,
             Some(count) => Some(count as u16),
         },
-        Some(kept) => read_moving(s, io, p, regs.a, regs.x, kept.count),
+        Some(pending) => read_moving(s, io, p, regs.a, regs.x, pending.count),
     }
 }
 
 /// The line that F$PErr writes for an error number.
 fn error_line(number: u8) -> [u8; 11]
-    ensures { result ≡ error_line_lem number }
+    ensures { result ≡ model.error_line number }
 {
     [
         b'E',

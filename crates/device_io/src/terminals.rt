@@ -3,19 +3,19 @@
 ghost use Rattle.std.specs.Prelude.{◌≡◌, ◌<◌, ◌≤◌, take, vec_len};
 ghost use Rattle.os9_base.specs.Cells.{FitsIn};
 ghost use Rattle.proc_rules.specs.Records.{IsLiving};
-ghost use Rattle.call_rules.specs.Inner.{Inner, regs_at};
+ghost use Rattle.call_rules.specs.Processes.{Processes, regs_at};
 ghost use Rattle.guest_memory.specs.Tie.{cells_of};
 ghost use Rattle.io_rules.specs.Attempts.{caller_of};
 ghost use Rattle.io_rules.specs.Step.{TerminalRead};
 ghost use Rattle.io_rules.specs.Terminals.{read_ends};
 ghost use Rattle.io_state.specs.Terminals.{MayRead, count_of};
 ghost use Rattle.proc_state.specs.Tie.{Represents};
-ghost use Rattle.device_io.specs.Moving.{read_terminal as read_terminal_lem};
+ghost use Rattle.device_io.specs.Moving as model;
 ghost use Rattle.device_io.specs.Streams.{streams};
 ghost use Rattle.device_io.specs.Trying.{EndsBy, TriesFrom};
 
 use device_table::devices::Devices;
-use io_model::kept::Kept;
+use io_model::pending::PendingCall;
 use io_model::terminal::{Progress, ReadKind, TYPE_AHEAD};
 use io_state::state::IoState;
 use os9_base::call::CallEnd;
@@ -39,13 +39,13 @@ pub(crate) fn read_terminal(
     regs: Regs,
     kind: ReadKind,
     n: u8,
-    call: Kept,
+    call: PendingCall,
 ) -> CallEnd
     requires lives { IsLiving s.old.table p.0 }
     requires named { FitsIn (cells_of s.old.memory p.0) regs.x call.count }
     requires may { MayRead io.old p.0 n kind call }
     requires there { n < vec_len devices.old.terms }
-    ensures call { TriesFrom (read_terminal_lem kind n call) regs p.0 result s.old s.new
+    ensures call { TriesFrom (model.read_terminal kind n call) regs p.0 result s.old s.new
         (streams CharDriver-box io.old devices.old) (streams CharDriver-box io.new devices.new) }
     ensures lives { IsLiving s.new.table p.0 }
     ensures drives { devices.new.drives ≡ devices.old.drives }
@@ -68,7 +68,7 @@ fn end_read(
     requires lives { IsLiving s.old.table p.0 }
     requires named { FitsIn (cells_of s.old.memory p.0) regs.x (count_of answer) }
     requires room { count_of answer ≤ 256 }
-    ensures ends { (m : Inner) (read : TerminalRead) → Represents s.old m → regs ≡ regs_at m p.0
+    ensures ends { (m : Processes) (read : TerminalRead) → Represents s.old m → regs ≡ regs_at m p.0
         → EndsBy (read_ends (caller_of m p.0) read answer) regs.x
         (take (count_of answer) bytes.now) m p.0 result s.new }
     ensures lives { IsLiving s.new.table p.0 }

@@ -4,7 +4,7 @@ use Rattle.os9_base.specs.declared.call.CallEnd.{CallEnd}
 use Rattle.os9_base.specs.declared.registers.Regs.{Regs}
 use Rattle.proc_model.specs.MemoryChanges.{stored}
 use Rattle.os9_outer.specs.TerminalState.{TerminalState}
-use Rattle.call_rules.specs.Inner.{Inner, regs_at, cells_at, with_memory, with_regs_of}
+use Rattle.call_rules.specs.Processes.{Processes, regs_at, cells_at, with_memory, with_regs_of}
 use Rattle.io_rules.specs.Attempts.{Does, step_of, caller_of, result_of}
 use Rattle.os9_base.specs.declared.errors.TheConstants.{E_BPNUM, E_PTHFUL, E_UNKSVC, E_BPADDR, E_NOTRDY}
 use Rattle.call_rules.specs.UserBytes.{user_bytes}
@@ -31,7 +31,7 @@ does-quiet (reads read) caller io terms quiet = absurd quiet
 does-quiet (writes write) caller io terms quiet = absurd quiet
 
 -- such an attempt of a call, by how it ends
-pub attempts : (call : IoCall) (m : Inner) (io new : Io) (drives p : ℕ) (end : CallEnd) (processes : ProcState)
+pub attempts : (call : IoCall) (m : Processes) (io new : Io) (drives p : ℕ) (end : CallEnd) (processes : ProcState)
     (terms : List TerminalState) → IsQuiet (step_of call m p io drives terms)
     → Ends (step_of call m p io drives terms) m io p end processes new → Attempts call m io drives p end processes new
     terms terms
@@ -103,7 +103,7 @@ getstt-quiet caller io = by (open_path io caller.process.0 caller.regs.a)
     by (Some opened) = status-quiet caller io opened.desc.target caller.regs.b
 
 -- a number that names a path was closed
-pub close-ends : (m : Inner) (io new : Io) (p : ℕ) (end : CallEnd) (processes : ProcState) (regs : Regs)
+pub close-ends : (m : Processes) (io new : Io) (p : ℕ) (end : CallEnd) (processes : ProcState) (regs : Regs)
     → regs ≡ regs_at m p → is_none (slot_of io.paths p regs.a) ≡ false → end ≡ CallEnd.Done → Represents processes
     (with_regs_of m p regs) → new ≡ with_call (after_close io p regs.a) p None → Ends (i_close (caller_of m p) io) m
     io p end processes new
@@ -120,7 +120,7 @@ close-ends m io new p end processes regs same named is tied state =
     by (Some path) named tied state = ((is, tied), state)
 
 -- the bytes for the options of a path are not there
-pub options-refused : (m : Inner) (io new : Io) (p : ℕ) (target : Target) (end : CallEnd) (processes : ProcState)
+pub options-refused : (m : Processes) (io new : Io) (p : ℕ) (target : Target) (end : CallEnd) (processes : ProcState)
     → user_bytes (cells_at m p) (regs_at m p).x OPTION_BYTES ≡ None → end ≡ CallEnd.Error E_BPADDR
     → Represents processes m → new ≡ with_call io p None → Ends (gets_options (caller_of m p) io target) m io p end
     processes new
@@ -130,7 +130,7 @@ options-refused m io new p target end processes none is tied state =
     (sym none) ((is, tied), state)
 
 -- the options of a path were stored
-pub options-stored : (m : Inner) (io new : Io) (p : ℕ) (target : Target) (end : CallEnd) (processes : ProcState)
+pub options-stored : (m : Processes) (io new : Io) (p : ℕ) (target : Target) (end : CallEnd) (processes : ProcState)
     (bytes : List ℕ) (regs : Regs) → regs ≡ regs_at m p → user_bytes (cells_at m p) regs.x OPTION_BYTES ≡ Some bytes
     → end ≡ CallEnd.Done → Represents processes
     (with_regs_of (with_memory m (stored m.memory p regs.x (options target))) p regs) → new ≡ with_call io p None

@@ -1,7 +1,7 @@
 -- Attempts that reach no device.
 use Rattle.std.specs.Prelude.{◌≡◌, ℕ, ⊤}
 use Rattle.os9_base.specs.declared.call.CallEnd.{CallEnd}
-use Rattle.call_rules.specs.Inner.{Inner}
+use Rattle.call_rules.specs.Processes.{Processes}
 use Rattle.io_rules.specs.Attempts.{io_after, result_of}
 use Rattle.io_rules.specs.Io.{Io}
 use Rattle.io_rules.specs.Step.{IoEffect, IoStep, refused, comes, reads, writes, leaves, fails}
@@ -23,6 +23,6 @@ effect_of (reads read) io = leaves (fails 0) io
 effect_of (writes write) io = leaves (fails 0) io
 
 -- an attempt of a process that reaches no device ends in this way, and leaves these processes and this state
-abbrev pub Ends : IoStep → Inner → Io → ℕ → CallEnd → ProcState → Io → Type 0
+abbrev pub Ends : IoStep → Processes → Io → ℕ → CallEnd → ProcState → Io → Type 0
 Ends step m io p end processes new =
     Comes m p (result_of m p (effect_of step io)) end processes × (new ≡ io_after p (effect_of step io))

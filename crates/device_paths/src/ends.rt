@@ -1,9 +1,9 @@
 //! How calls end.
 
 ghost use Rattle.std.specs.Prelude.{◌≡◌, ◌<◌, None};
-ghost use Rattle.io_rules.specs.Io.{kept_at, with_call};
+ghost use Rattle.io_rules.specs.Io.{pending_at, with_call};
 ghost use Rattle.proc_rules.specs.Records.{IsLiving};
-ghost use Rattle.call_rules.specs.Inner.{Inner, with_regs_of};
+ghost use Rattle.call_rules.specs.Processes.{Processes, with_regs_of};
 ghost use Rattle.proc_state.specs.Tie.{Represents};
 
 use io_state::state::IoState;
@@ -14,7 +14,7 @@ use proc_state::state::ProcState;
 /// Refuses the call with this number. Nothing is kept of it.
 pub fn refuse(io: &mut IoState, p: Pid, number: u8) -> CallEnd
     requires process { p.0 < 33 }
-    requires first { kept_at io.old p.0 ≡ None }
+    requires first { pending_at io.old p.0 ≡ None }
     ensures end { result ≡ CallEnd.Error number }
     ensures io { io.new ≡ with_call io.old p.0 None }
 {
@@ -25,9 +25,10 @@ pub fn refuse(io: &mut IoState, p: Pid, number: u8) -> CallEnd
 /// The call is done, and its process has these registers. Nothing is kept of it.
 pub fn answer(s: &mut ProcState, io: &mut IoState, p: Pid, regs: Regs) -> CallEnd
     requires lives { IsLiving s.old.table p.0 }
-    requires first { kept_at io.old p.0 ≡ None }
+    requires first { pending_at io.old p.0 ≡ None }
     ensures end { result ≡ CallEnd.Done }
-    ensures tied { (m : Inner) → Represents s.old m → Represents s.new (with_regs_of m p.0 regs) }
+    ensures tied { (m : Processes) → Represents s.old m
+        → Represents s.new (with_regs_of m p.0 regs) }
     ensures io { io.new ≡ with_call io.old p.0 None }
     ensures lives { IsLiving s.new.table p.0 }
 {

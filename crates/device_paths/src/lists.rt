@@ -1,7 +1,7 @@
 //! The path lists of calls.
 
 ghost use Rattle.std.specs.Prelude.{◌≡◌, ◌<◌};
-ghost use Rattle.call_rules.specs.Inner.{Inner, cells_at};
+ghost use Rattle.call_rules.specs.Processes.{Processes, cells_at};
 ghost use Rattle.io_rules.specs.PathList.{path_list};
 ghost use Rattle.device_paths.specs.Listed.{listed_of};
 ghost use Rattle.proc_state.specs.Tie.{Represents, IsSame};
@@ -19,7 +19,7 @@ use user_names::name_fault::NameFault;
 /// `NoName` exactly if there is no name where one is required.
 pub(crate) fn read_list(s: &mut ProcState, p: Pid, at: u16) -> Result<Listed, NameFault>
     requires { p.0 < 33 }
-    ensures list { (m : Inner) → Represents s.old m
+    ensures list { (m : Processes) → Represents s.old m
         → result ≡ listed_of (path_list (cells_at m p.0) at) }
     ensures same { IsSame s.old s.new }
 {

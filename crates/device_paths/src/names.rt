@@ -2,8 +2,8 @@
 
 ghost use Rattle.std.specs.Prelude.{◌≡◌, ◌+◌, ◌<◌, ◌≤◌, ℕ, suc, Ok, length};
 ghost use Rattle.guest_memory.specs.Tie.{IsSame, cells_of};
-ghost use Rattle.io_rules.specs.PathList.{behind as behind_lem, behind_slash as behind_slash_lem, names_behind, is_dots as is_dots_lem, is_marked as is_marked_lem, names_at};
-ghost use Rattle.os9_base.specs.Name.{is_name_character as is_name_character_lem, low_bits};
+ghost use Rattle.io_rules.specs.PathList.{behind as behind_model, behind_slash as behind_slash_model, names_behind, is_dots as is_dots_model, is_marked as is_marked_model, names_at};
+ghost use Rattle.os9_base.specs.Name.{is_name_character as is_name_character_model, low_bits};
 ghost use Rattle.device_paths.specs.Tail.{behind_of, tail_of, tail_after, GoesUp, step_by};
 
 use guest_memory::memory::Memory;
@@ -82,7 +82,7 @@ fn read_step(memory: &mut Memory, p: Pid, at: u16) -> Result<Step, NameFault>
 pub(crate) fn step_over(memory: &Memory, p: Pid, at: u16, name: &Name) -> Result<Step, NameFault>
     requires { p.0 < 33 }
     ensures exact { result ≡ step_by name.now (at + length name.now)
-        (behind_lem (cells_of memory.now p.0) (at + length name.now)) }
+        (behind_model (cells_of memory.now p.0) (at + length name.now)) }
     ensures step { (left : ℕ) → tail_of (names_behind
         (λ next. names_at (cells_of memory.now p.0) next left)
         (cells_of memory.now p.0) at (Ok name.now))
@@ -106,7 +106,7 @@ pub(crate) fn step_over(memory: &Memory, p: Pid, at: u16, name: &Name) -> Result
 fn what_follows(memory: &Memory, p: Pid, at: u16, len: u8) -> Behind
     requires process { p.0 < 33 }
     requires some { 0 < len }
-    ensures behind { behind_of result ≡ behind_lem (cells_of memory.now p.0) (at + len) }
+    ensures behind { behind_of result ≡ behind_model (cells_of memory.now p.0) (at + len) }
     ensures another { result ≡ Behind.Another → at + len + 1 < 65536 }
 {
     let len = u16::from(len);
@@ -122,14 +122,14 @@ fn what_follows(memory: &Memory, p: Pid, at: u16, len: u8) -> Behind
 
 /// Does a byte have bit 7?
 fn is_marked(byte: Option<u8>) -> bool
-    ensures { result ≡ is_marked_lem byte }
+    ensures { result ≡ is_marked_model byte }
 {
     matches!(byte, Some(128..=255))
 }
 
 /// What a slash means if this byte follows it.
 fn behind_slash(byte: Option<u8>) -> Behind
-    ensures { behind_of result ≡ behind_slash_lem byte }
+    ensures { behind_of result ≡ behind_slash_model byte }
 {
     match byte {
         None => Behind::Unreadable,
@@ -140,14 +140,14 @@ fn behind_slash(byte: Option<u8>) -> Behind
 
 /// Is it a letter, a digit, `_` or `.`?
 fn is_name_character(character: u8) -> bool
-    ensures { result ≡ is_name_character_lem character }
+    ensures { result ≡ is_name_character_model character }
 {
     matches!(character, b'a'..=b'z' | b'A'..=b'Z' | b'0'..=b'9' | b'_' | b'.')
 }
 
 /// Does it name a directory itself or its parent?
 fn is_dots(name: &Name) -> bool
-    ensures { result ≡ is_dots_lem name.now }
+    ensures { result ≡ is_dots_model name.now }
 {
     match name.len() {
         1 => name.byte(0) == b'.',

@@ -3,11 +3,11 @@
 ghost use Rattle.std.specs.Prelude.{◌≡◌, ℕ, None, List};
 ghost use Rattle.os9_outer.specs.TerminalState.{TerminalState};
 ghost use Rattle.proc_rules.specs.Records.{IsLiving};
-ghost use Rattle.call_rules.specs.Inner.{Inner};
+ghost use Rattle.call_rules.specs.Processes.{Processes};
 ghost use Rattle.io_rules.specs.Attempts.{caller_of};
-ghost use Rattle.io_rules.specs.Close.{i_close as i_close_lem};
-ghost use Rattle.io_rules.specs.Dup.{i_dup as i_dup_lem};
-ghost use Rattle.io_rules.specs.Io.{kept_at};
+ghost use Rattle.io_rules.specs.Close.{i_close as i_close_model};
+ghost use Rattle.io_rules.specs.Dup.{i_dup as i_dup_model};
+ghost use Rattle.io_rules.specs.Io.{pending_at};
 ghost use Rattle.io_rules.specs.declared.io_call.IoCall.TheVariants as Call;
 ghost use Rattle.io_state.specs.Attempt.{Attempts};
 ghost use Rattle.device_paths.specs.Quiet.{Ends};
@@ -30,8 +30,8 @@ use proc_state::state::ProcState;
 /// numbers are in use. A refused call changes nothing.
 pub fn i_dup(s: &mut ProcState, io: &mut IoState, p: Pid) -> CallEnd
     requires lives { IsLiving s.old.table p.0 }
-    requires first { kept_at io.old p.0 ≡ None }
-    ensures call { (m : Inner) (drives : ℕ) (terms : List TerminalState) → Represents s.old m
+    requires first { pending_at io.old p.0 ≡ None }
+    ensures call { (m : Processes) (drives : ℕ) (terms : List TerminalState) → Represents s.old m
         → Attempts Call.Dup m io.old drives p.0 result s.new io.new terms terms }
     ensures lives { IsLiving s.new.table p.0 }
 {
@@ -41,9 +41,9 @@ pub fn i_dup(s: &mut ProcState, io: &mut IoState, p: Pid) -> CallEnd
 /// Gives the path in A another number.
 fn double(s: &mut ProcState, io: &mut IoState, p: Pid) -> CallEnd
     requires lives { IsLiving s.old.table p.0 }
-    requires first { kept_at io.old p.0 ≡ None }
-    ensures call { (m : Inner) → Represents s.old m
-        → Ends (i_dup_lem (caller_of m p.0) io.old) m io.old p.0 result s.new io.new }
+    requires first { pending_at io.old p.0 ≡ None }
+    ensures call { (m : Processes) → Represents s.old m
+        → Ends (i_dup_model (caller_of m p.0) io.old) m io.old p.0 result s.new io.new }
     ensures lives { IsLiving s.new.table p.0 }
 {
     let regs = s.regs(p);
@@ -64,8 +64,8 @@ fn double(s: &mut ProcState, io: &mut IoState, p: Pid) -> CallEnd
 /// E$BPNum exactly if the number names no path. A refused call changes nothing.
 pub fn i_close(s: &mut ProcState, io: &mut IoState, p: Pid) -> CallEnd
     requires lives { IsLiving s.old.table p.0 }
-    requires first { kept_at io.old p.0 ≡ None }
-    ensures call { (m : Inner) (drives : ℕ) (terms : List TerminalState) → Represents s.old m
+    requires first { pending_at io.old p.0 ≡ None }
+    ensures call { (m : Processes) (drives : ℕ) (terms : List TerminalState) → Represents s.old m
         → Attempts Call.Close m io.old drives p.0 result s.new io.new terms terms }
     ensures lives { IsLiving s.new.table p.0 }
 {
@@ -75,9 +75,9 @@ pub fn i_close(s: &mut ProcState, io: &mut IoState, p: Pid) -> CallEnd
 /// Closes the path number in A.
 fn close(s: &mut ProcState, io: &mut IoState, p: Pid) -> CallEnd
     requires lives { IsLiving s.old.table p.0 }
-    requires first { kept_at io.old p.0 ≡ None }
-    ensures call { (m : Inner) → Represents s.old m
-        → Ends (i_close_lem (caller_of m p.0) io.old) m io.old p.0 result s.new io.new }
+    requires first { pending_at io.old p.0 ≡ None }
+    ensures call { (m : Processes) → Represents s.old m
+        → Ends (i_close_model (caller_of m p.0) io.old) m io.old p.0 result s.new io.new }
     ensures lives { IsLiving s.new.table p.0 }
 {
     let regs = s.regs(p);

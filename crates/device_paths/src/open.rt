@@ -3,9 +3,9 @@
 ghost use Rattle.std.specs.Prelude.{◌≡◌, ◌<◌, not, None, Ok, IfOk, IsErr, List, length, vec_len};
 ghost use Rattle.os9_outer.specs.TerminalState.{TerminalState};
 ghost use Rattle.proc_rules.specs.Records.{IsLiving};
-ghost use Rattle.call_rules.specs.Inner.{Inner};
+ghost use Rattle.call_rules.specs.Processes.{Processes};
 ghost use Rattle.io_rules.specs.Attempts.{caller_of};
-ghost use Rattle.io_rules.specs.Io.{Io, kept_at};
+ghost use Rattle.io_rules.specs.Io.{Io, pending_at};
 ghost use Rattle.io_rules.specs.Lead.{lead_of};
 ghost use Rattle.io_rules.specs.Open.{opens, opens_lead};
 ghost use Rattle.io_rules.specs.PathList.{PathList};
@@ -54,8 +54,8 @@ pub struct Found {
 /// system paths or, for a pipe, the sixteen pipes are in use. A refused call changes nothing.
 pub fn i_open(s: &mut ProcState, io: &mut IoState, p: Pid, devices: &Devices) -> CallEnd
     requires lives { IsLiving s.old.table p.0 }
-    requires first { kept_at io.old p.0 ≡ None }
-    ensures call { (m : Inner) (terms : List TerminalState) → Represents s.old m
+    requires first { pending_at io.old p.0 ≡ None }
+    ensures call { (m : Processes) (terms : List TerminalState) → Represents s.old m
         → length terms ≡ vec_len devices.now.terms
         → Attempts Call.Open m io.old (vec_len devices.now.drives) p.0 result s.new io.new
         terms terms }
@@ -73,8 +73,8 @@ pub fn i_open(s: &mut ProcState, io: &mut IoState, p: Pid, devices: &Devices) ->
 /// that of a directory itself or of its parent, or if the list is the root of a drive.
 pub fn i_create(s: &mut ProcState, io: &mut IoState, p: Pid, devices: &Devices) -> CallEnd
     requires lives { IsLiving s.old.table p.0 }
-    requires first { kept_at io.old p.0 ≡ None }
-    ensures call { (m : Inner) (terms : List TerminalState) → Represents s.old m
+    requires first { pending_at io.old p.0 ≡ None }
+    ensures call { (m : Processes) (terms : List TerminalState) → Represents s.old m
         → length terms ≡ vec_len devices.now.terms
         → Attempts Call.Create m io.old (vec_len devices.now.drives) p.0 result s.new io.new
         terms terms }
@@ -86,8 +86,8 @@ pub fn i_create(s: &mut ProcState, io: &mut IoState, p: Pid, devices: &Devices) 
 /// Opens a path at the place to which the path list at X leads, with the mode in A.
 fn open(s: &mut ProcState, io: &mut IoState, p: Pid, devices: &Devices, search: Search) -> CallEnd
     requires lives { IsLiving s.old.table p.0 }
-    requires first { kept_at io.old p.0 ≡ None }
-    ensures call { (m : Inner) → Represents s.old m
+    requires first { pending_at io.old p.0 ≡ None }
+    ensures call { (m : Processes) → Represents s.old m
         → Ends (opens (search_of search) (allows search (caller_of m p.0).regs.a)
         (caller_of m p.0) io.old (vec_len devices.now.drives) (vec_len devices.now.terms))
         m io.old p.0 result s.new io.new }
@@ -106,7 +106,7 @@ fn open(s: &mut ProcState, io: &mut IoState, p: Pid, devices: &Devices, search: 
 /// The number of the refusal.
 fn find(s: &mut ProcState, p: Pid, devices: &Devices, search: Search) -> Result<Found, u8>
     requires lives { IsLiving s.old.table p.0 }
-    ensures found { (m : Inner) (io : Io) → Represents s.old m
+    ensures found { (m : Processes) (io : Io) → Represents s.old m
         → opens (search_of search) (allows search (caller_of m p.0).regs.a)
         (caller_of m p.0) io (vec_len devices.now.drives) (vec_len devices.now.terms)
         ≡ opens_found (caller_of m p.0) io result }
@@ -161,9 +161,9 @@ fn find_by(devices: &Devices, search: Search, list: &Listed) -> Result<Found, u8
 /// Opens a path on what was found, with the mode in A.
 fn open_at(s: &mut ProcState, io: &mut IoState, p: Pid, found: Found) -> CallEnd
     requires lives { IsLiving s.old.table p.0 }
-    requires first { kept_at io.old p.0 ≡ None }
+    requires first { pending_at io.old p.0 ≡ None }
     requires there { IsPlace found.place }
-    ensures call { (m : Inner) → Represents s.old m
+    ensures call { (m : Processes) → Represents s.old m
         → Ends (opens_at (caller_of m p.0) io.old found) m io.old p.0 result s.new io.new }
     ensures lives { IsLiving s.new.table p.0 }
 {

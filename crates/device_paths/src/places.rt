@@ -1,9 +1,9 @@
 //! The places to which path lists lead.
 
 ghost use Rattle.std.specs.Prelude.{◌≡◌, Some, Ok, IfOk, vec_len};
-ghost use Rattle.io_rules.specs.Lead.{lead_of, nowhere, on_device, on_drive, makes_dots as makes_dots_lem, unless_slash as unless_slash_lem};
+ghost use Rattle.io_rules.specs.Lead.{lead_of, nowhere, on_device, on_drive, makes_dots as makes_dots_model, unless_slash as unless_slash_model};
 ghost use Rattle.io_rules.specs.PathList.{PathList};
-ghost use Rattle.device_paths.specs.Places.{search_of, lead_to, allows as allows_lem, IsDevice, IsPlace};
+ghost use Rattle.device_paths.specs.Places.{search_of, lead_to, allows as allows_model, IsDevice, IsPlace};
 ghost use Rattle.device_paths.specs.Listed.{listed};
 
 use crate::list::Listed;
@@ -33,7 +33,7 @@ impl Search {
     /// May a path be opened with this mode (System Programmer's Manual, I$Open and I$Create)? A new
     /// file needs write.
     pub fn allows(self, mode: u8) -> bool
-        ensures { result ≡ allows_lem self mode }
+        ensures { result ≡ allows_model self mode }
     {
         match self {
             Search::Existing => mode & (MODE_READ + MODE_WRITE + MODE_EXECUTE) != 0,
@@ -72,7 +72,7 @@ pub fn place_of(search: Search, devices: &Devices, list: &Listed) -> Result<Plac
 /// Would the new file have the name of a directory itself or of its parent?
 fn makes_dots(search: Search, list: &Listed) -> bool
     ensures { (named : PathList) → list.now ≡ listed named
-        → result ≡ makes_dots_lem (search_of search) named }
+        → result ≡ makes_dots_model (search_of search) named }
 {
     match search {
         Search::Existing => false,
@@ -108,7 +108,7 @@ fn refusal_on_drive(search: Search, list: &Listed) -> u8
 /// The place, if no slash follows its name in the path list.
 fn unless_slash(list: &Listed, place: Place) -> Result<Place, u8>
     ensures lead { (named : PathList) → list.now ≡ listed named
-        → lead_to result ≡ unless_slash_lem named (lead_to (Ok place)) }
+        → lead_to result ≡ unless_slash_model named (lead_to (Ok place)) }
     ensures there { IsPlace place → IfOk result IsPlace }
 {
     if list.slash || list.has_names {

@@ -3,10 +3,10 @@
 ghost use Rattle.std.specs.Prelude.{◌≡◌, ◌<◌, ℕ, None, List, length};
 ghost use Rattle.os9_outer.specs.TerminalState.{TerminalState};
 ghost use Rattle.proc_rules.specs.Records.{IsLiving};
-ghost use Rattle.call_rules.specs.Inner.{Inner};
+ghost use Rattle.call_rules.specs.Processes.{Processes};
 ghost use Rattle.io_rules.specs.Attempts.{caller_of};
-ghost use Rattle.io_rules.specs.Status.{i_getstt as i_getstt_lem, i_setstt as i_setstt_lem, gets_status as gets_status_lem, gets_options as gets_options_lem, gets_ready as gets_ready_lem, options as options_lem};
-ghost use Rattle.io_rules.specs.Io.{kept_at};
+ghost use Rattle.io_rules.specs.Status as model;
+ghost use Rattle.io_rules.specs.Io.{pending_at};
 ghost use Rattle.io_rules.specs.declared.io_call.IoCall.TheVariants as Call;
 ghost use Rattle.io_state.specs.Attempt.{Attempts};
 ghost use Rattle.io_state.specs.Sound.{IsThere};
@@ -31,8 +31,8 @@ use proc_state::state::ProcState;
 /// can be set. A refused call changes nothing.
 pub fn i_setstt(s: &mut ProcState, io: &mut IoState, p: Pid) -> CallEnd
     requires lives { IsLiving s.old.table p.0 }
-    requires first { kept_at io.old p.0 ≡ None }
-    ensures call { (m : Inner) (drives : ℕ) (terms : List TerminalState) → Represents s.old m
+    requires first { pending_at io.old p.0 ≡ None }
+    ensures call { (m : Processes) (drives : ℕ) (terms : List TerminalState) → Represents s.old m
         → Attempts Call.SetStt m io.old drives p.0 result s.new io.new terms terms }
     ensures lives { IsLiving s.new.table p.0 }
 {
@@ -42,9 +42,9 @@ pub fn i_setstt(s: &mut ProcState, io: &mut IoState, p: Pid) -> CallEnd
 /// Sets the status of the path in A.
 fn set_status(s: &mut ProcState, io: &mut IoState, p: Pid) -> CallEnd
     requires lives { IsLiving s.old.table p.0 }
-    requires first { kept_at io.old p.0 ≡ None }
-    ensures call { (m : Inner) → Represents s.old m
-        → Ends (i_setstt_lem (caller_of m p.0) io.old) m io.old p.0 result s.new io.new }
+    requires first { pending_at io.old p.0 ≡ None }
+    ensures call { (m : Processes) → Represents s.old m
+        → Ends (model.i_setstt (caller_of m p.0) io.old) m io.old p.0 result s.new io.new }
     ensures lives { IsLiving s.new.table p.0 }
 {
     let regs = s.regs(p);
@@ -65,8 +65,8 @@ fn set_status(s: &mut ProcState, io: &mut IoState, p: Pid) -> CallEnd
 /// SS.Ready E$NotRdy exactly if no byte is there. A refused call changes nothing.
 pub fn i_getstt(s: &mut ProcState, io: &mut IoState, p: Pid) -> CallEnd
     requires lives { IsLiving s.old.table p.0 }
-    requires first { kept_at io.old p.0 ≡ None }
-    ensures call { (m : Inner) (drives : ℕ) (terms : List TerminalState) → Represents s.old m
+    requires first { pending_at io.old p.0 ≡ None }
+    ensures call { (m : Processes) (drives : ℕ) (terms : List TerminalState) → Represents s.old m
         → Attempts Call.GetStt m io.old drives p.0 result s.new io.new terms terms }
     ensures lives { IsLiving s.new.table p.0 }
 {
@@ -76,9 +76,9 @@ pub fn i_getstt(s: &mut ProcState, io: &mut IoState, p: Pid) -> CallEnd
 /// Asks for the status of the path in A.
 fn get_status(s: &mut ProcState, io: &mut IoState, p: Pid) -> CallEnd
     requires lives { IsLiving s.old.table p.0 }
-    requires first { kept_at io.old p.0 ≡ None }
-    ensures call { (m : Inner) → Represents s.old m
-        → Ends (i_getstt_lem (caller_of m p.0) io.old) m io.old p.0 result s.new io.new }
+    requires first { pending_at io.old p.0 ≡ None }
+    ensures call { (m : Processes) → Represents s.old m
+        → Ends (model.i_getstt (caller_of m p.0) io.old) m io.old p.0 result s.new io.new }
     ensures lives { IsLiving s.new.table p.0 }
 {
     let regs = s.regs(p);
@@ -91,11 +91,11 @@ fn get_status(s: &mut ProcState, io: &mut IoState, p: Pid) -> CallEnd
 /// Asks for the status of a path on this target, by the code in B.
 fn get_status_of(s: &mut ProcState, io: &mut IoState, p: Pid, target: Target) -> CallEnd
     requires lives { IsLiving s.old.table p.0 }
-    requires first { kept_at io.old p.0 ≡ None }
+    requires first { pending_at io.old p.0 ≡ None }
     requires there { IsThere io.old target }
-    ensures call { (m : Inner) → Represents s.old m
+    ensures call { (m : Processes) → Represents s.old m
         → (code : ℕ) → code ≡ (caller_of m p.0).regs.b
-        → Ends (gets_status_lem (caller_of m p.0) io.old target code) m io.old p.0 result s.new
+        → Ends (model.gets_status (caller_of m p.0) io.old target code) m io.old p.0 result s.new
         io.new }
     ensures lives { IsLiving s.new.table p.0 }
 {
@@ -111,9 +111,10 @@ fn get_status_of(s: &mut ProcState, io: &mut IoState, p: Pid, target: Target) ->
 /// SS.Opt: stores the options of a path on this target.
 fn get_options(s: &mut ProcState, io: &mut IoState, p: Pid, target: Target) -> CallEnd
     requires lives { IsLiving s.old.table p.0 }
-    requires first { kept_at io.old p.0 ≡ None }
-    ensures call { (m : Inner) → Represents s.old m
-        → Ends (gets_options_lem (caller_of m p.0) io.old target) m io.old p.0 result s.new io.new }
+    requires first { pending_at io.old p.0 ≡ None }
+    ensures call { (m : Processes) → Represents s.old m
+        → Ends (model.gets_options
+        (caller_of m p.0) io.old target) m io.old p.0 result s.new io.new }
     ensures lives { IsLiving s.new.table p.0 }
 {
     let regs = s.regs(p);
@@ -126,7 +127,7 @@ fn get_options(s: &mut ProcState, io: &mut IoState, p: Pid, target: Target) -> C
 
 /// The options of a path on this target: the first byte says what it is.
 fn options(target: Target) -> [u8; OPTION_BYTES]
-    ensures { result ≡ options_lem target }
+    ensures { result ≡ model.options target }
 {
     let mut bytes = [0; OPTION_BYTES];
     bytes[0] = match target {
@@ -140,10 +141,10 @@ fn options(target: Target) -> [u8; OPTION_BYTES]
 /// SS.Ready: the number of bytes that a path on this target has for a read.
 fn get_ready(s: &mut ProcState, io: &mut IoState, p: Pid, target: Target) -> CallEnd
     requires lives { IsLiving s.old.table p.0 }
-    requires first { kept_at io.old p.0 ≡ None }
+    requires first { pending_at io.old p.0 ≡ None }
     requires there { IsThere io.old target }
-    ensures call { (m : Inner) → Represents s.old m
-        → Ends (gets_ready_lem (caller_of m p.0) io.old target) m io.old p.0 result s.new io.new }
+    ensures call { (m : Processes) → Represents s.old m
+        → Ends (model.gets_ready (caller_of m p.0) io.old target) m io.old p.0 result s.new io.new }
     ensures lives { IsLiving s.new.table p.0 }
 {
     let regs = s.regs(p);

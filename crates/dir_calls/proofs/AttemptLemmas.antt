@@ -4,7 +4,7 @@ use Rattle.os9_base.specs.declared.call.CallEnd.{CallEnd}
 use Rattle.os9_base.specs.declared.call.CallEnd.TheVariants.{Done, Error}
 use Rattle.os9_base.specs.declared.registers.TimePacket.{TimePacket}
 use Rattle.os9_outer.specs.TerminalState.{TerminalState}
-use Rattle.call_rules.specs.Inner.{Inner, regs_at, with_regs_of}
+use Rattle.call_rules.specs.Processes.{Processes, regs_at, with_regs_of}
 use Rattle.io_rules.specs.Io.{Io, with_call}
 use Rattle.io_rules.specs.Step.{answers, fails}
 use Rattle.proc_state.specs.Tie.{Represents}
@@ -19,7 +19,7 @@ use Rattle.file_state.specs.Media.{KeepsDrives}
 use Rattle.file_state.specs.declared.state.FileState.{FileState}
 use Rattle.dir_calls.specs.Tries.{Tries}
 
-module _ (step : FileStep) (most : ℕ) (m : Inner) (was : Files) (now : TimePacket) (p : ℕ)
+module _ (step : FileStep) (most : ℕ) (m : Processes) (was : Files) (now : TimePacket) (p : ℕ)
     (terms : List TerminalState) (mid : FileState) (before views : List DriveView) (end : CallEnd)
     (processes : ProcState) (io : Io) (io_is : io ≡ with_call mid.io p None) where
   abbrev Ended : Type 0

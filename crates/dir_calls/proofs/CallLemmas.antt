@@ -19,7 +19,7 @@ use Rattle.rbf_walk.specs.Walk.{calls_on, walk_calls}
 use Rattle.file_rules.specs.Files.{Asker, Files, volume_at}
 use Rattle.file_rules.specs.MakDir.{new_directory_size}
 use Rattle.file_rules.specs.Step.{Step, refused, comes, reaches, drive_of, needs}
-use Rattle.file_rules.specs.Way.{Way, along, to_device, nowhere, Found, before_last, last_of, list_of, reads_list, walk_ends, walks, way_of}
+use Rattle.file_rules.specs.Route.{Route, along, to_device, nowhere, Found, before_last, last_of, list_of, reads_list, walk_ends, walks, route_of}
 use Rattle.lock_model.specs.declared.place.FilePlace.{FilePlace}
 use Rattle.file_drives.specs.Calls as drives
 use Rattle.file_drives.specs.Drives.{DriveView}
@@ -117,7 +117,7 @@ module _ {A : Type 0} (asker : Asker) (files : Files) (execute : Bool) (from : F
 -- ---- to a file
 
 module _ (asker : Asker) (files : Files) (terms : ℕ) (execute : Bool) (most : DiskVolume → DiskFile → ℕ) where
-  way-seen : (way : Way) → way_calls asker files execute (λ v file. 0) way ≤ way_calls asker files execute most way
+  way-seen : (route : Route) → way_calls asker files execute (λ v file. 0) route ≤ way_calls asker files execute most route
   way-seen (along from names) = walk-seen asker.user execute from.number names most (volume_at files from.drive)
   way-seen to_device = omega arith
   way-seen (nowhere number) = omega arith
@@ -126,17 +126,17 @@ module _ (asker : Asker) (files : Files) (terms : ℕ) (execute : Bool) (most : 
   located-seen = by (list_of asker)
     where
       by : (read : Result PathList NameFault) → listed_calls read (λ list. way_calls asker files execute (λ v file. 0)
-          (way_of asker files terms execute list)) ≤ listed_calls read (λ list. way_calls asker files execute most
-          (way_of asker files terms execute list))
-      by (Ok list) = way-seen (way_of asker files terms execute list)
+          (route_of asker files terms execute list)) ≤ listed_calls read (λ list. way_calls asker files execute most
+          (route_of asker files terms execute list))
+      by (Ok list) = way-seen (route_of asker files terms execute list)
       by (Err fault) = omega arith
 
   module _ (it : FoundBy) where
     abbrev more : ℕ
     more = most it.found.volume it.found.file
 
-    way-within : (list : PathList) (way : Way) → answer_of (locates_on asker files execute list way) ≡ Ok it
-        → way_calls asker files execute (λ v file. 0) way + more ≤ way_calls asker files execute most way
+    way-within : (list : PathList) (route : Route) → answer_of (locates_on asker files execute list route) ≡ Ok it
+        → way_calls asker files execute (λ v file. 0) route + more ≤ way_calls asker files execute most route
     way-within list (along from names) is =
         walk-within asker files execute from names (λ found. comes (found_by list found)) it more most
         (λ found is. let same : found_by list found ≡ it = cc in subst (λ (it : FoundBy). most it.found.volume it.found.file ≤ most found.volume found.file) same (omega arith))
@@ -149,11 +149,11 @@ module _ (asker : Asker) (files : Files) (terms : ℕ) (execute : Bool) (most : 
     located-within = by (list_of asker)
       where
         by : (read : Result PathList NameFault) (refusal : Option ℕ) → answer_of (reads_list read (refuses_by refusal)
-            (λ list. locates_on asker files execute list (way_of asker files terms execute list))) ≡ Ok it
-            → listed_calls read (λ list. way_calls asker files execute (λ v file. 0) (way_of asker files terms execute
+            (λ list. locates_on asker files execute list (route_of asker files terms execute list))) ≡ Ok it
+            → listed_calls read (λ list. way_calls asker files execute (λ v file. 0) (route_of asker files terms execute
             list)) + more ≤ listed_calls read (λ list. way_calls asker files execute most
-            (way_of asker files terms execute list))
-        by (Ok list) None is = way-within list (way_of asker files terms execute list) is
+            (route_of asker files terms execute list))
+        by (Ok list) None is = way-within list (route_of asker files terms execute list) is
         by (Ok list) (Some number) is = cc
         by (Err Unreadable) refusal is = cc
         by (Err NoName) None is = cc
@@ -162,7 +162,7 @@ module _ (asker : Asker) (files : Files) (terms : ℕ) (execute : Bool) (most : 
 -- ---- to the directory of a last name
 
 module _ (purpose : Purpose) (asker : Asker) (files : Files) (terms : ℕ) (execute : Bool) (most : List ℕ → DiskVolume → DiskFile → ℕ) where
-  last-seen : (way : Way) (last : Option (List ℕ)) → last_calls asker files execute (λ name v dir. 0) way last ≤ last_calls asker files execute most way last
+  last-seen : (route : Route) (last : Option (List ℕ)) → last_calls asker files execute (λ name v dir. 0) route last ≤ last_calls asker files execute most route last
   last-seen (along from names) None = omega arith
   last-seen (along from names) (Some name) = walk-seen asker.user execute from.number (before_last names) (most name) (volume_at files from.drive)
   last-seen to_device last = omega arith
@@ -188,9 +188,9 @@ module _ (purpose : Purpose) (asker : Asker) (files : Files) (terms : ℕ) (exec
     no-name Existing list from names is =
         let none = walk-within asker files execute from names (λ root. refused 214) it 1 (λ v file. 0) (λ found is. cc) is in omega (arith, none)
 
-    last-within : (list : PathList) (way : Way) (last : Option (List ℕ))
-        → answer_of (names_on purpose asker files execute list way last) ≡ Ok it → last_calls asker files execute
-        (λ name v dir. 0) way last + after ≤ last_calls asker files execute most way last
+    last-within : (list : PathList) (route : Route) (last : Option (List ℕ))
+        → answer_of (names_on purpose asker files execute list route last) ≡ Ok it → last_calls asker files execute
+        (λ name v dir. 0) route last + after ≤ last_calls asker files execute most route last
     last-within list (along from names) None is = absurd (no-name purpose list from names is)
     last-within list (along from names) (Some name) is =
         walk-within asker files execute from (before_last names) (λ directory. comes (named_by list name directory)) it after (most name)

@@ -6,8 +6,8 @@ use Rattle.user_names.specs.declared.name_fault.NameFault.{NameFault}
 use Rattle.user_names.specs.declared.name_fault.NameFault.TheVariants.{Unreadable, NoName}
 use Rattle.io_rules.specs.Modes.{is_mode}
 use Rattle.io_rules.specs.PathList.{PathList}
-use Rattle.file_rules.specs.ChgDir.{goes_on_way, goes_to, i_chgdir, may_go_to}
-use Rattle.call_rules.specs.Inner.{Inner, regs_at, with_regs_of}
+use Rattle.file_rules.specs.ChgDir.{goes_on_route, goes_to, i_chgdir, may_go_to}
+use Rattle.call_rules.specs.Processes.{Processes, regs_at, with_regs_of}
 use Rattle.io_rules.specs.Io.{Io, with_call}
 use Rattle.io_rules.specs.Step.{answers}
 use Rattle.proc_state.specs.Tie.{Represents}
@@ -20,7 +20,7 @@ use Rattle.file_state.specs.Tie.{StandsFor}
 use Rattle.file_state.specs.declared.state.FileState.{FileState}
 use Rattle.file_rules.specs.Open.{is_for_execution, tests_mode}
 use Rattle.file_rules.specs.Step.{FileStep, Step, refused, comes, leaves, reaches, refuses, with_drives_after}
-use Rattle.file_rules.specs.Way.{Way, along, to_device, nowhere, Found, list_of, reads_list, walks, way_of}
+use Rattle.file_rules.specs.Route.{Route, along, to_device, nowhere, Found, list_of, reads_list, walks, route_of}
 use Rattle.lock_model.specs.declared.place.FilePlace.{FilePlace}
 use Rattle.file_routes.specs.Ways.{mode_refusal, next_step, refuses_by}
 use Rattle.dir_calls.proofs.CallLemmas.{located-seen, located-within}
@@ -50,7 +50,7 @@ module _ (asker : Asker) (files : Files) where
     with-found : (found : Found) → goes_to asker files list found ≡ next_step (allows_to_go asker (found_by list found)) (goes_there asker files)
     with-found found = tested list found (not (may_go_to found.file asker.user asker.caller.regs.a))
 
-    with-way : (way : Way) → goes_on_way asker files list way ≡ both (locates_on asker files (is_for_execution asker.caller.regs.a) list way)
+    with-way : (route : Route) → goes_on_route asker files list route ≡ both (locates_on asker files (is_for_execution asker.caller.regs.a) list route)
     with-way (along from names) =
         walks-on asker files (is_for_execution asker.caller.regs.a) (goes_to asker files list)
         (λ found. comes (found_by list found)) (λ it. next_step (allows_to_go asker it) (goes_there asker files))
@@ -63,12 +63,12 @@ module _ (asker : Asker) (files : Files) where
   chgdir-parts terms = by (list_of asker) (is_mode asker.caller.regs.a)
     where
       by : (read : Result PathList NameFault) (allowed : Bool) → reads_list read (tests_mode allowed)
-          (λ list. goes_on_way asker files list (way_of asker files terms (is_for_execution asker.caller.regs.a)
+          (λ list. goes_on_route asker files list (route_of asker files terms (is_for_execution asker.caller.regs.a)
           list)) ≡ next_step (next_step (reads_list read (refuses_by (mode_refusal allowed))
           (λ list. locates_on asker files (is_for_execution asker.caller.regs.a) list
-          (way_of asker files terms (is_for_execution asker.caller.regs.a) list))) (allows_to_go asker))
+          (route_of asker files terms (is_for_execution asker.caller.regs.a) list))) (allows_to_go asker))
           (goes_there asker files)
-      by (Ok list) true = with-way list (way_of asker files terms (is_for_execution asker.caller.regs.a) list)
+      by (Ok list) true = with-way list (route_of asker files terms (is_for_execution asker.caller.regs.a) list)
       by (Ok list) false = refl
       by (Err Unreadable) true = refl
       by (Err Unreadable) false = refl
@@ -120,7 +120,7 @@ gone-there mid final views was p regs io execute searched place found io_is sear
     (stands-with_io mid views (with_drives was (drive_states views)) (with_call was.io p None) io (ap (λ (old : Io). with_call old p None) stands.io ∙ sym io_is) stands)))
 
 -- and its process has X past the list
-pub told-past : (processes : ProcState) (m : Inner) (p next end : ℕ) (regs : Regs) → regs ≡ regs_at m p → next ≡ end
+pub told-past : (processes : ProcState) (m : Processes) (p next end : ℕ) (regs : Regs) → regs ≡ regs_at m p → next ≡ end
     → Represents processes (with_regs_of m p (record regs { x = next % 65536 })) → Represents processes
     (with_regs_of m p (record (regs_at m p) { x = end % 65536 }))
 told-past processes m p next end regs same next_is tied =

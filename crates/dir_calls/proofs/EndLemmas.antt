@@ -5,7 +5,7 @@ use Rattle.os9_base.specs.declared.call.CallEnd.TheVariants.{Done}
 use Rattle.os9_base.specs.declared.registers.Regs.{Regs}
 use Rattle.os9_base.specs.declared.registers.TimePacket.{TimePacket}
 use Rattle.os9_outer.specs.TerminalState.{TerminalState}
-use Rattle.call_rules.specs.Inner.{Inner, with_regs_of}
+use Rattle.call_rules.specs.Processes.{Processes, with_regs_of}
 use Rattle.io_rules.specs.Step.{answers}
 use Rattle.proc_state.specs.Tie.{Represents}
 use Rattle.proc_state.specs.declared.state.ProcState.{ProcState}
@@ -26,7 +26,7 @@ use Rattle.dir_calls.proofs.CallLemmas.{calls-next}
 use Rattle.dir_calls.proofs.LookLemmas.{deed-on, reaches-next}
 use Rattle.dir_calls.specs.Looks.{HasFound}
 
-module _ {A R : Type 0} (fact : A → R → Type 0) (look : Step A) (next : A → FileStep) (most : ℕ) (m : Inner)
+module _ {A R : Type 0} (fact : A → R → Type 0) (look : Step A) (next : A → FileStep) (most : ℕ) (m : Processes)
     (was : Files) (now : TimePacket) (p : ℕ) (terms : List TerminalState) (thing : R) (mid : FileState)
     (before views : List DriveView) (loc : HasFound fact look most thing was mid before views) where
   abbrev whole : FileStep

@@ -10,7 +10,8 @@ use Rattle.rbf_walk.specs.Walk.{walk_calls}
 use Rattle.rbf_walk.specs.declared.error.DirError.{DirError}
 use Rattle.file_rules.specs.Files.{Asker, DriveState, Files, volume_at}
 use Rattle.file_rules.specs.Step.{Step, refused, comes, reaches}
-use Rattle.file_rules.specs.Way.{Way, along, to_device, nowhere, list_of, reads_list, walks, way_of}
+use Rattle.file_rules.specs.Route.{along, to_device, nowhere, list_of, reads_list, walks, route_of}
+use Rattle.file_rules.specs.Route as Rule
 use Rattle.lock_model.specs.declared.place.FilePlace.{FilePlace}
 use Rattle.file_drives.specs.Drives.{DriveView, drive_state}
 use Rattle.file_drives.specs.Mounted.{ArrivesOn, HasFileAt}
@@ -35,34 +36,34 @@ use Rattle.dir_calls.specs.declared.locating.Located.{Located}
 -- ---- the list
 
 -- where a step comes to a way
-abbrev way-in : Step Led → Way
+abbrev way-in : Step Led → Rule.Route
 way-in (refused number) = to_device
 way-in (comes led) = led.way
 way-in (reaches drive step) = way-in step
 
 -- the way that was found is that of the list
-pub way-is : (asker : Asker) (refusal : Option ℕ) (way : PathList → Way) (list : PathList) (to : Way)
+pub way-is : (asker : Asker) (refusal : Option ℕ) (way : PathList → Rule.Route) (list : PathList) (to : Rule.Route)
     → list_of asker ≡ Ok list → leads asker refusal way ≡ comes (record { list = list; way = to }) → way list ≡ to
 way-is asker refusal way list to read is = by refusal (way list) (ap (λ (read : Result PathList NameFault). reads_list read (refuses_by refusal) (λ list. led_by list (way list))) (sym read) ∙ is)
   where
-    by : (refusal : Option ℕ) (led : Way) → refuses_by refusal (led_by list led) ≡ comes (record { list = list; way = to }) → led ≡ to
+    by : (refusal : Option ℕ) (led : Rule.Route) → refuses_by refusal (led_by list led) ≡ comes (record { list = list; way = to }) → led ≡ to
     by None (along from names) is = ap way-in is
     by None to_device is = ap way-in is
     by None (nowhere number) is = absurd (let no : refused number ≡ comes (record { list = list; way = to }) = is in cc)
     by (Some number) led is = absurd (let no : refused number ≡ comes (record { list = list; way = to }) = is in cc)
 
 module _ (asker : Asker) (files : Files) (terms : ℕ) (execute : Bool) (refusal : Option ℕ) where
-  by-leads : locates execute refusal asker files terms ≡ next_step (leads asker refusal (way_of asker files terms execute)) (λ led. locates_on asker files execute led.list led.way)
-  by-leads = leads-on asker refusal (way_of asker files terms execute) (locates_on asker files execute) (λ list number. refl)
+  by-leads : locates execute refusal asker files terms ≡ next_step (leads asker refusal (route_of asker files terms execute)) (λ led. locates_on asker files execute led.list led.way)
+  by-leads = leads-on asker refusal (route_of asker files terms execute) (locates_on asker files execute) (λ list number. refl)
 
   -- along the way that was found
-  pub locates-way : (list : PathList) (way : Way) → leads asker refusal (way_of asker files terms execute) ≡ comes
+  pub locates-way : (list : PathList) (way : Rule.Route) → leads asker refusal (route_of asker files terms execute) ≡ comes
       (record { list = list; way = way }) → locates execute refusal asker files terms ≡ locates_on asker files execute
       list way
   locates-way list way is = by-leads ∙ ap (λ (step : Step Led). next_step step (λ led. locates_on asker files execute led.list led.way)) is
 
   -- or it is refused
-  pub locates-refused : (number : ℕ) → leads asker refusal (way_of asker files terms execute) ≡ refused number → locates execute refusal asker files terms ≡ refused number
+  pub locates-refused : (number : ℕ) → leads asker refusal (route_of asker files terms execute) ≡ refused number → locates execute refusal asker files terms ≡ refused number
   locates-refused number is = by-leads ∙ ap (λ (step : Step Led). next_step step (λ led. locates_on asker files execute led.list led.way)) is
 
 -- ---- the walk
@@ -108,7 +109,7 @@ pub has-along : (cells : Cells) (way : Taken) (from : FilePlace) (first : Option
 has-along cells way from first is has = subst (λ (way : Taken). HasNames cells way) is has
 
 module _ (asker : Asker) (files : Files) (terms : ℕ) (execute : Bool) (refusal : Option ℕ) (cells : Cells)
-    (route : Route) (it : IsRoute cells asker (leads asker refusal (way_of asker files terms execute)) route) where
+    (route : Route) (it : IsRoute cells asker (leads asker refusal (route_of asker files terms execute)) route) where
   -- it leads to a terminal or a pipe
   pub locates-device : route.way ≡ Device → locates execute refusal asker files terms ≡ refused E_FNA
   locates-device is =
@@ -125,9 +126,9 @@ module _ (asker : Asker) (files : Files) (terms : ℕ) (execute : Bool) (refusal
     -- the calls of the walk
     calls-along : located_calls execute (λ v file. 0) asker files terms ≡ walk_and asker.user execute from.number it.list.names (λ v file. 0) (volume_at files from.drive)
     calls-along =
-        ap (λ (read : Result PathList NameFault). listed_calls read (λ list. way_calls asker files execute (λ v file. 0) (way_of asker files terms execute list))) it.read
+        ap (λ (read : Result PathList NameFault). listed_calls read (λ list. way_calls asker files execute (λ v file. 0) (route_of asker files terms execute list))) it.read
         ∙ ap (way_calls asker files execute (λ v file. 0))
-        (way-is asker refusal (way_of asker files terms execute) it.list it.way it.read it.comes_to
+        (way-is asker refusal (route_of asker files terms execute) it.list it.way it.read it.comes_to
         ∙ it.route_is.way_is ∙ ap (λ (way : Taken). way_to (Ok way) it.list.names) is)
 
     calls-enough : (walker : Walker) → walker.execute ≡ execute → asker.user ≡ walker.user → (v : DiskVolume)

@@ -6,7 +6,7 @@ use Rattle.rbf_model.specs.Volume.{DiskVolume}
 use Rattle.rbf_model.specs.Walk.{WalkEnd, arrives, not_allowed, not_found, walk}
 use Rattle.file_rules.specs.Files.{Asker, Files, volume_at}
 use Rattle.file_rules.specs.Step.{FileStep, Step, refused, comes, reaches, deed_of, drive_of, leaves_so, needs, refuses_so}
-use Rattle.file_rules.specs.Way.{Found, walk_ends, walks}
+use Rattle.file_rules.specs.Route.{Found, walk_ends, walks}
 use Rattle.lock_model.specs.declared.place.FilePlace.{FilePlace}
 use Rattle.file_drives.specs.Drives.{DriveView, drive_states}
 use Rattle.file_state.proofs.CountLemmas.{called-more}

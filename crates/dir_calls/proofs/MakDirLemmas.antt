@@ -9,9 +9,9 @@ use Rattle.user_names.specs.declared.name_fault.NameFault.TheVariants.{Unreadabl
 use Rattle.io_rules.specs.PathList.{PathList, ends_in_dots, has_slash_behind_device}
 use Rattle.rbf_model.specs.Volume.{DiskVolume}
 use Rattle.file_rules.specs.Files.{Asker, Files, directory_of, volume_at}
-use Rattle.file_rules.specs.MakDir.{i_makdir, makes_in, makes_on_way}
+use Rattle.file_rules.specs.MakDir.{i_makdir, makes_in, makes_on_route}
 use Rattle.file_rules.specs.Step.{comes, needs}
-use Rattle.file_rules.specs.Way.{Way, along, to_device, nowhere, before_last, is_root, last_of, list_of, reads_list, walks, way_by, way_from, way_of, way_of_device, way_on_drive, way_to_new}
+use Rattle.file_rules.specs.Route.{Route, along, to_device, nowhere, before_last, is_root, last_of, list_of, reads_list, walks, route_by, route_from, route_of, route_of_device, route_on_drive, route_to_new}
 use Rattle.lock_model.specs.declared.place.FilePlace.{FilePlace}
 use Rattle.file_routes.specs.Ways.{next_step, refuses_by}
 use Rattle.file_routes.specs.declared.way.Purpose.TheVariants.{New}
@@ -21,7 +21,7 @@ use Rattle.dir_calls.specs.Naming.{named_by, names_last, names_on}
 
 -- ---- a way has the names of its list
 
-abbrev HasNamesOf : List (List ℕ) → Way → Type 0
+abbrev HasNamesOf : List (List ℕ) → Route → Type 0
 HasNamesOf all (along from names) = names ≡ all
 HasNamesOf all to_device = Unit {0}
 HasNamesOf all (nowhere number) = Unit {0}
@@ -30,26 +30,26 @@ device-names : (slash : Bool) (all : List (List ℕ)) → HasNamesOf all (if sla
 device-names true all = tt
 device-names false all = tt
 
-drive-names : (drive : ℕ) (all : List (List ℕ)) (volume : Option DiskVolume) → HasNamesOf all (way_on_drive drive all volume)
+drive-names : (drive : ℕ) (all : List (List ℕ)) (volume : Option DiskVolume) → HasNamesOf all (route_on_drive drive all volume)
 drive-names drive all None = tt
 drive-names drive all (Some v) = refl
 
-start-names : (all : List (List ℕ)) (start : Option FilePlace) → HasNamesOf all (way_from start all)
+start-names : (all : List (List ℕ)) (start : Option FilePlace) → HasNamesOf all (route_from start all)
 start-names all None = tt
 start-names all (Some from) = refl
 
 module _ (asker : Asker) (files : Files) (terms : ℕ) (execute : Bool) (list : PathList) where
-  of-device : (device : Option Dev) → HasNamesOf list.names (way_of_device files list device)
+  of-device : (device : Option Dev) → HasNamesOf list.names (route_of_device files list device)
   of-device None = tt
   of-device (Some (Drive drive)) = drive-names drive list.names (volume_at files drive)
   of-device (Some (Term terminal)) = device-names (has_slash_behind_device list) list.names
   of-device (Some Pipe) = device-names (has_slash_behind_device list) list.names
 
-  by-device : (device : Option (List ℕ)) → HasNamesOf list.names (way_by asker files terms execute list device)
+  by-device : (device : Option (List ℕ)) → HasNamesOf list.names (route_by asker files terms execute list device)
   by-device None = start-names list.names (directory_of files asker.caller.process.0 execute)
   by-device (Some device) = of-device (device_of (length files.drives) terms device)
 
-  new-names : (none : Bool) → HasNamesOf list.names (if none then nowhere E_BPNAM else way_of asker files terms execute list)
+  new-names : (none : Bool) → HasNamesOf list.names (if none then nowhere E_BPNAM else route_of asker files terms execute list)
   new-names true = tt
   new-names false = by-device list.device
 
@@ -64,8 +64,8 @@ module _ (asker : Asker) (files : Files) where
       (λ directory. comes (named_by list name directory)) (makes_it asker files) (λ found. refl) from
       (before_last names)
 
-  with-way : (list : PathList) (way : Way) → HasNamesOf list.names way → makes_on_way asker files list way ≡ next_step
-      (names_on New asker files false list way (last_of list.names)) (makes_it asker files)
+  with-way : (list : PathList) (route : Route) → HasNamesOf list.names route → makes_on_route asker files list route ≡ next_step
+      (names_on New asker files false list route (last_of list.names)) (makes_it asker files)
   with-way list (along from names) same =
       by-last list from names (last_of names)
       ∙ ap (λ (all : List (List ℕ)). next_step (names_on New asker files false list (along from names) (last_of all)) (makes_it asker files)) same
@@ -75,10 +75,10 @@ module _ (asker : Asker) (files : Files) where
   pub makdir-parts : (terms : ℕ) → i_makdir asker files terms ≡ next_step (names_last New false None asker files terms) (makes_it asker files)
   makdir-parts terms = by (list_of asker)
     where
-      by : (read : Result PathList NameFault) → reads_list read (λ step. step) (λ list. makes_on_way asker files list
-          (way_to_new asker files terms false list)) ≡ next_step (reads_list read (refuses_by None)
-          (λ list. names_on New asker files false list (way_to_new asker files terms false list)
+      by : (read : Result PathList NameFault) → reads_list read (λ step. step) (λ list. makes_on_route asker files list
+          (route_to_new asker files terms false list)) ≡ next_step (reads_list read (refuses_by None)
+          (λ list. names_on New asker files false list (route_to_new asker files terms false list)
           (last_of list.names))) (makes_it asker files)
-      by (Ok list) = with-way list (way_to_new asker files terms false list) (new-names asker files terms false list (ends_in_dots list || is_root files terms list))
+      by (Ok list) = with-way list (route_to_new asker files terms false list) (new-names asker files terms false list (ends_in_dots list || is_root files terms list))
       by (Err Unreadable) = refl
       by (Err NoName) = refl

@@ -13,7 +13,8 @@ use Rattle.rbf_walk.specs.Walk.{walk_calls}
 use Rattle.rbf_walk.specs.declared.error.DirError.{DirError}
 use Rattle.file_rules.specs.Files.{Asker, Files, volume_at}
 use Rattle.file_rules.specs.Step.{Step, refused, comes}
-use Rattle.file_rules.specs.Way.{Way, along, nowhere, before_last, is_root, last_of, walks, way_of}
+use Rattle.file_rules.specs.Route.{along, nowhere, before_last, is_root, last_of, walks, route_of}
+use Rattle.file_rules.specs.Route as Rule
 use Rattle.lock_model.specs.declared.place.FilePlace.{FilePlace}
 use Rattle.file_drives.specs.Drives.{DriveView}
 use Rattle.file_drives.specs.Mounted.{ArrivesOn, HasFileAt}
@@ -47,14 +48,14 @@ use Rattle.dir_calls.specs.declared.naming.LastLocated.{LastLocated}
 -- ---- the list
 
 module _ (purpose : Purpose) (asker : Asker) (files : Files) (terms : ℕ) (execute : Bool) (refusal : Option ℕ) where
-  abbrev way : PathList → Way
+  abbrev way : PathList → Rule.Route
   way = way_for purpose asker files terms execute
 
   by-leads : names_last purpose execute refusal asker files terms ≡ next_step (leads asker refusal way) (λ led. names_on purpose asker files execute led.list led.way (last_of led.list.names))
   by-leads = leads-on asker refusal way (λ list led. names_on purpose asker files execute list led (last_of list.names)) (λ list number. refl)
 
   -- along the way that was found
-  pub names-way : (list : PathList) (to : Way) → leads asker refusal way ≡ comes (record { list = list; way = to })
+  pub names-way : (list : PathList) (to : Rule.Route) → leads asker refusal way ≡ comes (record { list = list; way = to })
       → names_last purpose execute refusal asker files terms ≡ names_on purpose asker files execute list to
       (last_of list.names)
   names-way list to is = by-leads ∙ ap (λ (step : Step Led). next_step step (λ led. names_on purpose asker files execute led.list led.way (last_of led.list.names))) is
@@ -65,7 +66,7 @@ module _ (purpose : Purpose) (asker : Asker) (files : Files) (terms : ℕ) (exec
 
 -- ---- a name of what is made
 
-no-dots : (dots root : Bool) (way : Way) (from : FilePlace) (names : List (List ℕ)) → (if dots || root then nowhere E_BPNAM else way) ≡ along from names → dots ≡ false
+no-dots : (dots root : Bool) (way : Rule.Route) (from : FilePlace) (names : List (List ℕ)) → (if dots || root then nowhere E_BPNAM else way) ≡ along from names → dots ≡ false
 no-dots true root way from names is = absurd (let no : nowhere E_BPNAM ≡ along from names = is in cc)
 no-dots false root way from names is = refl
 
@@ -75,7 +76,7 @@ pub proper-name : (purpose : Purpose) (asker : Asker) (files : Files) (terms : �
 proper-name Existing asker files terms execute list from names name is last made = cc
 proper-name New asker files terms execute list from names name is last made =
     sym (ap (λ (o : Option (List ℕ)). option_map_or is_dots o false) last)
-    ∙ no-dots (ends_in_dots list) (is_root files terms list) (way_of asker files terms execute list) from names is
+    ∙ no-dots (ends_in_dots list) (is_root files terms list) (route_of asker files terms execute list) from names is
 
 -- ---- the walk
 
@@ -158,7 +159,7 @@ module _ (purpose : Purpose) (asker : Asker) (files : Files) (terms : ℕ) (exec
   pub names-device : route.way ≡ Device → whole ≡ refused E_FNA
   names-device is =
       names-way purpose asker files terms execute refusal it.list it.way it.comes_to
-      ∙ ap (λ (way : Way). names_on purpose asker files execute it.list way (last_of it.list.names)) (it.route_is.way_is ∙ ap (λ (way : Taken). way_to (Ok way) it.list.names) is)
+      ∙ ap (λ (way : Rule.Route). names_on purpose asker files execute it.list way (last_of it.list.names)) (it.route_is.way_is ∙ ap (λ (way : Taken). way_to (Ok way) it.list.names) is)
 
   module _ (from : FilePlace) (first : Option ℕ) (is : route.way ≡ Along from first) where
     is-along : it.way ≡ along from it.list.names
@@ -167,7 +168,7 @@ module _ (purpose : Purpose) (asker : Asker) (files : Files) (terms : ℕ) (exec
     names-along-way : whole ≡ names_on purpose asker files execute it.list (along from it.list.names) (last_of it.list.names)
     names-along-way =
         names-way purpose asker files terms execute refusal it.list it.way it.comes_to
-        ∙ ap (λ (way : Way). names_on purpose asker files execute it.list way (last_of it.list.names)) is-along
+        ∙ ap (λ (way : Rule.Route). names_on purpose asker files execute it.list way (last_of it.list.names)) is-along
 
     pub names-along : NamesFrom cells first it.list.names
     names-along = subst (λ (way : Taken). NamesOn cells way it.list.names) is it.route_is.names
@@ -182,7 +183,7 @@ module _ (purpose : Purpose) (asker : Asker) (files : Files) (terms : ℕ) (exec
     calls-along name last =
         ap (λ (read : Result PathList NameFault). listed_calls read (λ list. last_calls asker files execute
         (λ name v dir. 0) (way_for purpose asker files terms execute list) (last_of list.names))) it.read
-        ∙ ap (λ (way : Way). last_calls asker files execute (λ name v dir. 0) way (last_of it.list.names))
+        ∙ ap (λ (way : Rule.Route). last_calls asker files execute (λ name v dir. 0) way (last_of it.list.names))
         (way-is asker refusal (way_for purpose asker files terms execute) it.list it.way it.read it.comes_to ∙ is-along)
         ∙ ap (last_calls asker files execute (λ name v dir. 0) (along from it.list.names)) last
 

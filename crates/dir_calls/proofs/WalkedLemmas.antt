@@ -8,7 +8,7 @@ use Rattle.rbf_walk.specs.declared.error.DirError.{DirError}
 use Rattle.rbf_walk.specs.declared.error.DirError.TheVariants.{NotAllowed, BadPath, NotFound, Exists, File}
 use Rattle.file_rules.specs.Files.{Asker, Files, file_in, volume_at}
 use Rattle.file_rules.specs.Step.{Step, refused, comes, reaches, drive_of}
-use Rattle.file_rules.specs.Way.{Found, walks}
+use Rattle.file_rules.specs.Route.{Found, walks}
 use Rattle.lock_model.specs.declared.place.FilePlace.{FilePlace}
 use Rattle.file_drives.specs.Drives.{DriveView}
 use Rattle.file_drives.specs.Mounted.{HasFileAt}

@@ -15,7 +15,7 @@ use Rattle.rbf_delete.specs.Deletions.{deletion_calls}
 use Rattle.file_rules.specs.Files.{Asker, Files, volume_at}
 use Rattle.file_rules.specs.MakDir.{new_directory_size}
 use Rattle.file_rules.specs.Open.{is_for_execution}
-use Rattle.file_rules.specs.Way.{Way, along, to_device, nowhere, before_last, last_of, list_of, way_of}
+use Rattle.file_rules.specs.Route.{Route, along, to_device, nowhere, before_last, last_of, list_of, route_of}
 use Rattle.file_routes.specs.Calls.{listed_calls, walk_and}
 use Rattle.file_routes.specs.Ways.{way_for}
 use Rattle.file_routes.specs.declared.way.Purpose.{Purpose}
@@ -23,7 +23,7 @@ use Rattle.file_routes.specs.declared.way.Purpose.TheVariants.{Existing, New}
 
 -- ---- to a file
 
-abbrev pub way_calls : Asker → Files → Bool → (DiskVolume → DiskFile → ℕ) → Way → ℕ
+abbrev pub way_calls : Asker → Files → Bool → (DiskVolume → DiskFile → ℕ) → Route → ℕ
 way_calls asker files execute most (along from names) =
     walk_and asker.user execute from.number names most (volume_at files from.drive)
 way_calls asker files execute most to_device = 0
@@ -32,7 +32,7 @@ way_calls asker files execute most (nowhere number) = 0
 -- by the list at X, for execution or not
 abbrev pub located_calls : Bool → (DiskVolume → DiskFile → ℕ) → Asker → Files → ℕ → ℕ
 located_calls execute most asker files terms =
-    listed_calls (list_of asker) (λ list. way_calls asker files execute most (way_of asker files terms execute list))
+    listed_calls (list_of asker) (λ list. way_calls asker files execute most (route_of asker files terms execute list))
 
 -- the descriptor of the found file is read
 abbrev pub i_chgdir_calls : Asker → Files → ℕ → ℕ
@@ -42,7 +42,7 @@ i_chgdir_calls asker files terms =
 -- ---- to the directory of the last name
 
 -- by that name; a list without names calls no drive
-abbrev pub last_calls : Asker → Files → Bool → (List ℕ → DiskVolume → DiskFile → ℕ) → Way → Option (List ℕ) → ℕ
+abbrev pub last_calls : Asker → Files → Bool → (List ℕ → DiskVolume → DiskFile → ℕ) → Route → Option (List ℕ) → ℕ
 last_calls asker files execute most (along from names) None = 0
 last_calls asker files execute most (along from names) (Some name) =
     walk_and asker.user execute from.number (before_last names) (most name) (volume_at files from.drive)

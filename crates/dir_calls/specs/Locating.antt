@@ -4,7 +4,7 @@ use Rattle.os9_base.specs.declared.errors.TheConstants.{E_FNA}
 use Rattle.io_rules.specs.PathList.{PathList}
 use Rattle.file_rules.specs.Files.{Asker, Files, volume_at}
 use Rattle.file_rules.specs.Step.{Step, refused, comes, drive_of}
-use Rattle.file_rules.specs.Way.{Way, along, to_device, nowhere, Found, list_of, reads_list, walks, way_of}
+use Rattle.file_rules.specs.Route.{Route, along, to_device, nowhere, Found, list_of, reads_list, walks, route_of}
 use Rattle.lock_model.specs.declared.place.FilePlace.{FilePlace}
 use Rattle.file_drives.specs.Drives.{DriveView}
 use Rattle.file_state.specs.declared.state.FileState.{FileState}
@@ -23,7 +23,7 @@ abbrev pub found_by : PathList → Found → FoundBy
 found_by list found = record { list = list; found = found }
 
 -- along a way; a terminal or a pipe is refused
-abbrev pub locates_on : Asker → Files → Bool → PathList → Way → Step FoundBy
+abbrev pub locates_on : Asker → Files → Bool → PathList → Route → Step FoundBy
 locates_on asker files execute list (along from names) =
     walks asker files execute from names (λ found. comes (found_by list found))
 locates_on asker files execute list to_device = refused E_FNA
@@ -33,7 +33,7 @@ locates_on asker files execute list (nowhere number) = refused number
 abbrev pub locates : Bool → Option ℕ → Asker → Files → ℕ → Step FoundBy
 locates execute refusal asker files terms =
     reads_list (list_of asker) (refuses_by refusal)
-    (λ list. locates_on asker files execute list (way_of asker files terms execute list))
+    (λ list. locates_on asker files execute list (route_of asker files terms execute list))
 
 -- the found file is one of the files
 pub record IsFileIn (files : Files) (found : Found) : Type 0 where

@@ -1,7 +1,7 @@
 -- A part of a call that may reach a drive and changes no volume: its result, and what it leaves of the kernel's files.
 use Rattle.std.specs.Prelude.{◌≡◌, ◌⊎◌, ℕ, Some, None, List, Result, Ok, Err}
 use Rattle.os9_base.specs.declared.registers.TimePacket.{TimePacket}
-use Rattle.call_rules.specs.Inner.{Inner}
+use Rattle.call_rules.specs.Processes.{Processes}
 use Rattle.proc_state.specs.Tie.{Represents}
 use Rattle.rbf_model.specs.Volume.{DiskVolume}
 use Rattle.file_rules.specs.Attempts.{asker_of}
@@ -66,7 +66,7 @@ pub record LooksFor {A R : Type 0} (fact : A → R → Type 0) (step : Step A) (
 abbrev pub LooksFrom : {A R : Type 0} → (Step A → Files → A → R → Type 0) → (Asker → Files → ℕ → Step A)
     → (Asker → Files → ℕ → ℕ) → ℕ → ℕ → Result R ℕ → Standing → Standing → Type 0
 LooksFrom fact step most p terms result before after =
-    (m : Inner) (was : Files) (now : TimePacket) → Represents before.processes m
+    (m : Processes) (was : Files) (now : TimePacket) → Represents before.processes m
     → StandsFor before.files before.views was
     → LooksFor (fact (step (asker_of m p now) was terms) was) (step (asker_of m p now) was terms)
     (most (asker_of m p now) was terms) result was after.files before.views after.views

@@ -5,7 +5,7 @@ use Rattle.rbf_change.specs.Names.{is_dots}
 use Rattle.io_rules.specs.PathList.{PathList}
 use Rattle.file_rules.specs.Files.{Asker, Files}
 use Rattle.file_rules.specs.Step.{Step, refused, comes, drive_of}
-use Rattle.file_rules.specs.Way.{Way, along, to_device, nowhere, Found, before_last, last_of, list_of, reads_list, walks}
+use Rattle.file_rules.specs.Route.{Route, along, to_device, nowhere, Found, before_last, last_of, list_of, reads_list, walks}
 use Rattle.lock_model.specs.declared.place.FilePlace.{FilePlace}
 use Rattle.file_drives.specs.Drives.{DriveView}
 use Rattle.file_state.specs.declared.state.FileState.{FileState}
@@ -39,7 +39,7 @@ unnamed New asker files execute from names = refused E_BPNAM
 unnamed Existing asker files execute from names = walks asker files execute from names (λ root. refused E_FNA)
 
 -- along a way, by the last name of its list; a terminal or a pipe is refused
-abbrev pub names_on : Purpose → Asker → Files → Bool → PathList → Way → Option (List ℕ) → Step NamedBy
+abbrev pub names_on : Purpose → Asker → Files → Bool → PathList → Route → Option (List ℕ) → Step NamedBy
 names_on purpose asker files execute list (along from names) None = unnamed purpose asker files execute from names
 names_on purpose asker files execute list (along from names) (Some name) =
     walks asker files execute from (before_last names) (λ directory. comes (named_by list name directory))

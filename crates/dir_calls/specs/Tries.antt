@@ -5,7 +5,7 @@ use Rattle.os9_base.specs.declared.call.CallEnd.TheVariants.{Done, Error}
 use Rattle.os9_base.specs.declared.registers.Regs.{Regs}
 use Rattle.os9_base.specs.declared.registers.TimePacket.{TimePacket}
 use Rattle.os9_outer.specs.TerminalState.{TerminalState}
-use Rattle.call_rules.specs.Inner.{Inner}
+use Rattle.call_rules.specs.Processes.{Processes}
 use Rattle.io_rules.specs.Step.{IoEnd, answers, fails}
 use Rattle.proc_state.specs.Tie.{Represents}
 use Rattle.file_drives.specs.Drives.{DriveView}
@@ -43,6 +43,6 @@ pub record Tries (step : FileStep) (most : ℕ) (asker : Asker) (files : Files) 
 abbrev pub TriesFrom : (Asker → Files → ℕ → FileStep) → (Asker → Files → ℕ → ℕ) → TimePacket → ℕ → ℕ → Result ℕ ℕ
     → Standing → Standing → Type 0
 TriesFrom step most now p terms result before after =
-    (m : Inner) (was : Files) → Represents before.processes m → StandsFor before.files before.views was
+    (m : Processes) (was : Files) → Represents before.processes m → StandsFor before.files before.views was
     → Tries (step (asker_of m p now) was terms) (most (asker_of m p now) was terms) (asker_of m p now) was result
     after.files before.views after.views

@@ -1,7 +1,7 @@
 //! I$ChgDir.
 
 ghost use Rattle.std.specs.Prelude.{◌≡◌, List, None, Ok, Err, length, vec_len, if◌then◌else◌};
-ghost use Rattle.file_rules.specs.ChgDir.{may_go_to as may_go_to_lem};
+ghost use Rattle.file_rules.specs.ChgDir as model;
 ghost use Rattle.file_rules.specs.declared.path_call.PathCall.TheVariants as Call;
 ghost use Rattle.file_state.specs.Attempt.{standing};
 ghost use Rattle.file_state.specs.Counted.{AttemptsWithin};
@@ -11,7 +11,7 @@ ghost use Rattle.dir_calls.specs.ChgDir.{looks_for_directory};
 ghost use Rattle.dir_calls.specs.Kept.{KeepsAllButDisks};
 ghost use Rattle.dir_calls.specs.Locating.{IsLocated};
 ghost use Rattle.dir_calls.specs.Looks.{LooksFrom};
-ghost use Rattle.io_rules.specs.Io.{kept_at};
+ghost use Rattle.io_rules.specs.Io.{pending_at};
 ghost use Rattle.os9_base.specs.declared.registers.TimePacket.{TimePacket};
 ghost use Rattle.os9_outer.specs.TerminalState.{TerminalState};
 ghost use Rattle.proc_rules.specs.Records.{IsLiving};
@@ -47,7 +47,7 @@ use rbf_walk::may;
 /// the drive fails. No directory has changed then.
 pub fn i_chgdir(s: &mut ProcState, files: &mut FileState, devices: &mut Devices, p: Pid) -> CallEnd
     requires lives { IsLiving s.old.table p.0 }
-    requires first { kept_at files.old.io p.0 ≡ None }
+    requires first { pending_at files.old.io p.0 ≡ None }
     requires sound { IsSound files.old (drives_seen BlockDriver-box devices.old) }
     ensures call { (now : TimePacket) (terms : List TerminalState)
         → length terms ≡ vec_len devices.old.terms
@@ -108,7 +108,7 @@ fn find_directory(
 /// E$FNA exactly if the user may not.
 fn if_directory(fd: &Fd, user: u16, mode: u8, located: Located) -> Result<Located, u8>
     ensures { (file : DiskFile) → IsFdOf file fd.now
-        → result ≡ (if may_go_to_lem file user mode then Ok located else Err E_FNA) }
+        → result ≡ (if model.may_go_to file user mode then Ok located else Err E_FNA) }
 {
     if fd.attr >> 7 == 1 && may(fd, user, mode) {
         Ok(located)

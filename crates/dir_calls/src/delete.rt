@@ -13,7 +13,7 @@ ghost use Rattle.dir_calls.specs.Delete.{DeletesIn};
 ghost use Rattle.dir_calls.specs.Kept.{KeepsAllButDisks};
 ghost use Rattle.dir_calls.specs.Tries.{TriesFrom};
 ghost use Rattle.file_routes.specs.Ways.{refuses_by};
-ghost use Rattle.io_rules.specs.Io.{kept_at};
+ghost use Rattle.io_rules.specs.Io.{pending_at};
 ghost use Rattle.os9_base.specs.declared.registers.TimePacket.{TimePacket};
 ghost use Rattle.os9_outer.specs.TerminalState.{TerminalState};
 ghost use Rattle.proc_rules.specs.Records.{IsLiving};
@@ -46,7 +46,7 @@ use proc_state::state::ProcState;
 /// the fault, if the drive fails.
 pub fn i_delete(s: &mut ProcState, files: &mut FileState, devices: &mut Devices, p: Pid) -> CallEnd
     requires lives { IsLiving s.old.table p.0 }
-    requires first { kept_at files.old.io p.0 ≡ None }
+    requires first { pending_at files.old.io p.0 ≡ None }
     requires sound { IsSound files.old (drives_seen BlockDriver-box devices.old) }
     ensures call { (now : TimePacket) (terms : List TerminalState)
         → length terms ≡ vec_len devices.old.terms
@@ -71,7 +71,7 @@ pub fn i_delete(s: &mut ProcState, files: &mut FileState, devices: &mut Devices,
 /// E$BPAddr and before all others.
 pub fn i_deletx(s: &mut ProcState, files: &mut FileState, devices: &mut Devices, p: Pid) -> CallEnd
     requires lives { IsLiving s.old.table p.0 }
-    requires first { kept_at files.old.io p.0 ≡ None }
+    requires first { pending_at files.old.io p.0 ≡ None }
     requires sound { IsSound files.old (drives_seen BlockDriver-box devices.old) }
     ensures call { (now : TimePacket) (terms : List TerminalState)
         → length terms ≡ vec_len devices.old.terms

@@ -1,14 +1,14 @@
 //! The ends of calls that return the address past their path list.
 
 ghost use Rattle.std.specs.Prelude.{◌≡◌, ℕ, List, None};
-ghost use Rattle.call_rules.specs.Inner.{Inner};
+ghost use Rattle.call_rules.specs.Processes.{Processes};
 ghost use Rattle.file_drives.specs.Drives.{DriveView};
 ghost use Rattle.file_rules.specs.Attempts.{asker_of};
 ghost use Rattle.file_rules.specs.Files.{Files};
 ghost use Rattle.file_rules.specs.Step.{FileStep};
 ghost use Rattle.file_state.specs.Ends.{Ends};
 ghost use Rattle.dir_calls.specs.Tries.{Tries};
-ghost use Rattle.io_rules.specs.Io.{kept_at};
+ghost use Rattle.io_rules.specs.Io.{pending_at};
 ghost use Rattle.os9_base.specs.declared.registers.TimePacket.{TimePacket};
 ghost use Rattle.os9_outer.specs.TerminalState.{TerminalState};
 ghost use Rattle.proc_rules.specs.Records.{IsLiving};
@@ -29,8 +29,8 @@ pub(crate) fn end_call(
     came: Result<u32, u8>,
 ) -> CallEnd
     requires lives { IsLiving s.old.table p.0 }
-    requires first { kept_at files.old.io p.0 ≡ None }
-    ensures ends { (step : FileStep) (most : ℕ) (m : Inner) (was : Files) (now : TimePacket)
+    requires first { pending_at files.old.io p.0 ≡ None }
+    ensures ends { (step : FileStep) (most : ℕ) (m : Processes) (was : Files) (now : TimePacket)
         (terms : List TerminalState) (before views : List DriveView) → Represents s.old m
         → Tries step most (asker_of m p.0 now) was came files.old before views
         → Ends step most m was now p.0 result s.new files.new before views terms }

@@ -1,7 +1,7 @@
 //! The way of a call's path list, and the file at its end.
 
 ghost use Rattle.std.specs.Prelude.{◌≡◌, IfOk, vec_len};
-ghost use Rattle.call_rules.specs.Inner.{Inner, cells_at};
+ghost use Rattle.call_rules.specs.Processes.{Processes, cells_at};
 ghost use Rattle.file_drives.specs.Drives.{drives_seen};
 ghost use Rattle.file_drives.specs.Mounted.{HasFileAt};
 ghost use Rattle.file_rules.specs.Attempts.{asker_of};
@@ -56,7 +56,7 @@ pub(crate) fn lead(
 ) -> Result<Route, u8>
     requires lives { IsLiving s.old.table p.0 }
     requires sound { IsSound files.now (drives_seen BlockDriver-box devices.now) }
-    ensures route { (m : Inner) (was : Files) (now : TimePacket) → Represents s.old m
+    ensures route { (m : Processes) (was : Files) (now : TimePacket) → Represents s.old m
         → StandsFor files.now (drives_seen BlockDriver-box devices.now) was
         → RouteIs (cells_at m p.0) (asker_of m p.0 now) (leads (asker_of m p.0 now) refusal
         (way_for purpose (asker_of m p.0 now) was (vec_len devices.now.terms) execute)) result }

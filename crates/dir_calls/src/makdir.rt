@@ -3,7 +3,7 @@
 ghost use Rattle.std.specs.Prelude.{◌≡◌, List, None, length, vec_len};
 ghost use Rattle.file_drives.specs.Drives.{drives_seen};
 ghost use Rattle.file_drives.specs.Mounted.{HasFileAt};
-ghost use Rattle.file_rules.specs.MakDir.{i_makdir as i_makdir_lem};
+ghost use Rattle.file_rules.specs.MakDir as model;
 ghost use Rattle.file_rules.specs.declared.path_call.PathCall.TheVariants as Call;
 ghost use Rattle.file_state.specs.Attempt.{standing};
 ghost use Rattle.file_state.specs.Counted.{AttemptsWithin};
@@ -12,7 +12,7 @@ ghost use Rattle.dir_calls.specs.Calls.{i_makdir_calls};
 ghost use Rattle.dir_calls.specs.Kept.{KeepsAllButDisks};
 ghost use Rattle.dir_calls.specs.MakDir.{MakesIn};
 ghost use Rattle.dir_calls.specs.Tries.{TriesFrom};
-ghost use Rattle.io_rules.specs.Io.{kept_at};
+ghost use Rattle.io_rules.specs.Io.{pending_at};
 ghost use Rattle.os9_outer.specs.TerminalState.{TerminalState};
 ghost use Rattle.proc_rules.specs.Records.{IsLiving};
 ghost use Rattle.proc_state.specs.Tie.{IsSame};
@@ -54,7 +54,7 @@ pub fn i_makdir(
     now: TimePacket,
 ) -> CallEnd
     requires lives { IsLiving s.old.table p.0 }
-    requires first { kept_at files.old.io p.0 ≡ None }
+    requires first { pending_at files.old.io p.0 ≡ None }
     requires sound { IsSound files.old (drives_seen BlockDriver-box devices.old) }
     ensures call { (terms : List TerminalState) → length terms ≡ vec_len devices.old.terms
         → AttemptsWithin i_makdir_calls Call.MakDir now p.0 result terms terms
@@ -81,8 +81,8 @@ fn make_directory(
 ) -> Result<u32, u8>
     requires lives { IsLiving s.old.table p.0 }
     requires sound { IsSound files.old (drives_seen BlockDriver-box devices.old) }
-    ensures tries { TriesFrom i_makdir_lem i_makdir_calls now p.0 (vec_len devices.old.terms) result
-        (standing BlockDriver-box s.old files.old devices.old)
+    ensures tries { TriesFrom model.i_makdir i_makdir_calls now p.0
+        (vec_len devices.old.terms) result (standing BlockDriver-box s.old files.old devices.old)
         (standing BlockDriver-box s.new files.new devices.new) }
     ensures io_kept { files.new.io ≡ files.old.io }
     ensures same { IsSame s.old s.new }

@@ -9,7 +9,7 @@ ghost use Rattle.dir_calls.specs.Calls.{named_calls};
 ghost use Rattle.dir_calls.specs.Kept.{KeepsAllButDisks};
 ghost use Rattle.dir_calls.specs.Looks.{LooksFrom};
 ghost use Rattle.dir_calls.specs.Naming.{IsNamed, last_by, names_last};
-ghost use Rattle.dir_calls.specs.Naming.{unnamed_number as unnamed_number_lem};
+ghost use Rattle.dir_calls.specs.Naming as model;
 ghost use Rattle.proc_rules.specs.Records.{IsLiving};
 ghost use Rattle.proc_state.specs.Tie.{IsSame};
 
@@ -88,7 +88,7 @@ pub(crate) fn locate_last(
 
 /// The number with which a list without names is refused.
 fn unnamed_number(purpose: Purpose) -> u8
-    ensures { result ≡ unnamed_number_lem purpose }
+    ensures { result ≡ model.unnamed_number purpose }
 {
     match purpose {
         Purpose::New => E_BPNAM,

@@ -6,7 +6,7 @@ use Rattle.proc_model.specs.ModuleList.{ModuleEntry, module_entry_at, answers_to
 use Rattle.proc_model.specs.Loading.{no_entries}
 use Rattle.proc_model.proofs.LoadingLemmas.{Enters-one, Enters-some}
 use Rattle.proc_model.proofs.ModuleListLaws.{found_entry}
-use Rattle.call_rules.specs.Inner.{Inner}
+use Rattle.call_rules.specs.Processes.{Processes}
 use Rattle.event_rules.specs.declared.ends.BootFault.{BootFault}
 use Rattle.event_rules.specs.declared.ends.BootFault.TheVariants.{OutOfMemory, BadModule, NoFirst, TooLarge}
 use Rattle.proc_model.specs.declared.memory.MemoryFault.{MemoryFault}
@@ -53,7 +53,7 @@ started-one file blocks entries others number other entry second one two =
     let same = first-one file entries others number other entry second one two in
     λ i. first_started file blocks (same.one_list i) (same.one_number i) (same.one_program i)
 
-pub Starts-one : (file : List ℕ) (blocks : ℕ) (m n : Inner) → StartsProcesses file blocks m → StartsProcesses file blocks n → m ≡ n
+pub Starts-one : (file : List ℕ) (blocks : ℕ) (m n : Processes) → StartsProcesses file blocks m → StartsProcesses file blocks n → m ≡ n
 Starts-one file blocks m n one other =
     let same = first-one file one.entries other.entries one.number other.number one.entry other.entry one.has other.has in
     let ends : first_started file blocks one.entries one.number one.entry ≡ first_started file blocks other.entries
@@ -71,7 +71,7 @@ begins-once file blocks entries others number other entry second memory one two 
     let ends : first_started file blocks entries number entry ≡ first_started file blocks others other second = started-one file blocks entries others number other entry second one two in
     let ok : first_started file blocks others other second ≡ Ok memory = sym ends ∙ begins in cc (ok, fails)
 
-pub never-both : (file : List ℕ) (blocks : ℕ) (m : Inner) (fault : BootFault) → StartsProcesses file blocks m → Refuses file blocks fault → ⊥
+pub never-both : (file : List ℕ) (blocks : ℕ) (m : Processes) (fault : BootFault) → StartsProcesses file blocks m → Refuses file blocks fault → ⊥
 never-both file blocks m TooLarge starts (inl long) = let short : length file ≤ longest_file = starts.has.short in absurd (omega arith)
 never-both file blocks m TooLarge starts (inr (entries, number, program, has, wants)) = begins-once file blocks
     starts.entries entries starts.number number starts.entry program starts.memory starts.has has starts.begins wants
@@ -110,7 +110,7 @@ first_entry entries number found_it = found_entry (answers_to entries (codes "Sy
 
 -- a machine starts a file, or refuses it
 abbrev Ends : List ℕ → ℕ → Type 0
-Ends file blocks = ((m : Inner) × StartsProcesses file blocks m) ⊎ ((fault : BootFault) × Refuses file blocks fault)
+Ends file blocks = ((m : Processes) × StartsProcesses file blocks m) ⊎ ((fault : BootFault) × Refuses file blocks fault)
 
 -- a file with a first program starts where that can begin
 by_start : (file : List ℕ) (blocks : ℕ) (entries : List (Option ModuleEntry)) (number : ℕ) (entry : ModuleEntry)
@@ -136,7 +136,7 @@ by_outcome : (file : List ℕ) (blocks : ℕ) (outcome : Result (List (Option Mo
 by_outcome file blocks (Err (at, error)) short entering = inr (BadModule at error, (short, entering))
 by_outcome file blocks (Ok entries) short entering = by_first file blocks entries (first_program entries) short entering refl
 
-pub some-end : (file : List ℕ) (blocks : ℕ) → ((m : Inner) × StartsProcesses file blocks m) ⊎ ((fault : BootFault) × Refuses file blocks fault)
+pub some-end : (file : List ℕ) (blocks : ℕ) → ((m : Processes) × StartsProcesses file blocks m) ⊎ ((fault : BootFault) × Refuses file blocks fault)
 some-end file blocks =
     elim (cases_lt longest_file (length file)) [
       | inl long ↦ inr (TooLarge, inl long)

@@ -14,7 +14,7 @@ use Rattle.io_rules.specs.declared.io_call.IoCall.{IoCall}
 use Rattle.io_rules.specs.Arrivals.{Desk, ArrivesFrom}
 use Rattle.io_rules.specs.Attempts.{Does, IoAttempts}
 use Rattle.io_rules.specs.Io.{Io, terminal_at}
-use Rattle.call_rules.specs.Inner.{Inner}
+use Rattle.call_rules.specs.Processes.{Processes}
 use Rattle.io_rules.specs.Step.{Caller, IoEffect, IoStep, refused, comes, reads, writes}
 use Rattle.io_rules.specs.Terminals.{request_of}
 use Rattle.event_rules.specs.Console.{terminals_emptied, without_bytes}
@@ -138,7 +138,7 @@ gain-does (reads read) caller io effect before after does =
 gain-does (writes write) caller io effect before after does =
     gain-one _ write.terminal before after (λ old new it. gains-write caller.process write.put write.count does.answer (terminal_at io write.terminal) does.new old new it) does.device
 
-pub gain-attempt : (call : IoCall) (m : Inner) (old new : Io) (drives p : ℕ) (result : CallResult)
+pub gain-attempt : (call : IoCall) (m : Processes) (old new : Io) (drives p : ℕ) (result : CallResult)
     (before after : List TerminalState) → IoAttempts call m old drives p result new before after → TerminalsOnlyGain
     before after
 gain-attempt call m old new drives p result before after attempt = gain-does _ _ old attempt.effect before after attempt.does

@@ -30,7 +30,7 @@ use Rattle.call_rules.specs.CmpNam.{f_cmpnam, same_names}
 use Rattle.call_rules.specs.Crc.{f_crc, crc_continued}
 use Rattle.call_rules.specs.End.{ended}
 use Rattle.call_rules.specs.Fork.{f_fork, with_child, forked_regs}
-use Rattle.call_rules.specs.Inner.{Inner, own_at, regs_at, user_at, cells_at, with_memory, with_records, with_regs_of, with_own}
+use Rattle.call_rules.specs.Processes.{Processes, own_at, regs_at, user_at, cells_at, with_memory, with_records, with_regs_of, with_own}
 use Rattle.call_rules.specs.Link.{f_link, mapped_group, links_at, after_link}
 use Rattle.call_rules.specs.Mem.{f_mem, sets_pages, resized, with_size, size_regs}
 use Rattle.call_rules.specs.ModuleLinks.{found_entry, module_at, without_module_link, without_primary_link, Entered}
@@ -45,42 +45,42 @@ use Rattle.call_rules.specs.UserBytes.{user_bytes, d_of}
 use Rattle.call_rules.specs.Wait.{f_wait, reaped_regs}
 
 -- the processes that a call leaves have the same tick
-abbrev KeepsTick : Inner → CallResult → Type 0
+abbrev KeepsTick : Processes → CallResult → Type 0
 KeepsTick m (done t) = t.tick ≡ m.tick
 KeepsTick m (refused number) = Unit {0}
 KeepsTick m (waits t) = t.tick ≡ m.tick
 KeepsTick m (ends status) = Unit {0}
 
-of-needs : {A : Type 0} (m : Inner) (some : Option A) (number : ℕ) (next : A → CallResult) → ((a : A) → KeepsTick m (next a)) → KeepsTick m (needs some number next)
+of-needs : {A : Type 0} (m : Processes) (some : Option A) (number : ℕ) (next : A → CallResult) → ((a : A) → KeepsTick m (next a)) → KeepsTick m (needs some number next)
 of-needs m None number next keeps = tt
 of-needs m (Some a) number next keeps = keeps a
 
-of-refuses : (m : Inner) (test : Bool) (number : ℕ) (next : CallResult) → KeepsTick m next → KeepsTick m (refuses test number next)
+of-refuses : (m : Processes) (test : Bool) (number : ℕ) (next : CallResult) → KeepsTick m next → KeepsTick m (refuses test number next)
 of-refuses m true number next keeps = tt
 of-refuses m false number next keeps = keeps
 
-of-changes : (m : Inner) (change : Result MemoryState MemoryFault) (next : MemoryState → CallResult) → ((memory : MemoryState) → KeepsTick m (next memory)) → KeepsTick m (changes change next)
+of-changes : (m : Processes) (change : Result MemoryState MemoryFault) (next : MemoryState → CallResult) → ((memory : MemoryState) → KeepsTick m (next memory)) → KeepsTick m (changes change next)
 of-changes m (Ok memory) next keeps = keeps memory
 of-changes m (Err fault) next keeps = tt
 
-of-name : (m : Inner) (name : Result (List ℕ) NameFault) (number : ℕ) (next : List ℕ → CallResult) → ((name : List ℕ) → KeepsTick m (next name)) → KeepsTick m (reads_name name number next)
+of-name : (m : Processes) (name : Result (List ℕ) NameFault) (number : ℕ) (next : List ℕ → CallResult) → ((name : List ℕ) → KeepsTick m (next name)) → KeepsTick m (reads_name name number next)
 of-name m (Ok name) number next keeps = keeps name
 of-name m (Err Unreadable) number next keeps = tt
 of-name m (Err NoName) number next keeps = tt
 
-of-if : (m : Inner) (test : Bool) (one other : CallResult) → KeepsTick m one → KeepsTick m other → KeepsTick m (if test then one else other)
+of-if : (m : Processes) (test : Bool) (one other : CallResult) → KeepsTick m one → KeepsTick m other → KeepsTick m (if test then one else other)
 of-if m true one other first second = first
 of-if m false one other first second = second
 
 -- the state where a link to a primary module is given up has the same tick
-primary-tick : (m : Inner) (own : Own) → (without_primary_link m own).tick ≡ m.tick
+primary-tick : (m : Processes) (own : Own) → (without_primary_link m own).tick ≡ m.tick
 primary-tick m own = by_primary own.primary
   where
     by_primary : (primary : Option ModId) → (option_map_or (λ (id : ModId). without_module_link m id.0) primary m).tick ≡ m.tick
     by_primary None = refl
     by_primary (Some id) = refl
 
-module _ (m : Inner) where
+module _ (m : Processes) where
   unlink-tick : (p : ℕ) (found : Entered) → (after_unlink m p found).tick ≡ m.tick
   unlink-tick p found = by_slot (group_slot (map_at m.memory p) found.entry.group)
     where
@@ -96,7 +96,7 @@ module _ (m : Inner) where
       by_wake true false = refl
       by_wake false asleep = refl
 
-module _ (m : Inner) (p : ℕ) where
+module _ (m : Processes) (p : ℕ) where
   -- F$Fork and F$Chain, once the program was read
   abbrev forking : Program → CallResult
   forking program = needs (free_process m.records) E_PRCFUL (λ child. refuses (nat_lt most_pages program.pages)

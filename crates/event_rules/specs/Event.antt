@@ -5,7 +5,7 @@ use Rattle.cpu_model.specs.Step.{Outcome, Done, Calls, Aborts, step_of}
 use Rattle.proc_model.specs.MemoryChanges.{written}
 use Rattle.call_rules.specs.CallResult.{CallResult, done, refused, waits, ends}
 use Rattle.call_rules.specs.End.{ended}
-use Rattle.call_rules.specs.Inner.{Inner, own_at, regs_at, cells_at, with_memory, with_regs_of, with_own}
+use Rattle.call_rules.specs.Processes.{Processes, own_at, regs_at, cells_at, with_memory, with_regs_of, with_own}
 use Rattle.call_rules.specs.Ready.{Act, attempts, delivers, executes}
 use Rattle.event_rules.specs.declared.ends.EventEnd.{EventEnd}
 use Rattle.event_rules.specs.declared.ends.EventEnd.TheVariants.{Ran, Waits, Ended}
@@ -14,7 +14,7 @@ use Rattle.event_rules.specs.declared.ends.EventEnd.TheVariants.{Ran, Waits, End
 
 -- the processes after an instruction of one: it changed its registers and bytes, or it is a system call, or the process
 -- ends by it with a status
-abbrev pub after_instruction : Inner → ℕ → Outcome → Inner
+abbrev pub after_instruction : Processes → ℕ → Outcome → Processes
 after_instruction m p (Done effect) =
     with_regs_of (with_memory m (written m.memory p effect.writes)) p effect.regs
 after_instruction m p (Calls code regs) =
@@ -28,7 +28,7 @@ instruction_end (Calls code regs) = Ran
 instruction_end (Aborts status) = Ended
 
 -- the instruction that a process executes next
-abbrev pub next_instruction : Inner → ℕ → Outcome
+abbrev pub next_instruction : Processes → ℕ → Outcome
 next_instruction m p = step_of (cells_at m p) (regs_at m p)
 
 -- ---- an attempt of a call
@@ -43,12 +43,12 @@ call_event_end (ends status) = Ended
 -- ---- the delivery of a signal
 
 -- the processes after the call of one is broken off: Y has the count that it answers, if it answers one
-abbrev pub broken_off : Inner → ℕ → Option ℕ → Inner
+abbrev pub broken_off : Processes → ℕ → Option ℕ → Processes
 broken_off m p None = m
 broken_off m p (Some count) = with_regs_of m p (record (regs_at m p) { y = count })
 
 -- how a delivery ends
-abbrev pub delivery_end : Result Inner ℕ → EventEnd
+abbrev pub delivery_end : Result Processes ℕ → EventEnd
 delivery_end (Ok t) = Ran
 delivery_end (Err status) = Ended
 

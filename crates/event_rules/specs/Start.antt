@@ -11,7 +11,7 @@ use Rattle.proc_model.specs.ModuleList.{ModuleEntry, module_entry_at, found_modu
 use Rattle.proc_model.specs.Objects.{file_blocks, file_objects}
 use Rattle.proc_rules.specs.Records.{after_make, with_regs}
 use Rattle.proc_rules.specs.Turns.{with_turn}
-use Rattle.call_rules.specs.Inner.{Inner, no_own}
+use Rattle.call_rules.specs.Processes.{Processes, no_own}
 use Rattle.call_rules.specs.Program.{Program, program_kind, area_pages, blocks_of_pages, start_regs, start_own}
 use Rattle.event_rules.specs.declared.ends.BootFault.{BootFault}
 use Rattle.event_rules.specs.declared.ends.BootFault.TheVariants.{OutOfMemory, BadModule, NoFirst, TooLarge}
@@ -77,7 +77,7 @@ first_started file blocks entries number entry =
     started (boot_memory file blocks entries) first_process.0 number (blocks_of_pages (area_pages entry 0 0))
 
 -- the only process, which begins with this program in this memory: its module has one more link
-abbrev pub only_process : MemoryState → Program → Inner
+abbrev pub only_process : MemoryState → Program → Processes
 only_process memory program = record {
   memory = linked memory program.entered.number;
   records =
@@ -107,11 +107,11 @@ Refuses file blocks NoFirst =
 Refuses file blocks OutOfMemory = ⊥
 
 -- the processes with which a machine with this number of blocks starts a boot file
-pub record StartsProcesses (file : List ℕ) (blocks : ℕ) (inner : Inner) : Type 0 where
+pub record StartsProcesses (file : List ℕ) (blocks : ℕ) (processes : Processes) : Type 0 where
   pub entries : List (Option ModuleEntry)
   pub number : ℕ
   pub entry : ModuleEntry
   pub memory : MemoryState
   pub has : HasFirst file entries number entry
   pub begins : first_started file blocks entries number entry ≡ Ok memory
-  pub is : inner ≡ only_process memory (first_start number entry)
+  pub is : processes ≡ only_process memory (first_start number entry)

@@ -4,11 +4,11 @@ ghost use Rattle.std.specs.Prelude.{◌≡◌, ℕ};
 ghost use Rattle.call_rules.specs.declared.proc_call.ProcCall.{ProcCall};
 ghost use Rattle.call_rules.specs.Attempts.{attempted, after_attempt};
 ghost use Rattle.call_rules.specs.End.{ended};
-ghost use Rattle.call_rules.specs.Inner.{Inner};
+ghost use Rattle.call_rules.specs.Processes.{Processes};
 
 /// Neither an attempt of a call on processes and modules nor the end of a process changes the tick.
 pub fn calls_keep_the_tick()
-    ensures attempt { (m : Inner) (p : ℕ) (call : ProcCall)
+    ensures attempt { (m : Processes) (p : ℕ) (call : ProcCall)
         → (after_attempt m p (attempted call m p)).tick ≡ m.tick }
-    ensures end { (m : Inner) (p status : ℕ) → (ended m p status).tick ≡ m.tick }
+    ensures end { (m : Processes) (p status : ℕ) → (ended m p status).tick ≡ m.tick }
 {}

@@ -89,11 +89,11 @@ wants-gain (writes write) caller io before after (new, device) =
 
 -- an attempt of a call on a path is done
 module _ (call : PathCall) (s : State) (now : TimePacket) (p : ℕ) (result : CallResult) (done : Files) (terms : List TerminalState) where
-  by-touch : IsOnDevice call s.inner s.files p result done s.terms terms ⊎ LeavesDevices call s.inner s.files now p
-      result done s.terms terms ⊎ WaitsForRecord call s.inner s.files now p result done s.terms terms
+  by-touch : IsOnDevice call s.processes s.files p result done s.terms terms ⊎ LeavesDevices call s.processes s.files now p
+      result done s.terms terms ⊎ WaitsForRecord call s.processes s.files now p result done s.terms terms
       → TerminalsOnlyGain s.terms terms × DrivesOnlyGain s.files.drives done.drives
   by-touch (inl on) = (
-    gain-attempt on.device s.inner s.files.io done.io (length s.files.drives) p result s.terms terms on.attempted,
+    gain-attempt on.device s.processes s.files.io done.io (length s.files.drives) p result s.terms terms on.attempted,
     none-gains s.files.drives done.drives on.none_failed,
   )
   by-touch (inr (inl left)) = (
@@ -105,8 +105,8 @@ module _ (call : PathCall) (s : State) (now : TimePacket) (p : ℕ) (result : Ca
     none-gains s.files.drives done.drives waiting.none_failed,
   )
 
-  attempt-gains : FileAttempts call s.inner s.files now p result done s.terms terms → TerminalsOnlyGain s.terms terms × DrivesOnlyGain s.files.drives done.drives
-  attempt-gains it = by-touch (attempt-comes call s.inner s.files now p result done s.terms terms it)
+  attempt-gains : FileAttempts call s.processes s.files now p result done s.terms terms → TerminalsOnlyGain s.terms terms × DrivesOnlyGain s.files.drives done.drives
+  attempt-gains it = by-touch (attempt-comes call s.processes s.files now p result done s.terms terms it)
 
 -- ---- the devices of a kernel
 
@@ -128,7 +128,7 @@ module _ (old : Kernel) (before after : Outside) (s : State) (tied : Represents 
   breaks-gain : (call : PathCall) (now : TimePacket) (p : ℕ) → BreaksAtByte call s now p after ⊎ BreaksAtEntry call s
       now p after → DevicesGain before after
   breaks-gain call now p (inl it) =
-      gains-so (wants-gain it.lacks.step (caller_of s.inner p) s.files.io s.terms after.terms it.lacks.wants) it.drives
+      gains-so (wants-gain it.lacks.step (caller_of s.processes p) s.files.io s.terms after.terms it.lacks.wants) it.drives
   breaks-gain call now p (inr it) =
       let gained = attempt-gains call s now p it.lacks.result it.done after.terms it.lacks.attempts in
       gains-done it.done gained.0 gained.1 it.drives

@@ -8,7 +8,7 @@ use Rattle.os9_base.specs.declared.registers.Regs.{Regs}
 use Rattle.proc_rules.specs.declared.record.Record.{Record}
 use Rattle.proc_rules.specs.Records.{IsLiving, has_ended, is_living, new_record, record_at, record_of, record_passes}
 use Rattle.proc_rules.specs.Signals.{after_send, is_reached, send_fault, wake_signal, with_sent, with_signal}
-use Rattle.call_rules.specs.Inner.{Inner}
+use Rattle.call_rules.specs.Processes.{Processes}
 use Rattle.call_laws.proofs.OthersKept.{living-record, living-within}
 use Rattle.io_rules.specs.Arrivals.{ArrivesFrom, Desk, after_key_signal, every_user}
 use Rattle.event_rules.specs.Console.{terminals_emptied}
@@ -29,7 +29,7 @@ abbrev living-by : Option Record → Option Regs
 living-by place =
     if record_passes (λ r. not (has_ended r.life)) place then Some (unwrap_or place (new_record (record { 0 = 0 }) 0 0)).regs else None
 
-look-place : (m : Inner) (p : ℕ) → living_regs m p ≡ look (record_of m.records p)
+look-place : (m : Processes) (p : ℕ) → living_regs m p ≡ look (record_of m.records p)
 look-place m p = by_place (record_of m.records p) refl
   where
     by_place : (place : Option Record) → record_of m.records p ≡ place → living_regs m p ≡ look place
@@ -74,17 +74,17 @@ look-sent records user to signal q = by_fault (is_some (send_fault records user 
     by_fault true wrong = refl
     by_fault false wrong = by_wake (sent-lives records user to signal wrong) (signal == wake_signal)
 
-look-key : (inner : Inner) (user : Option Pid) (signal : Option ℕ) (q : ℕ) → look (record_of (after_key_signal inner user signal).records q) ≡ look (record_of inner.records q)
-look-key inner None signal q = refl
-look-key inner (Some process) None q = refl
-look-key inner (Some process) (Some signal) q = look-sent inner.records every_user process.0 signal q
+look-key : (processes : Processes) (user : Option Pid) (signal : Option ℕ) (q : ℕ) → look (record_of (after_key_signal processes user signal).records q) ≡ look (record_of processes.records q)
+look-key processes None signal q = refl
+look-key processes (Some process) None q = refl
+look-key processes (Some process) (Some signal) q = look-sent processes.records every_user process.0 signal q
 
-look-arrivals : (tick n count : ℕ) (old new : Desk) (q : ℕ) → ArrivesFrom tick n count old new → look (record_of new.inner.records q) ≡ look (record_of old.inner.records q)
-look-arrivals tick n zero old new q is = ap (λ (desk : Desk). look (record_of desk.inner.records q)) is
+look-arrivals : (tick n count : ℕ) (old new : Desk) (q : ℕ) → ArrivesFrom tick n count old new → look (record_of new.processes.records q) ≡ look (record_of old.processes.records q)
+look-arrivals tick n zero old new q is = ap (λ (desk : Desk). look (record_of desk.processes.records q)) is
 look-arrivals tick n (suc count) old new q (between, here, later) =
     look-arrivals tick (n + 1) count between new q later
-    ∙ ap (λ (inner : Inner). look (record_of inner.records q)) here.signal
-    ∙ look-key old.inner here.terminal.user here.answer.signal q
+    ∙ ap (λ (processes : Processes). look (record_of processes.records q)) here.signal
+    ∙ look-key old.processes here.terminal.user here.answer.signal q
 
 -- ---- moves
 
@@ -97,13 +97,13 @@ looks-then s t u first next = record { memory = next.memory ∙ first.memory; re
 pub tick-looks : (s t : State) → Tick s t → LooksAlike s t
 tick-looks s t ticks = record {
   memory = (tick-leaves s t ticks).memory;
-  regs = λ p. look-place t.inner p ∙ tick-look s t p ticks ∙ sym (look-place s.inner p);
+  regs = λ p. look-place t.processes p ∙ tick-look s t p ticks ∙ sym (look-place s.processes p);
 }
   where
-    tick-look : (s t : State) (p : ℕ) → Tick s t → look (record_of t.inner.records p) ≡ look (record_of s.inner.records p)
+    tick-look : (s t : State) (p : ℕ) → Tick s t → look (record_of t.processes.records p) ≡ look (record_of s.processes.records p)
     tick-look s t p (desk, arrives, is) =
-        ap (λ (t : State). look (record_of t.inner.records p)) is
-        ∙ look-arrivals (s.inner.tick + 1) 0 (length s.terms) (desk_of s) desk p arrives
+        ap (λ (t : State). look (record_of t.processes.records p)) is
+        ∙ look-arrivals (s.processes.tick + 1) 0 (length s.terms) (desk_of s) desk p arrives
 
 pub choice-looks : (s t : State) → Choose s t → LooksAlike s t
 choice-looks s t is = subst (LooksAlike s) (sym is) (record { memory = refl; regs = λ p. refl })

@@ -18,7 +18,7 @@ use Rattle.event_run.proofs.Remaining.{Stepped, emptied, stepped}
 -- ---- one event
 
 event-chosen : (s t : State) (end : EventEnd) → Event s end t → t.chosen ≡ s.chosen
-event-chosen s t end (p, chosen, lives, acts) = by_act (act_of s.inner p) acts
+event-chosen s t end (p, chosen, lives, acts) = by_act (act_of s.processes p) acts
   where
     by_act : (act : Act) → Acts act s p end t → t.chosen ≡ s.chosen
     by_act executes (ends, is) = ap (λ (t : State). t.chosen) is

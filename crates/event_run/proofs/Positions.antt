@@ -33,7 +33,7 @@ use Rattle.debug_text.specs.Show.{shown, shown_cells, shown_regs}
 use Rattle.os9_base.specs.declared.registers.Regs.{Regs}
 use Rattle.proc_model.specs.Memory.{MemoryState, map_at}
 use Rattle.proc_model.specs.Objects.{object_cells}
-use Rattle.call_rules.specs.Inner.{cells_at}
+use Rattle.call_rules.specs.Processes.{cells_at}
 use Rattle.user_names.specs.UserNames.{user_cell}
 use Rattle.os9_kernel.specs.View.{living_regs}
 use Rattle.event_run.specs.Devices.{DevicesGain, Unfailed}
@@ -99,10 +99,10 @@ pub gains-taken : (kernel : Kernel) (mid now : Outside) (t : State) → now.driv
 gains-taken kernel mid now t drives terms tied =
     gains-outside kernel kernel mid now t (emptied t) tied (represents-taken kernel mid now t drives terms tied) (emptied-gains t)
 
-pub some-living : (s : State) → living_count s.inner ≢ 0 → has_living s ≡ true
-some-living s some = ap not (ne_eqb (living_count s.inner) 0 some)
+pub some-living : (s : State) → living_count s.processes ≢ 0 → has_living s ≡ true
+some-living s some = ap not (ne_eqb (living_count s.processes) 0 some)
 
-pub none-living : (s : State) → living_count s.inner ≡ 0 → has_living s ≡ false
+pub none-living : (s : State) → living_count s.processes ≡ 0 → has_living s ≡ false
 none-living s none = rw none refl
 
 -- the kernel stands where bytes were taken, and no count fell
@@ -215,7 +215,7 @@ module _ (old : Position) (kernel : Kernel) (before mid : Outside) (count events
       let (t, turn, there) = steps s tied in
       let event = (turn-first s t end count turn).event in
       let who : event.0 ≡ p.0 = same_Some event.0 p.0 (sym event.1 ∙ chosen-is s tied) in
-      living-few old.kernel.processes s.inner tied.inner p.0 (subst (IsLiving s.inner.records) who event.2)
+      living-few old.kernel.processes s.processes tied.processes p.0 (subst (IsLiving s.processes.records) who event.2)
 
   pub turn-stands : Stands old.kernel before → Stands kernel mid
   turn-stands (s, tied) = let (t, turn, there) = steps s tied in (t, there)
@@ -401,7 +401,7 @@ module _ (slices : List ℕ) (position : Position) (devices : Outside) (between 
       by_rest (inr it) = absurd (omega (arith, it.some, between))
 
   -- nobody lives
-  pub last-idle : ((s : State) → Represents position.kernel devices s → living_count s.inner ≡ 0) → (course : Course)
+  pub last-idle : ((s : State) → Represents position.kernel devices s → living_count s.processes ≡ 0) → (course : Course)
       (last : State) → IsAt course last slices position devices → last_of course ≡ position.events
   last-idle nobody course last at =
       last-here course at.past at.later position.events at.count at.all
@@ -420,18 +420,18 @@ module _ (course : Course) (last : State) (slices : List ℕ) (position : Positi
   abbrev here : State
   here = state_at course position.events
 
-  pub regs-shown : (result : Option Regs) → ((s : State) → Represents position.kernel devices s → result ≡ living_regs s.inner position.process.0) → result ≡ shown_regs here
+  pub regs-shown : (result : Option Regs) → ((s : State) → Represents position.kernel devices s → result ≡ living_regs s.processes position.process.0) → result ≡ shown_regs here
   regs-shown result is =
-      is at.s at.represents ∙ at.looks.regs position.process.0 ∙ ap (λ p. living_regs here.inner p) at.process
+      is at.s at.represents ∙ at.looks.regs position.process.0 ∙ ap (λ p. living_regs here.processes p) at.process
 
   pub byte-shown : (address : ℕ) (result : Option ℕ) → address < 65536
-      → ((s : State) → Represents position.kernel devices s → result ≡ user_cell (cells_at s.inner position.process.0)
+      → ((s : State) → Represents position.kernel devices s → result ≡ user_cell (cells_at s.processes position.process.0)
       address) → result ≡ shown_cells here address
   byte-shown address result within is =
       is at.s at.represents
       ∙ (rw (lt-ltb address 65536 within) refl)
       ∙ ap (λ (memory : MemoryState). object_cells memory.objects (map_at memory position.process.0).places address) at.looks.memory
-      ∙ ap (λ p. cells_at here.inner p address) at.process
+      ∙ ap (λ p. cells_at here.processes p address) at.process
 
 -- ---- the start
 
@@ -500,7 +500,7 @@ last-then slices a b x y same first ends course last at none = ends course last 
 -- the next slice is the one at this place
 pub begins-with : (n : ℕ) (slices : List ℕ) (position : Position) (devices : Outside) (index : ℕ)
     → ticks position.kernel ≡ index → slice_get slices index ≡ Some n
-    → ((s : State) → Represents position.kernel devices s → living_count s.inner ≢ 0) → BeginsWith n slices position
+    → ((s : State) → Represents position.kernel devices s → living_count s.processes ≢ 0) → BeginsWith n slices position
     devices
 begins-with n slices position devices index at is some = record {
   next = ap (slice_get slices) at ∙ is;
@@ -576,7 +576,7 @@ module _ (slices : List ℕ) (old : Position) (index : ℕ) (now : Position) (be
     end = λ _. last-then slices old now before after so_far.events so_far.stays ends;
   }
 
-  pub found-nobody : ((s : State) → Represents now.kernel after s → living_count s.inner ≡ 0) → HasFound slices old now (Ok End) before after
+  pub found-nobody : ((s : State) → Represents now.kernel after s → living_count s.processes ≡ 0) → HasFound slices old now (Ok End) before after
   found-nobody nobody = found-none (last-idle slices now after so_far.between nobody)
 
   pub found-all : length slices ≤ index → HasFound slices old now (Ok End) before after

@@ -118,8 +118,8 @@ pub record Opened (n : ℕ) (slices : List ℕ) (t : State) (states : List State
 
 abbrev begun : State → State
 begun s = record s {
-  inner = after_choice (files_may_go s.files s.inner.tick) s.inner;
-  chosen = option_map (λ (p : Pid). p.0) (choice_of (files_may_go s.files s.inner.tick) s.inner).chosen;
+  processes = after_choice (files_may_go s.files s.processes.tick) s.processes;
+  chosen = option_map (λ (p : Pid). p.0) (choice_of (files_may_go s.files s.processes.tick) s.processes).chosen;
 }
 
 abbrev Begun : ℕ → State → Option ℕ → List State → SliceEnd → State → Type 0

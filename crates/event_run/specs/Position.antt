@@ -42,8 +42,8 @@ Remains slices position s states last =
 
 -- in both states every process has the same registers, or has ended, and the memory is the same
 pub record LooksAlike (s t : State) : Type 0 where
-  pub memory : t.inner.memory ≡ s.inner.memory
-  pub regs : (p : ℕ) → living_regs t.inner p ≡ living_regs s.inner p
+  pub memory : t.processes.memory ≡ s.processes.memory
+  pub regs : (p : ℕ) → living_regs t.processes p ≡ living_regs s.processes p
 
 -- The position is after a number of events of this course, with this last state: the kernel has reached it, and perhaps
 -- slices in which no process is Ready.

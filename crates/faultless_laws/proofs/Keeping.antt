@@ -9,7 +9,7 @@ use Rattle.cpu_model.specs.Step.{Aborts, Calls, Done, Outcome}
 use Rattle.rbf_model.specs.Volume.{DiskVolume}
 use Rattle.call_rules.specs.CallResult.{CallResult, done, ends, refused, waits}
 use Rattle.call_rules.specs.Delivery.{delivered}
-use Rattle.call_rules.specs.Inner.{Inner}
+use Rattle.call_rules.specs.Processes.{Processes}
 use Rattle.call_rules.specs.Ready.{Act, act_of, attempts, delivers, executes}
 use Rattle.call_rules.specs.declared.proc_call.ProcCall.TheVariants as Call
 use Rattle.file_rules.specs.Attempts.{asker_of, file_step, files_after}
@@ -99,7 +99,7 @@ module _ (files : Files) (p : ℕ) (order : AreInOrder files) where
   after-instruction (Calls code regs) = order
   after-instruction (Aborts status) = order-same files (files_after_instruction files p (Aborts status)) refl order
 
-  after-delivery : (result : Result Inner ℕ) → AreInOrder (files_after_delivery files p result)
+  after-delivery : (result : Result Processes ℕ) → AreInOrder (files_after_delivery files p result)
   after-delivery (Ok t) = order-same files (files_after_delivery files p (Ok t)) refl order
   after-delivery (Err status) = order-same files (files_after_delivery files p (Err status)) refl order
 
@@ -121,30 +121,30 @@ module _ (s : State) (p : ℕ) (can : CanGo s) (order : AreInOrder s.files) (now
 
   serves-order : (service : Service) (result : CallResult) (rest : Rest) → Serves service s now p result rest → AreInOrder rest.files
   serves-order loads result rest (files, it, is) =
-      by-rest rest _ is (order-same s.files files (load-leaves s.inner (asker_of s.inner p now) s.files (length s.terms) p result files it).volumes order)
+      by-rest rest _ is (order-same s.files files (load-leaves s.processes (asker_of s.processes p now) s.files (length s.terms) p result files it).volumes order)
   serves-order (on_processes Call.Fork) result rest (files, it, is) =
-      by-rest rest _ is (after-fork files p (order-same s.files files (fork-leaves s.inner (asker_of s.inner p now) s.files (length s.terms) p result files it).volumes order) result)
+      by-rest rest _ is (after-fork files p (order-same s.files files (fork-leaves s.processes (asker_of s.processes p now) s.files (length s.terms) p result files it).volumes order) result)
   serves-order (on_processes Call.Chain) result rest (files, it, is) =
-      by-rest rest _ is (order-same s.files files (chain-leaves s.inner (asker_of s.inner p now) s.files (length s.terms) p result files it).volumes order)
+      by-rest rest _ is (order-same s.files files (chain-leaves s.processes (asker_of s.processes p now) s.files (length s.terms) p result files it).volumes order)
   serves-order (on_processes call) result rest it = by-rest rest _ it.1 (after-call s.files p order result)
   serves-order (on_time call) result rest (clock, it, is) = by-rest rest _ is order
   serves-order (on_paths call) result rest (it, same) =
       subst AreInOrder (sym it.state)
-      (order-same it.effect.files (files_after p it.effect) refl (does-order call (asker_of s.inner p now) s.files can.running.kinds order s.terms rest.terms it.effect it.does))
+      (order-same it.effect.files (files_after p it.effect) refl (does-order call (asker_of s.processes p now) s.files can.running.kinds order s.terms rest.terms it.effect it.does))
   serves-order no_call result rest (result_is, is) = by-rest rest _ is order
 
 -- ---- events, ticks and choices
 
 acts-order : (act : Act) (s : State) (p : ℕ) (end : EventEnd) (t : State) → CanGo s → AreInOrder s.files → Acts act s p end t → AreInOrder t.files
 acts-order executes s p end t can order (over, is) =
-    subst (λ (t : State). AreInOrder t.files) (sym is) (after-instruction s.files p order (next_instruction s.inner p))
+    subst (λ (t : State). AreInOrder t.files) (sym is) (after-instruction s.files p order (next_instruction s.processes p))
 acts-order (delivers signal) s p end t can order (over, is) =
     subst (λ (t : State). AreInOrder t.files) (sym is) (after-delivery s.files p order (delivered (before_delivery s p) p signal))
 acts-order (attempts code) s p end t can order (result, rest, (now, is_now, it), over, is) =
     subst (λ (t : State). AreInOrder t.files) (sym is) (serves-order s p can order now (service_of code) result rest it)
 
 pub event-order : (s t : State) (end : EventEnd) → Event s end t → CanGo s → AreInOrder s.files → AreInOrder t.files
-event-order s t end (p, chosen, lives, acts) can order = acts-order (act_of s.inner p) s p end t can order acts
+event-order s t end (p, chosen, lives, acts) can order = acts-order (act_of s.processes p) s p end t can order acts
 
 pub tick-order : (s t : State) → Tick s t → AreInOrder s.files → AreInOrder t.files
 tick-order s t (desk, arrives, is) order =

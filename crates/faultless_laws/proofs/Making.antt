@@ -18,12 +18,12 @@ use Rattle.io_rules.specs.Step.{answers}
 use Rattle.io_rules.specs.declared.io_call.IoCall.TheVariants as Device
 use Rattle.file_rules.specs.Attempts.{file_step}
 use Rattle.file_rules.specs.Change.{creates, makes_directory}
-use Rattle.file_rules.specs.Create.{clusters_for, creates_in, creates_on_device, creates_on_way, creates_with_path, has_room_for, opens_new}
+use Rattle.file_rules.specs.Create.{clusters_for, creates_in, creates_on_device, creates_on_route, creates_with_path, has_room_for, opens_new}
 use Rattle.file_rules.specs.Files.{Asker, Files, NoneFailed, volume_at}
-use Rattle.file_rules.specs.MakDir.{makes_in, makes_on_way, new_directory_size, past_list}
+use Rattle.file_rules.specs.MakDir.{makes_in, makes_on_route, new_directory_size, past_list}
 use Rattle.file_rules.specs.Open.{is_for_execution, says_directory, tests_mode}
 use Rattle.file_rules.specs.Step.{Deed, DoesDeed, FileDoes, FileEffect, FileStep, VolumeChange, changes, comes, deed_of, leaves, on_files, reaches, refused, refuses, refuses_so, with_drives_after, with_volume_after}
-use Rattle.file_rules.specs.Way.{Found, Way, along, before_last, last_of, list_of, nowhere, to_device, walk_ends, walks, way_to_new}
+use Rattle.file_rules.specs.Route.{Found, Route, along, before_last, last_of, list_of, nowhere, to_device, walk_ends, walks, route_to_new}
 use Rattle.file_rules.specs.declared.path_call.PathCall.TheVariants as Call
 use Rattle.lock_model.specs.declared.place.FilePlace.{FilePlace}
 use Rattle.file_laws.specs.Kinds.{AreKinds}
@@ -198,7 +198,7 @@ module _ (asker : Asker) (files : Files) (terms : List TerminalState) where
           (λ may. refuses-by D no (is_some (look_up found.file.contents name)) E_CEF (has_room_for found new_directory_size (comes (changes new-directory)))
           (λ new. room-deed new_directory_size (comes (changes new-directory)) (λ room fits. change-deed new-directory (make-change room fits))))
 
-    create-way : AreOnTerminals (length terms) files.io.paths → (list : PathList) (way : Way) → WayShort way → D (creates_on_way asker files (length terms) list way)
+    create-way : AreOnTerminals (length terms) files.io.paths → (list : PathList) (route : Route) → WayShort route → D (creates_on_route asker files (length terms) list route)
     create-way on list (along from names) short =
         needs-by D no (last_of names) E_BPNAM (λ name. walks asker files (is_for_execution asker.caller.regs.a) from (before_last names) (creates_in asker files list name))
         (λ name is. walks-deed (is_for_execution asker.caller.regs.a) from (before_last names) (creates_in asker files list name)
@@ -206,7 +206,7 @@ module _ (asker : Asker) (files : Files) (terms : List TerminalState) where
     create-way on list to_device short = device-deed on
     create-way on list (nowhere number) short = no number
 
-    make-way : (list : PathList) (way : Way) → WayShort way → D (makes_on_way asker files list way)
+    make-way : (list : PathList) (route : Route) → WayShort route → D (makes_on_route asker files list route)
     make-way list (along from names) short =
         needs-by D no (last_of names) E_BPNAM (λ name. walks asker files false from (before_last names) (makes_in asker files list name))
         (λ name is. walks-deed false from (before_last names) (makes_in asker files list name) (λ found there. make-deed list name (last-short names name short is) found there))
@@ -217,14 +217,14 @@ module _ (asker : Asker) (files : Files) (terms : List TerminalState) where
     create-goes on =
         goes (file_step Call.Create asker files (length terms))
         (list-by D no (list_of asker) (tests_mode (can_write asker.caller.regs.a))
-        (λ list. creates_on_way asker files (length terms) list (way_to_new asker files (length terms) (is_for_execution asker.caller.regs.a) list))
+        (λ list. creates_on_route asker files (length terms) list (route_to_new asker files (length terms) (is_for_execution asker.caller.regs.a) list))
         (mode-deed (can_write asker.caller.regs.a))
-        (λ list is. create-way on list (way_to_new asker files (length terms) (is_for_execution asker.caller.regs.a) list)
+        (λ list is. create-way on list (route_to_new asker files (length terms) (is_for_execution asker.caller.regs.a) list)
         (way-short asker files (length terms) (is_for_execution asker.caller.regs.a) list (read-short asker list is))))
 
     pub makdir-goes : Goes (file_step Call.MakDir asker files (length terms))
     makdir-goes =
         goes (file_step Call.MakDir asker files (length terms))
-        (list-by D no (list_of asker) (λ step. step) (λ list. makes_on_way asker files list (way_to_new asker files (length terms) false list))
+        (list-by D no (list_of asker) (λ step. step) (λ list. makes_on_route asker files list (route_to_new asker files (length terms) false list))
         (λ step holds. holds)
-        (λ list is. make-way list (way_to_new asker files (length terms) false list) (way-short asker files (length terms) false list (read-short asker list is))))
+        (λ list is. make-way list (route_to_new asker files (length terms) false list) (way-short asker files (length terms) false list (read-short asker list is))))

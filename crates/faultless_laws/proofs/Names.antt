@@ -17,7 +17,7 @@ use Rattle.user_names.specs.declared.name_fault.NameFault.TheVariants.{NoName, U
 use Rattle.rbf_model.specs.Volume.{DiskVolume}
 use Rattle.io_rules.specs.PathList.{Behind, Names, PathList, a_slash, another, behind, device_list, ends_in_dots, from_device, has_slash_behind_device, list_with, name_before, names_at, names_behind, names_from, names_with, nothing, path_list, relative_list, unreadable}
 use Rattle.file_rules.specs.Files.{Asker, Files, directory_of, volume_at}
-use Rattle.file_rules.specs.Way.{Way, along, is_root, last_of, list_of, nowhere, to_device, way_by, way_from, way_of, way_of_device, way_on_drive, way_to_new}
+use Rattle.file_rules.specs.Route.{Route, along, is_root, last_of, list_of, nowhere, to_device, route_by, route_from, route_of, route_of_device, route_on_drive, route_to_new}
 use Rattle.lock_model.specs.declared.place.FilePlace.{FilePlace}
 
 -- ---- one name
@@ -114,17 +114,17 @@ last-short names name short is = short-at names (length names - 1) name short is
 
 -- ---- the way along it
 
-abbrev pub WayShort : Way → Type 0
+abbrev pub WayShort : Route → Type 0
 WayShort (along from names) = AreShort names
 WayShort to_device = Unit {0}
 WayShort (nowhere number) = Unit {0}
 
 module _ (asker : Asker) (files : Files) (terms : ℕ) (execute : Bool) (list : PathList) (short : AreShort list.names) where
-  from-short : (place : Option FilePlace) → WayShort (way_from place list.names)
+  from-short : (place : Option FilePlace) → WayShort (route_from place list.names)
   from-short None = tt
   from-short (Some place) = short
 
-  drive-short : (drive : ℕ) (volume : Option DiskVolume) → WayShort (way_on_drive drive list.names volume)
+  drive-short : (drive : ℕ) (volume : Option DiskVolume) → WayShort (route_on_drive drive list.names volume)
   drive-short drive None = tt
   drive-short drive (Some v) = short
 
@@ -132,19 +132,19 @@ module _ (asker : Asker) (files : Files) (terms : ℕ) (execute : Bool) (list : 
   none-short true = tt
   none-short false = tt
 
-  device-short : (device : Option Dev) → WayShort (way_of_device files list device)
+  device-short : (device : Option Dev) → WayShort (route_of_device files list device)
   device-short None = tt
   device-short (Some (Drive drive)) = drive-short drive (volume_at files drive)
   device-short (Some (Term terminal)) = none-short (has_slash_behind_device list)
   device-short (Some Pipe) = none-short (has_slash_behind_device list)
 
-  by-short : (device : Option (List ℕ)) → WayShort (way_by asker files terms execute list device)
+  by-short : (device : Option (List ℕ)) → WayShort (route_by asker files terms execute list device)
   by-short None = from-short (directory_of files asker.caller.process.0 execute)
   by-short (Some device) = device-short (device_of (length files.drives) terms device)
 
-  pub way-short : WayShort (way_to_new asker files terms execute list)
+  pub way-short : WayShort (route_to_new asker files terms execute list)
   way-short = by_root (ends_in_dots list || is_root files terms list)
     where
-      by_root : (root : Bool) → WayShort (if root then nowhere E_BPNAM else way_of asker files terms execute list)
+      by_root : (root : Bool) → WayShort (if root then nowhere E_BPNAM else route_of asker files terms execute list)
       by_root true = tt
       by_root false = by-short list.device

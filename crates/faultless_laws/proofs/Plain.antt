@@ -25,18 +25,18 @@ use Rattle.io_rules.specs.Write.{error_line, f_perr as tells_device, i_write as 
 use Rattle.io_rules.specs.declared.modes.TheConstants.{STANDARD_ERROR}
 use Rattle.file_rules.specs.Attempts.{file_step}
 use Rattle.file_rules.specs.Change.{Change, creates, deletes, makes_directory, sets_attributes, sizes, writes}
-use Rattle.file_rules.specs.Create.{clusters_for, creates_in, creates_on_way, creates_with_path, has_room_for, opens_new}
+use Rattle.file_rules.specs.Create.{clusters_for, creates_in, creates_on_route, creates_with_path, has_room_for, opens_new}
 use Rattle.file_rules.specs.Delete.{deletes_by, deletes_file, deletes_in, deletes_named}
 use Rattle.file_rules.specs.Files.{Asker, Files, OpenFile, open_file, volume_at, with_position, with_records}
-use Rattle.file_rules.specs.Locking.{answer_to, asks_by, is_for_update, request_kept, request_now}
-use Rattle.file_rules.specs.MakDir.{makes_in, makes_on_way, new_directory_size, past_list}
+use Rattle.file_rules.specs.Locking.{answer_to, asks_by, is_for_update, pending_request, request_now}
+use Rattle.file_rules.specs.MakDir.{makes_in, makes_on_route, new_directory_size, past_list}
 use Rattle.file_rules.specs.OnFile.{by_kind, on_file}
 use Rattle.file_rules.specs.Open.{is_for_execution, says_directory, tests_mode}
 use Rattle.file_rules.specs.Seek.{long_of}
 use Rattle.file_rules.specs.Sharing.{is_open}
 use Rattle.file_rules.specs.Status.{after_size, lock_claim, locks_bytes, locks_range, sets_attributes_of, sets_lock, sets_size, sets_ticks, size_claim, sizes_locked}
 use Rattle.file_rules.specs.Step.{Deed, FileStep, VolumeChange, as_io, changes, comes, deed_of, done, drive_of, leaves, leaves_so, needs, reaches, refused, refuses}
-use Rattle.file_rules.specs.Way.{Found, Way, along, before_last, last_of, list_of, nowhere, to_device, walk_ends, walks, way_of, way_to_new}
+use Rattle.file_rules.specs.Route.{Found, Route, along, before_last, last_of, list_of, nowhere, to_device, walk_ends, walks, route_of, route_to_new}
 use Rattle.file_rules.specs.Write.{changes_file, line_moved, sends_bytes, write_claim, writes_bytes, writes_locked}
 use Rattle.file_rules.specs.declared.path_call.PathCall.{PathCall}
 use Rattle.file_rules.specs.declared.path_call.PathCall.TheVariants as Call
@@ -145,21 +145,21 @@ module _ (asker : Asker) (files : Files) where
   mode-plain : (allowed : Bool) (step : FileStep) → P step → P (tests_mode allowed step)
   mode-plain allowed step holds = refuses-by P no (not allowed) E_BMODE step (λ is. holds)
 
-  create-way : (terms : ℕ) (list : PathList) (way : Way) → P (creates_on_way asker files terms list way)
+  create-way : (terms : ℕ) (list : PathList) (route : Route) → P (creates_on_route asker files terms list route)
   create-way terms list (along from names) =
       needs-by P no (last_of names) E_BPNAM (λ name. walks asker files (is_for_execution asker.caller.regs.a) from (before_last names) (creates_in asker files list name))
       (λ name is. walks-plain (is_for_execution asker.caller.regs.a) from (before_last names) (creates_in asker files list name) (λ found there. create-plain list name found))
   create-way terms list to_device = tt
   create-way terms list (nowhere number) = tt
 
-  make-way : (list : PathList) (way : Way) → P (makes_on_way asker files list way)
+  make-way : (list : PathList) (route : Route) → P (makes_on_route asker files list route)
   make-way list (along from names) =
       needs-by P no (last_of names) E_BPNAM (λ name. walks asker files false from (before_last names) (makes_in asker files list name))
       (λ name is. walks-plain false from (before_last names) (makes_in asker files list name) (λ found there. make-plain list name found))
   make-way list to_device = tt
   make-way list (nowhere number) = tt
 
-  delete-way : (execute : Bool) (list : PathList) (way : Way) (last : Option (List ℕ)) → P (deletes_named asker files execute list way last)
+  delete-way : (execute : Bool) (list : PathList) (route : Route) (last : Option (List ℕ)) → P (deletes_named asker files execute list route last)
   delete-way execute list (along from names) None = walks-plain execute from names (λ root. refused E_FNA) (λ root there. tt)
   delete-way execute list (along from names) (Some name) =
       walks-plain execute from (before_last names) (deletes_in asker files execute list name) (λ found there. delete-plain list name found there execute)
@@ -168,8 +168,8 @@ module _ (asker : Asker) (files : Files) where
 
   delete-by : (terms : ℕ) (execute : Bool) (test : FileStep → FileStep) → ((step : FileStep) → P step → P (test step)) → P (deletes_by asker files terms execute test)
   delete-by terms execute test tests =
-      list-by P no (list_of asker) test (λ list. deletes_named asker files execute list (way_of asker files terms execute list) (last_of list.names))
-      tests (λ list. delete-way execute list (way_of asker files terms execute list) (last_of list.names))
+      list-by P no (list_of asker) test (λ list. deletes_named asker files execute list (route_of asker files terms execute list) (last_of list.names))
+      tests (λ list. delete-way execute list (route_of asker files terms execute list) (last_of list.names))
 
   -- ---- numbers of paths
 
@@ -270,12 +270,12 @@ module _ (asker : Asker) (files : Files) where
     pub step-plain : (call : PathCall) → P (file_step call asker files terms)
     step-plain Call.Create =
         list-by P no (list_of asker) (tests_mode (can_write asker.caller.regs.a))
-        (λ list. creates_on_way asker files terms list (way_to_new asker files terms (is_for_execution asker.caller.regs.a) list))
+        (λ list. creates_on_route asker files terms list (route_to_new asker files terms (is_for_execution asker.caller.regs.a) list))
         (mode-plain (can_write asker.caller.regs.a))
-        (λ list. create-way terms list (way_to_new asker files terms (is_for_execution asker.caller.regs.a) list))
+        (λ list. create-way terms list (route_to_new asker files terms (is_for_execution asker.caller.regs.a) list))
     step-plain Call.MakDir =
-        list-by P no (list_of asker) (λ step. step) (λ list. makes_on_way asker files list (way_to_new asker files terms false list)) (λ step holds. holds)
-        (λ list. make-way list (way_to_new asker files terms false list))
+        list-by P no (list_of asker) (λ step. step) (λ list. makes_on_route asker files list (route_to_new asker files terms false list)) (λ step holds. holds)
+        (λ list. make-way list (route_to_new asker files terms false list))
     step-plain Call.Delete = delete-by terms false (λ step. step) (λ step holds. holds)
     step-plain Call.DeletX =
         delete-by terms (is_for_execution asker.caller.regs.a) (tests_mode (is_mode asker.caller.regs.a)) (mode-plain (is_mode asker.caller.regs.a))
@@ -286,8 +286,8 @@ module _ (asker : Asker) (files : Files) where
         (sends_bytes asker files opened I_WRITE) (λ bytes there. send-plain opened I_WRITE bytes))
     step-plain Call.WritLn =
         number-plain asker.caller.regs.a (writes_device_line asker.caller files.io)
-        (λ opened. needs (line_moved asker (request_kept asker files)) E_BPADDR (sends_bytes asker files opened I_WRITLN))
-        (λ opened. needs-by P no (line_moved asker (request_kept asker files)) E_BPADDR (sends_bytes asker files opened I_WRITLN) (λ bytes there. send-plain opened I_WRITLN bytes))
+        (λ opened. needs (line_moved asker (pending_request asker files)) E_BPADDR (sends_bytes asker files opened I_WRITLN))
+        (λ opened. needs-by P no (line_moved asker (pending_request asker files)) E_BPADDR (sends_bytes asker files opened I_WRITLN) (λ bytes there. send-plain opened I_WRITLN bytes))
     step-plain Call.SetStt =
         number-plain asker.caller.regs.a (sets_of_device asker.caller files.io)
         (λ opened. if asker.caller.regs.b == SS_SIZE then sets_size asker files opened

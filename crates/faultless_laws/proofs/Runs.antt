@@ -58,18 +58,18 @@ asks-for code call is =
 abbrev Stays : State → State → Type 0
 Stays s t = NoneFailed s.files.drives t.files.drives
 
-module _ (s : State) (p : ℕ) (well : GoesOnWell s) (chosen : s.chosen ≡ Some p) (lives : IsLiving s.inner.records p) where
+module _ (s : State) (p : ℕ) (well : GoesOnWell s) (chosen : s.chosen ≡ Some p) (lives : IsLiving s.processes.records p) where
   -- an attempt of a call on paths without a fault is an event without one
-  attempted : (code : ℕ) (call : PathCall) → act_of s.inner p ≡ attempts code → path_call_of code ≡ Some call
-      → ((now : TimePacket) → Goes (asker_of s.inner p now) s.files s.terms (file_step call (asker_of s.inner p now) s.files (length s.terms))) → Next Stays s p
+  attempted : (code : ℕ) (call : PathCall) → act_of s.processes p ≡ attempts code → path_call_of code ≡ Some call
+      → ((now : TimePacket) → Goes (asker_of s.processes p now) s.files s.terms (file_step call (asker_of s.processes p now) s.files (length s.terms))) → Next Stays s p
   attempted code call next is goes =
-      by_time (later-packet s.clock.from (seconds_since s.clock s.inner.tick) well.can.running.clock.civil)
+      by_time (later-packet s.clock.from (seconds_since s.clock s.processes.tick) well.can.running.clock.civil)
     where
-      by_time : (now : TimePacket) × IsNow s.clock s.inner.tick now → Next Stays s p
+      by_time : (now : TimePacket) × IsNow s.clock s.processes.tick now → Next Stays s p
       by_time (now, is_now) =
-          let it : Goes (asker_of s.inner p now) s.files s.terms (file_step call (asker_of s.inner p now) s.files (length s.terms)) = goes now in
+          let it : Goes (asker_of s.processes p now) s.files s.terms (file_step call (asker_of s.processes p now) s.files (length s.terms)) = goes now in
           let rest : Rest = record { files = files_after p it.effect; clock = s.clock; terms = it.after } in
-          let result = io_result s.inner p (io_effect it.effect) in
+          let result = io_result s.processes p (io_effect it.effect) in
           let serves : Serves (on_paths call) s now p result rest = (record { effect = it.effect; does = it.does; result_is = refl; state = refl }, refl) in
           let attempt : Attempts code s p result rest = (now, is_now, subst (λ (service : Service). Serves service s now p result rest) (sym (asks-for code call is)) serves) in
           attempt-event s p chosen lives well.can code next Stays result rest attempt it.counts it.stays
@@ -77,15 +77,15 @@ module _ (s : State) (p : ℕ) (well : GoesOnWell s) (chosen : s.chosen ≡ Some
   making : MakesFile s → Next Stays s p
   making it = by_call it.makes
     where
-      next : act_of s.inner p ≡ attempts it.code
+      next : act_of s.processes p ≡ attempts it.code
       next =
-          subst (λ (q : ℕ). act_of s.inner q ≡ attempts it.code) (same_Some it.p p (sym it.chosen ∙ chosen)) it.next
+          subst (λ (q : ℕ). act_of s.processes q ≡ attempts it.code) (same_Some it.p p (sym it.chosen ∙ chosen)) it.next
 
       by_call : (path_call_of it.code ≡ Some Call.Create) ⊎ (path_call_of it.code ≡ Some Call.MakDir) → Next Stays s p
       by_call (inl is) =
-          attempted it.code Call.Create next is (λ now. create-goes (asker_of s.inner p now) s.files s.terms well.can.running.kinds well.can.mounted well.order well.can.running.on)
+          attempted it.code Call.Create next is (λ now. create-goes (asker_of s.processes p now) s.files s.terms well.can.running.kinds well.can.mounted well.order well.can.running.on)
       by_call (inr is) =
-          attempted it.code Call.MakDir next is (λ now. makdir-goes (asker_of s.inner p now) s.files s.terms well.can.running.kinds well.can.mounted well.order)
+          attempted it.code Call.MakDir next is (λ now. makdir-goes (asker_of s.processes p now) s.files s.terms well.can.running.kinds well.can.mounted well.order)
 
   next-well : Next Stays s p
   next-well = by_still (next-event s p chosen lives well.can)
@@ -126,7 +126,7 @@ well-builds = record {
     tick-stays : (s t : State) → Tick s t → Stays s t
     tick-stays s t (desk, arrives, is) = ap (λ (t : State). t.files.drives) is
 
-pub event-faultless : (s : State) (p : ℕ) → GoesOnWell s → s.chosen ≡ Some p → IsLiving s.inner.records p → HasFaultlessEvent s
+pub event-faultless : (s : State) (p : ℕ) → GoesOnWell s → s.chosen ≡ Some p → IsLiving s.processes.records p → HasFaultlessEvent s
 event-faultless s p well chosen lives =
     let it : Next Stays s p = next-well s p well chosen lives in
     record {

@@ -14,7 +14,7 @@ ghost use Rattle.faultless_laws.specs.Faultless.{GoesOnWell, HasFaultlessEvent, 
 /// faults has risen, if each could.
 pub fn some_run_without_faults()
     ensures event { (s : State) (p : ℕ) → GoesOnWell s → s.chosen ≡ Some p
-        → IsLiving s.inner.records p → HasFaultlessEvent s }
+        → IsLiving s.processes.records p → HasFaultlessEvent s }
     ensures slice { (n : ℕ) (s : State) → GoesOnWell s → HasFaultlessSlice n s }
     ensures run { (slices : List ℕ) (s : State) → GoesOnWell s → HasFaultlessRun slices s }
     ensures started { (boot : Boot) (slices : List ℕ) (s : State) → Starts boot s

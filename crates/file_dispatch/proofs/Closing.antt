@@ -5,14 +5,14 @@ use Rattle.os9_base.specs.declared.call.CallEnd.TheVariants.{Done}
 use Rattle.os9_base.specs.declared.registers.Regs.{Regs}
 use Rattle.os9_base.specs.declared.registers.TimePacket.{TimePacket}
 use Rattle.os9_outer.specs.TerminalState.{TerminalState}
-use Rattle.call_rules.specs.Inner.{Inner, regs_at, with_regs_of}
+use Rattle.call_rules.specs.Processes.{Processes, regs_at, with_regs_of}
 use Rattle.io_model.specs.Path.{closed_desc, paths_after_close}
-use Rattle.io_model.specs.declared.kept.Kept.{Kept}
+use Rattle.io_model.specs.declared.pending.PendingCall.{PendingCall}
 use Rattle.io_model.specs.declared.path.Desc.{Desc}
 use Rattle.io_model.specs.declared.path.Target.{Target}
 use Rattle.io_model.specs.declared.path.Target.TheVariants.{File, Folder, Term, Pipe}
 use Rattle.io_rules.specs.Close.{i_close as closes_device, after_close, without_path, without_target}
-use Rattle.io_rules.specs.Io.{Io, OpenPath, kept_at, with_call, with_paths}
+use Rattle.io_rules.specs.Io.{Io, OpenPath, pending_at, with_call, with_paths}
 use Rattle.io_rules.specs.Step.{answers}
 use Rattle.proc_state.specs.Tie.{Represents}
 use Rattle.proc_state.specs.declared.state.ProcState.{ProcState}
@@ -46,16 +46,16 @@ closed-calls io p n = by (closed_desc io.paths p n)
     by (Some desc) = on desc.target
 
 -- nothing is kept if nothing was
-still-none : (io : Io) (p : ℕ) → kept_at io p ≡ None → with_call io p None ≡ io
+still-none : (io : Io) (p : ℕ) → pending_at io p ≡ None → with_call io p None ≡ io
 still-none io p none =
-    ap (λ (kept : Option Kept). with_call io p kept) (sym none)
-    ∙ ap (λ (calls : List (Option Kept)). record io { calls = calls }) (set-get_or io.calls p None)
+    ap (λ (kept : Option PendingCall). with_call io p kept) (sym none)
+    ∙ ap (λ (calls : List (Option PendingCall)). record io { calls = calls }) (set-get_or io.calls p None)
 
-module _ (m : Inner) (was : Files) (now : TimePacket) (p : ℕ) (processes : ProcState) (new : FileState) (views : List DriveView) (terms : List TerminalState) (found : OpenFile) where
+module _ (m : Processes) (was : Files) (now : TimePacket) (p : ℕ) (processes : ProcState) (new : FileState) (views : List DriveView) (terms : List TerminalState) (found : OpenFile) where
   abbrev closed : Files
   closed = files_after_close was p (regs_at m p).a found.opened.path.0
 
-  pub close-ends : open_file was p (regs_at m p).a ≡ Some found → kept_at was.io p ≡ None → StandsFor new views closed
+  pub close-ends : open_file was p (regs_at m p).a ≡ Some found → pending_at was.io p ≡ None → StandsFor new views closed
       → Represents processes (with_regs_of m p (regs_at m p)) → Ends (i_close (asker_of m p now) was) 0 m was now p
       Done processes new views views terms
   close-ends is none stands tied =
@@ -68,24 +68,24 @@ module _ (m : Inner) (was : Files) (now : TimePacket) (p : ℕ) (processes : Pro
         drives = keeps-same (done (regs_at m p) closed) (asker_of m p now) was Done views tt;
       })
     where
-      kept : kept_at closed.io p ≡ None
-      kept = ap (λ (calls : List (Option Kept)). kept_at (record was.io { calls = calls }) p) (closed-calls was.io p (regs_at m p).a) ∙ none
+      kept : pending_at closed.io p ≡ None
+      kept = ap (λ (calls : List (Option PendingCall)). pending_at (record was.io { calls = calls }) p) (closed-calls was.io p (regs_at m p).a) ∙ none
 
       step : i_close (asker_of m p now) was ≡ done (regs_at m p) closed
       step =
           ap (λ (o : Option OpenFile). by_kind o (closes_device (asker_of m p now).caller was.io) (λ opened. done (regs_at m p) (files_after_close was p (regs_at m p).a opened.opened.path.0))) is
 
 -- from what is known of the path in the kernel
-pub close-file-ends : (m : Inner) (was : Files) (now : TimePacket) (p : ℕ) (processes : ProcState)
+pub close-file-ends : (m : Processes) (was : Files) (now : TimePacket) (p : ℕ) (processes : ProcState)
     (state new : FileState) (views : List DriveView) (terms : List TerminalState) (opened : KernelFile) (regs : Regs)
-    → StandsFor state views was → IsFileOf state views was p regs.a opened → regs ≡ regs_at m p → kept_at state.io p ≡
+    → StandsFor state views was → IsFileOf state views was p regs.a opened → regs ≡ regs_at m p → pending_at state.io p ≡
     None → StandsFor new views (files_after_close was p regs.a opened.path.0)
     → Represents processes (with_regs_of m p regs) → Ends (i_close (asker_of m p now) was) 0 m was now p Done
     processes new views views terms
 close-file-ends m was now p processes state new views terms opened regs stands it same none closed tied =
     close-ends m was now p processes new views terms it.found
     (subst (λ (r : Regs). open_file was p r.a ≡ Some it.found) same it.is)
-    (ap (λ (io : Io). kept_at io p) stands.io ∙ none)
+    (ap (λ (io : Io). pending_at io p) stands.io ∙ none)
     (subst (λ (path : OpenPath). StandsFor new views (files_after_close was p (regs_at m p).a path.path.0)) (sym it.path)
     (subst (λ (r : Regs). StandsFor new views (files_after_close was p r.a opened.path.0)) same closed))
     (subst (λ (r : Regs). Represents processes (with_regs_of m p r)) same tied)

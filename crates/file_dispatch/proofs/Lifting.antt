@@ -5,7 +5,7 @@ use Rattle.os9_base.specs.declared.call.CallEnd.TheVariants.{NoMemory}
 use Rattle.os9_base.specs.declared.registers.TimePacket.{TimePacket}
 use Rattle.os9_outer.specs.TerminalState.{TerminalState}
 use Rattle.call_rules.specs.CallResult.{CallResult}
-use Rattle.call_rules.specs.Inner.{Inner}
+use Rattle.call_rules.specs.Processes.{Processes}
 use Rattle.io_rules.specs.Attempts.{Does, IoAttempts, caller_of, io_after, result_of, step_of}
 use Rattle.io_rules.specs.Io.{Io}
 use Rattle.io_rules.specs.Step.{Caller, IoEffect, IoStep, refused, comes, reads, writes}
@@ -54,7 +54,7 @@ never-memory most call now p end terms terms_after old processes state new views
     let it = attempts m sound.files tied sound.stands sound.kinds in
     not-memory m p it.attempts.result end processes it.attempts.comes
 
-pub tries-of : (call : PathCall) (m : Inner) (files : Files) (now : TimePacket) (p : ℕ) (end : CallEnd)
+pub tries-of : (call : PathCall) (m : Processes) (files : Files) (now : TimePacket) (p : ℕ) (end : CallEnd)
     (terms terms_after : List TerminalState) (before after : Standing)
     → AttemptsIn (attempt_calls call (asker_of m p now) files (length terms)) call m files now p end terms terms_after
     before after → Tries call m files now p end terms terms_after before after
@@ -64,7 +64,7 @@ tries-of call m files now p end terms terms_after before after it = record {
 }
 
 -- or for an entry in the history
-pub tries-or : (call : PathCall) (m : Inner) (files : Files) (now : TimePacket) (p : ℕ) (end : CallEnd)
+pub tries-or : (call : PathCall) (m : Processes) (files : Files) (now : TimePacket) (p : ℕ) (end : CallEnd)
     (terms terms_after : List TerminalState) (before after : Standing)
     → AttemptsOrLacks (attempt_calls call (asker_of m p now) files (length terms)) call m files now p end terms
     terms_after before after → Tries call m files now p end terms terms_after before after
@@ -81,7 +81,7 @@ within-tries most call now p end terms terms_after before after attempts m was t
       lacks = λ is. absurd (not-memory m p it.attempts.result end after.processes it.attempts.comes is);
     }
 
-module _ (call : PathCall) (m : Inner) (files : Files) (now : TimePacket) (p : ℕ) (end : CallEnd) (processes : ProcState) where
+module _ (call : PathCall) (m : Processes) (files : Files) (now : TimePacket) (p : ℕ) (end : CallEnd) (processes : ProcState) where
   -- no drive is called where the step is one of terminals and pipes
   pub uncalled-in : (most : ℕ) (step : IoStep) (old : ProcState) (state new : FileState) (views : List DriveView)
       (terms terms_after : List TerminalState) → deed_of (file_step call (asker_of m p now) files (length terms))
@@ -158,7 +158,7 @@ does-quiet (comes effect) caller io terms quiet = (refl, refl)
 does-quiet (reads read) caller io terms quiet = absurd quiet
 does-quiet (writes write) caller io terms quiet = absurd quiet
 
-pub lifts-quiet : (call : PathCall) (m : Inner) (files : Files) (now : TimePacket) (p : ℕ) (end : CallEnd)
+pub lifts-quiet : (call : PathCall) (m : Processes) (files : Files) (now : TimePacket) (p : ℕ) (end : CallEnd)
     (processes : ProcState) (state : FileState) (io : Io) (records : Records) (views : List DriveView)
     (terms : List TerminalState) (step : Io → IoStep) → StandsFor state views files → records ≡ with_waiting
     state.records p None → deed_of (file_step call (asker_of m p now) files (length terms)) files ≡ as_io

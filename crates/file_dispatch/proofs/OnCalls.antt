@@ -4,7 +4,7 @@ use Rattle.os9_base.specs.declared.call.CallEnd.{CallEnd}
 use Rattle.os9_base.specs.declared.registers.TimePacket.{TimePacket}
 use Rattle.os9_outer.specs.TerminalState.{TerminalState}
 use Rattle.io_dispatch.proofs.Quiet.{is-first}
-use Rattle.io_rules.specs.Io.{kept_at}
+use Rattle.io_rules.specs.Io.{pending_at}
 use Rattle.io_rules.specs.declared.io_call.IoCall.TheVariants as Device
 use Rattle.io_state.specs.Sound.{IsIo}
 use Rattle.proc_rules.specs.Records.{record_at}
@@ -24,7 +24,7 @@ use Rattle.file_dispatch.specs.declared.lists.ListCall.{ListCall}
 use Rattle.file_dispatch.specs.declared.lists.ListCall.TheVariants as Listed
 
 -- a call that takes a path list is at its first attempt
-pub list-first : (list : ListCall) (processes : ProcState) (state : FileState) (p terms : ℕ) → IsIo state.io → MayAttempt (list_call list) processes state p terms → kept_at state.io p ≡ None
+pub list-first : (list : ListCall) (processes : ProcState) (state : FileState) (p terms : ℕ) → IsIo state.io → MayAttempt (list_call list) processes state p terms → pending_at state.io p ≡ None
 list-first Listed.Create processes state p terms sound may = is-first Device.Create (record_at processes.table p).regs state.io p refl (λ same. cc) sound may.attempt.again
 list-first Listed.Open processes state p terms sound may = is-first Device.Open (record_at processes.table p).regs state.io p refl (λ same. cc) sound may.attempt.again
 list-first Listed.MakDir processes state p terms sound may = may.attempt

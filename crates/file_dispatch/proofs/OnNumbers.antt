@@ -3,7 +3,7 @@ use Rattle.std.proofs.Common.{◌≡◌, ℕ, List, sym, subst}
 use Rattle.os9_base.specs.declared.call.CallEnd.{CallEnd}
 use Rattle.os9_base.specs.declared.registers.TimePacket.{TimePacket}
 use Rattle.os9_outer.specs.TerminalState.{TerminalState}
-use Rattle.call_rules.specs.Inner.{Inner}
+use Rattle.call_rules.specs.Processes.{Processes}
 use Rattle.io_dispatch.specs.Staying.{MayAttempt as MayAttemptOnDevice}
 use Rattle.proc_state.specs.declared.state.ProcState.{ProcState}
 use Rattle.file_rules.specs.Files.{Files}
@@ -28,7 +28,7 @@ may-use Use.SetStt processes state p terms may = may.attempt
 may-use Use.PErr processes state p terms may = may.attempt
 
 -- what comes of a call is what comes of the one that it is
-pub number-tries : (call other : NumberCall) (m : Inner) (files : Files) (now : TimePacket) (p : ℕ) → call ≡ other
+pub number-tries : (call other : NumberCall) (m : Processes) (files : Files) (now : TimePacket) (p : ℕ) → call ≡ other
     → (end : CallEnd) (terms terms_after : List TerminalState) (before after : Standing) → Tries (number_call other) m
     files now p end terms terms_after before after → Tries (number_call call) m files now p end terms terms_after
     before after

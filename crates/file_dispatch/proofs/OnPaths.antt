@@ -7,10 +7,10 @@ use Rattle.os9_base.specs.declared.errors.TheConstants.{E_BPNUM}
 use Rattle.os9_base.specs.declared.registers.Regs.{Regs}
 use Rattle.os9_base.specs.declared.registers.TimePacket.{TimePacket}
 use Rattle.os9_outer.specs.TerminalState.{TerminalState}
-use Rattle.call_rules.specs.Inner.{Inner, regs_at}
-use Rattle.io_rules.specs.Again.{IsAgain, IsKept, path_number}
+use Rattle.call_rules.specs.Processes.{Processes, regs_at}
+use Rattle.io_rules.specs.Again.{IsAgain, IsPending, path_number}
 use Rattle.io_rules.specs.Attempts.{caller_of}
-use Rattle.io_rules.specs.Io.{Io, OpenPath, kept_at, open_path}
+use Rattle.io_rules.specs.Io.{Io, OpenPath, pending_at, open_path}
 use Rattle.io_rules.specs.Step.{Caller, IoStep, needs, done as io_done}
 use Rattle.io_rules.specs.Codes.{direction_of, direction_of_call, io_call_of}
 use Rattle.io_rules.specs.declared.io_call.IoCall.{IoCall}
@@ -19,7 +19,7 @@ use Rattle.io_model.specs.Path.{desc_of}
 use Rattle.io_model.specs.declared.path.Desc.{Desc}
 use Rattle.io_model.specs.declared.path.SysPath.{SysPath}
 use Rattle.io_model.specs.declared.path.Target.{Target}
-use Rattle.io_model.specs.declared.kept.Kept.{Kept}
+use Rattle.io_model.specs.declared.pending.PendingCall.{PendingCall}
 use Rattle.io_state.specs.Files.{IsOnDisk}
 use Rattle.io_state.specs.Sound.{IsIo, SetsStatus}
 use Rattle.file_state.specs.Opened.{NamesNoFile}
@@ -39,7 +39,7 @@ use Rattle.file_dispatch.specs.declared.path_use.PathUse.TheVariants as Use
 other-wise : (files : Files) (found : Option OpenFile) (otherwise : IoStep) (next : OpenFile → FileStep) → found ≡ None → deed_of (by_kind found otherwise next) files ≡ as_io otherwise
 other-wise files found otherwise next none = ap (λ (o : Option OpenFile). deed_of (by_kind o otherwise next) files) none
 
-module _ (m : Inner) (files : Files) (now : TimePacket) (p drives : ℕ) (terms : List TerminalState) where
+module _ (m : Processes) (files : Files) (now : TimePacket) (p drives : ℕ) (terms : List TerminalState) where
   pub on-device : (call : PathUse) → open_file files p (path_number (device_of call) (regs_at m p)) ≡ None → IsOnDevice (call_of call) (device_of call) m files now p drives terms
   on-device Use.Read none = other-wise files _ _ _ none
   on-device Use.ReadLn none = other-wise files _ _ _ none
@@ -50,18 +50,18 @@ module _ (m : Inner) (files : Files) (now : TimePacket) (p drives : ℕ) (terms 
   on-device Use.PErr none = other-wise files _ _ _ none
 
 -- I$Seek there
-pub seeks-on-device : (m : Inner) (files : Files) (now : TimePacket) (p : ℕ) (terms : List TerminalState)
+pub seeks-on-device : (m : Processes) (files : Files) (now : TimePacket) (p : ℕ) (terms : List TerminalState)
     → open_file files p (regs_at m p).a ≡ None → deed_of (file_step Call.Seek (asker_of m p now) files (length terms))
     files ≡ as_io (seeks_nothing (caller_of m p) files.io)
 seeks-on-device m files now p terms none = other-wise files _ _ _ none
 
 -- I$Close there
-pub closes-on-device : (m : Inner) (files : Files) (now : TimePacket) (p drives : ℕ) (terms : List TerminalState)
+pub closes-on-device : (m : Processes) (files : Files) (now : TimePacket) (p drives : ℕ) (terms : List TerminalState)
     → open_file files p (regs_at m p).a ≡ None → IsOnDevice Call.Close Device.Close m files now p drives terms
 closes-on-device m files now p drives terms none = other-wise files _ _ _ none
 
 -- by the call that it is there
-pub on-device-as : (m : Inner) (files : Files) (now : TimePacket) (p drives : ℕ) (terms : List TerminalState)
+pub on-device-as : (m : Processes) (files : Files) (now : TimePacket) (p drives : ℕ) (terms : List TerminalState)
     (call : PathUse) (device : IoCall) → device ≡ device_of call → open_file files p (path_number (device_of call)
     (regs_at m p)) ≡ None → IsOnDevice (call_of call) device m files now p drives terms
 on-device-as m files now p drives terms call device is none =
@@ -75,16 +75,16 @@ pub seeks-quiet : (caller : Caller) (io : Io) → IsQuiet (seeks_nothing caller 
 seeks-quiet caller io = quiet-seek caller io (open_path io caller.process.0 caller.regs.a)
 
 -- what a test of the pending call says
-pub nothing-kept : (kept : Option Kept) (none : Bool) → is_some kept ≡ not none → none ≡ true → kept ≡ None
+pub nothing-kept : (pending : Option PendingCall) (none : Bool) → is_some pending ≡ not none → none ≡ true → pending ≡ None
 nothing-kept None none is holds = refl
 nothing-kept (Some call) none is holds = absurd (let e : true ≡ false = is ∙ ap not holds in cc)
 
-pub something-kept : (kept : Option Kept) (none : Bool) → is_some kept ≡ not none → none ≡ false → kept ≡ None → ⊥
-something-kept kept none is fails nothing = let e : false ≡ true = sym (ap is_some nothing) ∙ is ∙ ap not fails in cc
+pub something-kept : (pending : Option PendingCall) (none : Bool) → is_some pending ≡ not none → none ≡ false → pending ≡ None → ⊥
+something-kept pending none is fails nothing = let e : false ≡ true = sym (ap is_some nothing) ∙ is ∙ ap not fails in cc
 
 -- a call that sets a status waits on a file alone
-pub no-status : (io : Io) (p : ℕ) (regs : Regs) → IsIo io → IsAgain Device.SetStt regs io p → NamesNoFile io p regs.a → kept_at io p ≡ None
-no-status io p regs sound again none = by (kept_at io p) refl again
+pub no-status : (io : Io) (p : ℕ) (regs : Regs) → IsIo io → IsAgain Device.SetStt regs io p → NamesNoFile io p regs.a → pending_at io p ≡ None
+no-status io p regs sound again none = by (pending_at io p) refl again
   where
     named : (desc : Option Desc) (path : SysPath) (target : Target) → option_map (λ (desc : Desc). desc.target) desc ≡
         Some target → IfSome (option_map {U = OpenPath} (λ (desc : Desc). record { path = path; desc = desc }) desc)
@@ -92,22 +92,22 @@ no-status io p regs sound again none = by (kept_at io p) refl again
     named None path target is none on = none-some target is
     named (Some desc) path target is none on = none (subst IsOnDisk (sym (same_Some desc.target target is)) on)
 
-    waits : (kept : Kept) → IsKept Device.SetStt regs io p kept → IsSome (direction_of kept.code) ⊎ SetsStatus io.paths kept → ⊥
-    waits kept it (inl moves) =
-        let still : option_and_then direction_of_call (io_call_of kept.code) ≡ None = ap (option_and_then direction_of_call) it.code in
+    waits : (pending : PendingCall) → IsPending Device.SetStt regs io p pending → IsSome (direction_of pending.code) ⊎ SetsStatus io.paths pending → ⊥
+    waits pending it (inl moves) =
+        let still : option_and_then direction_of_call (io_call_of pending.code) ≡ None = ap (option_and_then direction_of_call) it.code in
         false≢true (ap is_some (sym still) ∙ moves)
-    waits kept it (inr sets) =
-        named (desc_of io.paths kept.path.0) kept.path sets.target sets.on
+    waits pending it (inr sets) =
+        named (desc_of io.paths pending.path.0) pending.path sets.target sets.on
         (subst (λ (slot : Option SysPath). IfSome (option_and_then (λ (path : SysPath). option_map {U = OpenPath}
         (λ (desc : Desc). record { path = path; desc = desc }) (desc_of io.paths path.0)) slot)
         (λ opened. IsOnDisk opened.desc.target → ⊥)) it.path none) sets.on_disk
 
-    by : (kept : Option Kept) → kept_at io p ≡ kept → IfSome kept (IsKept Device.SetStt regs io p) → kept ≡ None
+    by : (pending : Option PendingCall) → pending_at io p ≡ pending → IfSome pending (IsPending Device.SetStt regs io p) → pending ≡ None
     by None is again = refl
-    by (Some kept) is again = absurd (waits kept again (sound.waits.calls p kept is).moves)
+    by (Some pending) is again = absurd (waits pending again (sound.waits.calls p pending is).moves)
 
 pub status-first : (call : PathUse) (io : Io) (p n : ℕ) (regs : Regs) → call ≡ Use.SetStt → IsIo io
-    → IsAgain (device_of call) regs io p → n ≡ path_number (device_of call) regs → NamesNoFile io p n → kept_at io p ≡
+    → IsAgain (device_of call) regs io p → n ≡ path_number (device_of call) regs → NamesNoFile io p n → pending_at io p ≡
     None
 status-first call io p n regs same sound again number none =
     no-status io p regs sound (subst (λ (call : PathUse). IsAgain (device_of call) regs io p) same again)
@@ -119,7 +119,7 @@ not-false true is = refl
 not-false false is = sym is
 
 -- the number that a call takes is that of its process on the machine
-pub none-named : (files : Files) (p : ℕ) (call : IoCall) (m : Inner) (regs : Regs) (n : ℕ) → n ≡ path_number call regs
+pub none-named : (files : Files) (p : ℕ) (call : IoCall) (m : Processes) (regs : Regs) (n : ℕ) → n ≡ path_number call regs
     → regs ≡ regs_at m p → open_file files p n ≡ None → open_file files p (path_number call (regs_at m p)) ≡ None
 none-named files p call m regs n number same none =
     subst (λ (k : ℕ). open_file files p k ≡ None) (number ∙ ap (path_number call) same) none

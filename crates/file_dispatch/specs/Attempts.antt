@@ -5,9 +5,9 @@ use Rattle.os9_base.specs.declared.call.CallEnd.{CallEnd}
 use Rattle.os9_base.specs.declared.call.CallEnd.TheVariants.{NoMemory}
 use Rattle.os9_base.specs.declared.registers.TimePacket.{TimePacket}
 use Rattle.os9_outer.specs.TerminalState.{TerminalState}
-use Rattle.call_rules.specs.Inner.{Inner}
+use Rattle.call_rules.specs.Processes.{Processes}
 use Rattle.io_rules.specs.Attempts.{step_of}
-use Rattle.io_rules.specs.Io.{Io, kept_at}
+use Rattle.io_rules.specs.Io.{Io, pending_at}
 use Rattle.io_rules.specs.declared.io_call.IoCall.{IoCall}
 use Rattle.io_dispatch.specs.Staying.{MayAttempt as MayAttemptOnDevice}
 use Rattle.proc_state.specs.Tie.{Represents}
@@ -30,7 +30,7 @@ use Rattle.file_dispatch.specs.Dates.{IsTimeFor}
 -- ---- terminals and pipes
 
 -- the call of a process does what this device call does, on a machine with this number of drives and these terminals
-abbrev pub IsOnDevice : PathCall → IoCall → Inner → Files → TimePacket → ℕ → ℕ → List TerminalState → Type 0
+abbrev pub IsOnDevice : PathCall → IoCall → Processes → Files → TimePacket → ℕ → ℕ → List TerminalState → Type 0
 IsOnDevice call device m files now p drives terms =
     deed_of (file_step call (asker_of m p now) files (length terms)) files
     ≡ as_io (step_of device m p files.io drives terms)
@@ -39,7 +39,7 @@ IsOnDevice call device m files now p drives terms =
 
 -- a process may attempt the call, on a machine with this number of terminals: its pending call, if any, is this one
 abbrev pub MayAttemptAs : Option IoCall → ProcState → Io → ℕ → ℕ → Type 0
-MayAttemptAs None processes io p terms = kept_at io p ≡ None
+MayAttemptAs None processes io p terms = pending_at io p ≡ None
 MayAttemptAs (Some device) processes io p terms = MayAttemptOnDevice device processes io p terms
 
 -- and if it waits in a request, that is one of its call
@@ -49,14 +49,14 @@ pub record MayAttempt (call : PathCall) (processes : ProcState) (state : FileSta
 
 -- memory was wanting for a byte that an attempt puts on a terminal: these are the terminals then, and no drive was
 -- called
-pub record LacksByte (call : PathCall) (m : Inner) (files : Files) (now : TimePacket) (p : ℕ)
+pub record LacksByte (call : PathCall) (m : Processes) (files : Files) (now : TimePacket) (p : ℕ)
     (terms terms_after : List TerminalState) (before after : Standing) : Type 0 where
   pub lacks : LacksMemory call m files now p terms terms_after
   pub views : after.views ≡ before.views
 
 -- a process tries a call, at a time: its attempt ends with this end, and leaves these terminals and this state of the
 -- kernel; or memory is lacking
-pub record Tries (call : PathCall) (m : Inner) (files : Files) (now : TimePacket) (p : ℕ) (end : CallEnd)
+pub record Tries (call : PathCall) (m : Processes) (files : Files) (now : TimePacket) (p : ℕ) (end : CallEnd)
     (terms terms_after : List TerminalState) (before after : Standing) : Type 0 where
   pub attempted : end ≢ NoMemory
       → AttemptsIn (attempt_calls call (asker_of m p now) files (length terms)) call m files now p end terms terms_after
@@ -89,6 +89,6 @@ TriesFileAt call now p end before after =
 abbrev pub TriesOnDevice : IoCall → ℕ → ℕ → CallEnd → List TerminalState → List TerminalState → Standing → Standing
     → Type 0
 TriesOnDevice device p drives end terms terms_after before after =
-    (call : PathCall) (m : Inner) (was : Files) (now : TimePacket) → Represents before.processes m
+    (call : PathCall) (m : Processes) (was : Files) (now : TimePacket) → Represents before.processes m
     → StandsFor before.files before.views was → IsOnDevice call device m was now p drives terms
     → Tries call m was now p end terms terms_after before after

@@ -4,7 +4,7 @@ ghost use Rattle.std.specs.Prelude.{◌≡◌, vec_len};
 ghost use Rattle.device_table.specs.Seen.{terminals_seen};
 ghost use Rattle.file_dispatch.specs.Attempts.{MayAttempt, TriesAt};
 ghost use Rattle.file_dispatch.specs.Calls.{kind_call};
-ghost use Rattle.file_dispatch.specs.Dates.{sets_date as sets_date_lem};
+ghost use Rattle.file_dispatch.specs.Dates as model;
 ghost use Rattle.file_state.specs.Attempt.{standing};
 ghost use Rattle.file_state.specs.Tie.{IsSound};
 ghost use Rattle.proc_rules.specs.Records.{IsLiving};
@@ -57,7 +57,7 @@ fn kind_of(call: PathCall) -> CallKind
 
 /// Whether the call may set the date of a file.
 pub fn sets_date(call: PathCall) -> bool
-    ensures { result ≡ sets_date_lem call }
+    ensures { result ≡ model.sets_date call }
 {
     match call {
         PathCall::Create
@@ -110,7 +110,7 @@ pub fn attempt(
         CallKind::Number(number) => attempt_on_number(s, files, p, number, now, devices),
         CallKind::List(list) => {
             // A call that takes a path list is never pending.
-            prove!(files.io.kept(p).is_none());
+            prove!(files.io.pending(p).is_none());
             attempt_on_list(s, files, p, list, now, devices)
         }
     }

@@ -5,7 +5,7 @@ ghost use Rattle.device_table.specs.Seen.{terminals_seen};
 ghost use Rattle.file_dispatch.specs.Attempts.{TriesOnDevice};
 ghost use Rattle.file_state.specs.Attempt.{standing};
 ghost use Rattle.io_dispatch.specs.Staying.{MayAttempt};
-ghost use Rattle.io_rules.specs.Io.{kept_at};
+ghost use Rattle.io_rules.specs.Io.{pending_at};
 ghost use Rattle.proc_rules.specs.Records.{IsLiving};
 
 use device_table::devices::Devices;
@@ -36,7 +36,7 @@ pub fn attempt_on_device(
 ) -> CallEnd
     requires lives { IsLiving s.old.table p.0 }
     requires may { MayAttempt device s.old files.old.io p.0 (vec_len devices.old.terms) }
-    requires status { device ≡ IoCall.SetStt → kept_at files.old.io p.0 ≡ None }
+    requires status { device ≡ IoCall.SetStt → pending_at files.old.io p.0 ≡ None }
     ensures call { TriesOnDevice device p.0 (vec_len devices.old.drives) result
         (terminals_seen CharDriver-box devices.old) (terminals_seen CharDriver-box devices.new)
         (standing BlockDriver-box s.old files.old devices.old)

@@ -7,7 +7,7 @@ ghost use Rattle.file_dispatch.specs.Dates.{IsTimeFor};
 ghost use Rattle.file_state.specs.Attempt.{standing};
 ghost use Rattle.file_state.specs.Counted.{AttemptsWithin};
 ghost use Rattle.file_state.specs.Tie.{IsSound};
-ghost use Rattle.io_rules.specs.Io.{kept_at};
+ghost use Rattle.io_rules.specs.Io.{pending_at};
 ghost use Rattle.os9_base.specs.declared.registers.TimePacket.{TimePacket};
 ghost use Rattle.os9_outer.specs.TerminalState.{TerminalState};
 ghost use Rattle.proc_rules.specs.Records.{IsLiving};
@@ -58,7 +58,7 @@ pub fn attempt_on_list(
     devices: &mut Devices,
 ) -> CallEnd
     requires lives { IsLiving s.old.table p.0 }
-    requires first { kept_at files.old.io p.0 ≡ None }
+    requires first { pending_at files.old.io p.0 ≡ None }
     requires sound { IsSound files.old (drives_seen BlockDriver-box devices.old) }
     ensures call { (time : TimePacket) (terms : List TerminalState)
         → IsTimeFor (list_call call) now time → length terms ≡ vec_len devices.old.terms

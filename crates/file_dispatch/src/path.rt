@@ -14,7 +14,7 @@ ghost use Rattle.file_state.specs.Lacks.{TriesWithin};
 ghost use Rattle.file_state.specs.Tie.{IsSound};
 ghost use Rattle.io_dispatch.specs.Staying.{MayAttempt};
 ghost use Rattle.io_rules.specs.Again.{path_number};
-ghost use Rattle.io_rules.specs.Io.{kept_at};
+ghost use Rattle.io_rules.specs.Io.{pending_at};
 ghost use Rattle.os9_base.specs.declared.registers.TimePacket.{TimePacket};
 ghost use Rattle.os9_outer.specs.TerminalState.{TerminalState};
 ghost use Rattle.device_table.specs.Seen.{terminals_seen};
@@ -69,7 +69,7 @@ pub fn use_path(
         Some(opened) => use_file(s, files, p, call, &opened, now, devices),
         None => {
             // SS.Size and SS.Lock wait on files alone.
-            prove!(files.io.kept(p).is_none() || call != PathUse::SetStt);
+            prove!(files.io.pending(p).is_none() || call != PathUse::SetStt);
             attempt_on_device(s, files, p, call.on_device(), devices)
         }
     }
@@ -103,7 +103,7 @@ fn use_file(
         PathUse::WritLn => write_line(s, files, devices, p, opened, now),
         PathUse::GetStt => {
             // A call that asks for a status is at its first attempt.
-            prove!(files.io.kept(p).is_none());
+            prove!(files.io.pending(p).is_none());
             get_status(s, files, devices, p, opened)
         }
         PathUse::SetStt => set_status(s, files, devices, p, opened, now),
@@ -120,7 +120,7 @@ fn use_file(
 /// E$BPNum exactly if A names no path.
 pub fn seek_path(s: &mut ProcState, files: &mut FileState, p: Pid) -> CallEnd
     requires lives { IsLiving s.old.table p.0 }
-    requires first { kept_at files.old.io p.0 ≡ None }
+    requires first { pending_at files.old.io p.0 ≡ None }
     ensures call { (now : TimePacket) (views : List DriveView) (terms : List TerminalState)
         → AttemptsWithin (attempt_calls Call.Seek) Call.Seek now p.0 result terms terms
         (record { processes = s.old; files = files.old; views = views })
@@ -159,7 +159,7 @@ pub fn close_path(
     ensures count { vec_len devices.new.terms ≡ vec_len devices.old.terms }
 {
     // A call that closes a path is at its first attempt.
-    prove!(files.io.kept(p).is_none());
+    prove!(files.io.pending(p).is_none());
     let regs = s.table.regs(p);
     match files.open_file(p, regs.a) {
         Some(opened) => {

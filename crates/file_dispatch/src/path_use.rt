@@ -1,7 +1,7 @@
 //! The calls that use an open path.
 
 ghost use Rattle.std.specs.Prelude.{◌≡◌};
-ghost use Rattle.io_rules.specs.Again.{path_number as path_number_lem};
+ghost use Rattle.io_rules.specs.Again as model;
 ghost use Rattle.file_dispatch.specs.Uses.{device_of};
 
 use io_rules::io_call::IoCall;
@@ -47,7 +47,7 @@ impl PathUse {
     /// The number of the path that it uses, by the registers of its process: that of standard error
     /// for F$PErr, else the one in A.
     pub fn path_number(self, regs: Regs) -> u8
-        ensures { result ≡ path_number_lem (device_of self) regs }
+        ensures { result ≡ model.path_number (device_of self) regs }
     {
         match self {
             PathUse::PErr => STANDARD_ERROR,

@@ -12,7 +12,7 @@ use Rattle.rbf_change.proofs.LawfulWrites.{shape-image}
 use Rattle.rbf_change.specs.Agrees.{Agrees}
 use Rattle.rbf_access.specs.Mounted.{Represents, kept}
 use Rattle.rbf_access.specs.declared.volume.Volume.{Volume}
-use Rattle.file_rules.specs.Way.{root_of}
+use Rattle.file_rules.specs.Route.{root_of}
 use Rattle.lock_model.specs.declared.place.FilePlace.{FilePlace}
 use Rattle.file_drives.proofs.MountedLemmas.{mounted-below}
 use Rattle.file_drives.specs.Drives.{DriveView}

@@ -12,7 +12,7 @@ ghost use Rattle.rbf_create.specs.Entering.{entering_calls, widened};
 ghost use Rattle.rbf_delete.specs.Attributes.{attribute_calls};
 ghost use Rattle.rbf_delete.specs.Deletions.{deletion_calls, descriptor_found};
 ghost use Rattle.file_rules.specs.Change.{writes, sizes, sets_attributes, creates, makes_directory};
-ghost use Rattle.file_rules.specs.Way.{root_of};
+ghost use Rattle.file_rules.specs.Route.{root_of};
 ghost use Rattle.file_drives.specs.Calls.{deleting_calls, making_calls, sizing_calls, writing_calls};
 ghost use Rattle.file_drives.specs.Changed.{Asked, ChangesVolume, asking, file_answer, numbered};
 ghost use Rattle.file_drives.specs.Drives.{DriveView, drives_seen, ChangesOneDrive};

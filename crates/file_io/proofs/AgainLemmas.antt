@@ -1,15 +1,15 @@
 -- A call that is attempted again on a file is no read of a terminal.
 use Rattle.std.proofs.Common.{◌≡◌, ℕ, Option, Some, None, IfSome, List, subst}
 use Rattle.os9_base.specs.declared.registers.Regs.{Regs}
-use Rattle.io_model.specs.declared.kept.Kept.{Kept}
-use Rattle.io_rules.specs.Again.{IsAgain, IsKept, KeepsCount, path_number}
+use Rattle.io_model.specs.declared.pending.PendingCall.{PendingCall}
+use Rattle.io_rules.specs.Again.{IsAgain, IsPending, KeepsCount, path_number}
 use Rattle.io_rules.specs.Io.{Io}
 use Rattle.io_rules.specs.declared.io_call.IoCall.{IoCall}
 use Rattle.lock_model.specs.Locks.{request_of}
 use Rattle.lock_model.specs.declared.lock.Request.{Request}
 use Rattle.file_state.proofs.AskingLemmas.{may-ask as may-ask-on, no-read-again}
 use Rattle.file_drives.specs.Drives.{DriveView}
-use Rattle.file_state.specs.Asking.{IsKeptRequest, KeepsRequest, MayAsk, TriesAgain}
+use Rattle.file_state.specs.Asking.{IsPendingRequest, KeepsRequest, MayAsk, TriesAgain}
 use Rattle.file_state.specs.Tie.{IsSound}
 use Rattle.file_state.specs.declared.state.FileState.{FileState}
 use Rattle.file_state.specs.declared.state.OpenFile.{OpenFile}
@@ -33,6 +33,6 @@ may-ask state views p n opened sound is kept =
 pub kept-request : (call : IoCall) (regs : Regs) (state : FileState) (p : ℕ) → TriesAgain call regs state p → IfSome (request_of state.records.locks p) (λ request. KeepsCount call regs request.count)
 kept-request call regs state p again = by (request_of state.records.locks p) again.kept
   where
-    by : (kept : Option Request) → IfSome kept (IsKeptRequest state.io p) → IfSome kept (λ request. KeepsCount call regs request.count)
+    by : (kept : Option Request) → IfSome kept (IsPendingRequest state.io p) → IfSome kept (λ request. KeepsCount call regs request.count)
     by None kept = tt
-    by (Some request) kept = (subst (λ (o : Option Kept). IfSome o (IsKept call regs state.io p)) kept.kept again.again).count
+    by (Some request) kept = (subst (λ (o : Option PendingCall). IfSome o (IsPending call regs state.io p)) kept.kept again.again).count

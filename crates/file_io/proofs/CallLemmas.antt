@@ -2,7 +2,7 @@
 use Rattle.std.proofs.Common.{◌≡◌, ◌≢◌, ◌<◌, ◌∙◌, ℕ, not, Option, Some, None, is_none, List, ap, refl, subst, arith}
 use Rattle.os9_base.specs.declared.calls.TheConstants.{F_PERR, I_WRITE, I_WRITLN}
 use Rattle.os9_base.specs.declared.errors.TheConstants.{E_BMODE, E_BPADDR}
-use Rattle.call_rules.specs.Inner.{Inner, regs_at}
+use Rattle.call_rules.specs.Processes.{Processes, regs_at}
 use Rattle.call_rules.specs.UserBytes.{user_bytes}
 use Rattle.io_model.specs.declared.terminal.ReadKind.TheVariants.{Bytes, WholeLine}
 use Rattle.io_rules.specs.Io.{Io, open_path}
@@ -13,14 +13,14 @@ use Rattle.io_rules.specs.declared.modes.TheConstants.{STANDARD_ERROR}
 use Rattle.os9_base.specs.declared.registers.Regs.{Regs}
 use Rattle.proc_rules.specs.Records.{record_at}
 use Rattle.proc_state.proofs.Entered.{represented}
-use Rattle.proc_state.specs.Tie.{Represents, inner_of}
+use Rattle.proc_state.specs.Tie.{Represents, processes_of}
 use Rattle.proc_state.specs.declared.state.ProcState.{ProcState}
 use Rattle.rbf_model.specs.File.{DiskFile}
 use Rattle.rbf_model.specs.Volume.{DiskVolume}
 use Rattle.file_drives.specs.Drives.{DriveView}
 use Rattle.file_laws.specs.Kinds.{AreKinds}
 use Rattle.file_rules.specs.Files.{Asker, Files, OpenFile, open_file, volume_at, with_position}
-use Rattle.file_rules.specs.Locking.{request_kept}
+use Rattle.file_rules.specs.Locking.{pending_request}
 use Rattle.file_rules.specs.OnFile.{by_kind, moves_bytes}
 use Rattle.file_rules.specs.Read.{i_read, i_readln, reads_file}
 use Rattle.file_rules.specs.Seek.{i_seek, long_of, seeks_nothing}
@@ -62,7 +62,7 @@ module _ (state : FileState) (views : List DriveView) (files : Files) (p : ℕ) 
       }
 
   -- where the number is in A
-  pub known-a : (s : ProcState) (m : Inner) → Represents s m → IsOpened state p (record_at s.table p).regs.a opened → IsKnown files p (regs_at m p).a opened
+  pub known-a : (s : ProcState) (m : Processes) → Represents s m → IsOpened state p (record_at s.table p).regs.a opened → IsKnown files p (regs_at m p).a opened
   known-a s m tied is = known (regs_at m p).a (subst (λ (r : Regs). IsOpened state p r.a opened) (regs-tied s m p tied) is)
 
 -- ---- registers
@@ -75,8 +75,8 @@ pub with-own-y : (regs own : Regs) → regs ≡ own → regs ≡ record own { y 
 with-own-y regs own same = subst (λ (r : Regs). regs ≡ record r { y = regs.y }) same refl
 
 -- processes are those of some machine
-pub some-machine : (s : ProcState) → (m : Inner) × Represents s m
-some-machine s = (inner_of s _, record { memory = represented s.memory; is = refl })
+pub some-machine : (s : ProcState) → (m : Processes) × Represents s m
+some-machine s = (processes_of s _, record { memory = represented s.memory; is = refl })
 
 -- ---- the steps of the calls
 
@@ -103,10 +103,10 @@ module _ (asker : Asker) (files : Files) (found : OpenFile) where
       (λ opened. needs (user_bytes asker.caller.cells asker.caller.regs.x asker.caller.regs.y) E_BPADDR (sends_bytes asker files opened I_WRITE))) is
 
   pub write_line-step : open_file files asker.caller.process.0 asker.caller.regs.a ≡ Some found → i_writln asker files
-      ≡ needs (line_moved asker (request_kept asker files)) E_BPADDR (sends_bytes asker files found I_WRITLN)
+      ≡ needs (line_moved asker (pending_request asker files)) E_BPADDR (sends_bytes asker files found I_WRITLN)
   write_line-step is =
       ap (λ (o : Option OpenFile). by_kind o (writes_device_line asker.caller files.io)
-      (λ opened. needs (line_moved asker (request_kept asker files)) E_BPADDR (sends_bytes asker files opened I_WRITLN))) is
+      (λ opened. needs (line_moved asker (pending_request asker files)) E_BPADDR (sends_bytes asker files opened I_WRITLN))) is
 
   pub error-step : open_file files asker.caller.process.0 STANDARD_ERROR ≡ Some found → f_perr asker files ≡ refuses
       (not (can_write found.opened.desc.mode)) E_BMODE (write_file F_PERR (error_line asker.caller.regs.b)
@@ -118,7 +118,7 @@ module _ (asker : Asker) (files : Files) (found : OpenFile) where
       (writes_bytes asker files opened F_PERR (error_line asker.caller.regs.b) asker.caller.regs))) is
 
   -- a line, by the request in which the process waits
-  pub line-moved : (request : Option Request) → request_kept asker files ≡ request → line_moved asker (request_kept asker files) ≡ line_of request asker.caller.cells asker.caller.regs
+  pub line-moved : (request : Option Request) → pending_request asker files ≡ request → line_moved asker (pending_request asker files) ≡ line_of request asker.caller.cells asker.caller.regs
   line-moved request is = ap (line_moved asker) is ∙ same request
     where
       same : (request : Option Request) → line_moved asker request ≡ line_of request asker.caller.cells asker.caller.regs

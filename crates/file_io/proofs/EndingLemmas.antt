@@ -3,7 +3,7 @@ use Rattle.std.proofs.Common.{◌≡◌, ℕ, ◌+◌, false, Option, Some, None
 use Rattle.std.proofs.lemmas.Bool.{false≢true}
 use Rattle.os9_base.specs.declared.call.CallEnd.{CallEnd}
 use Rattle.os9_base.specs.declared.registers.Regs.{Regs}
-use Rattle.call_rules.specs.Inner.{Inner}
+use Rattle.call_rules.specs.Processes.{Processes}
 use Rattle.io_model.specs.Path.{desc_of, with_desc}
 use Rattle.io_model.specs.declared.path.Desc.{Desc}
 use Rattle.io_rules.specs.Io.{Io, with_call, with_paths}
@@ -27,7 +27,7 @@ module _ (io between : Io) (p : ℕ) (opened : OpenFile) (same : between ≡ wit
       subst (λ (o : Option Desc). IfSome o (λ desc. new ≡ with_paths (with_call io p None) (with_desc io.paths opened.path.0 (Some (record desc { at = at }))))) path.desc here
 
 -- a process is given these bytes, which are so many
-module _ (bytes given : List ℕ) (n : ℕ) (regs : Regs) (opened : OpenFile) (m : Inner) (p : ℕ) (io : Io) (end : CallEnd) (processes : ProcState) (new : Io) where
+module _ (bytes given : List ℕ) (n : ℕ) (regs : Regs) (opened : OpenFile) (m : Processes) (p : ℕ) (io : Io) (end : CallEnd) (processes : ProcState) (new : Io) where
   abbrev Gives : List ℕ → ℕ → Type 0
   Gives b k = IsDone (with_bytes m p regs.x b) p (record regs { y = k }) (moved_to io opened (opened.desc.at + k)) end processes new
 
@@ -35,7 +35,7 @@ module _ (bytes given : List ℕ) (n : ℕ) (regs : Regs) (opened : OpenFile) (m
   gives-of same long it = subst (λ (b : List ℕ). Gives b (length given)) same (subst (λ (k : ℕ). Gives bytes k) (sym long) it)
 
 -- the same from a place on, with these registers
-pub done-as : (bytes given : List ℕ) (n start : ℕ) (regs other : Regs) (opened : OpenFile) (m : Inner) (p : ℕ) (io : Io)
+pub done-as : (bytes given : List ℕ) (n start : ℕ) (regs other : Regs) (opened : OpenFile) (m : Processes) (p : ℕ) (io : Io)
     (end : CallEnd) (processes : ProcState) (new : Io) → bytes ≡ given → length given ≡ n → regs ≡ other
     → IsDone (with_bytes m p regs.x bytes) p (record regs { y = n }) (moved_to io opened (start + n)) end processes new
     → IsDone (with_bytes m p other.x given) p (record other { y = length given })

@@ -9,7 +9,7 @@ use Rattle.os9_base.specs.declared.errors.TheConstants.{E_EOF}
 use Rattle.os9_base.specs.declared.registers.Regs.{Regs}
 use Rattle.os9_base.specs.declared.registers.TimePacket.{TimePacket}
 use Rattle.os9_outer.specs.TerminalState.{TerminalState}
-use Rattle.call_rules.specs.Inner.{Inner, regs_at}
+use Rattle.call_rules.specs.Processes.{Processes, regs_at}
 use Rattle.io_model.specs.declared.terminal.ReadKind.{ReadKind}
 use Rattle.io_rules.specs.Io.{Io, with_call}
 use Rattle.proc_state.specs.declared.state.ProcState.{ProcState}
@@ -130,7 +130,7 @@ module _ (kind : ReadKind) (asker : Asker) (files : Files) (found : rules.OpenFi
 
 -- ---- a read without a lock
 
-module _ (kind : ReadKind) (m : Inner) (files : Files) (v : DiskVolume) (file : DiskFile) (now : TimePacket) (p : ℕ)
+module _ (kind : ReadKind) (m : Processes) (files : Files) (v : DiskVolume) (file : DiskFile) (now : TimePacket) (p : ℕ)
     (opened : OpenFile) (end : CallEnd) (processes : ProcState) (mid : FileState) (new : Io)
     (before after : List DriveView) (terms : List TerminalState) (most : ℕ) (called : CalledAtMost most before after)
     (is : volume_at files opened.place.drive ≡ Some v) (some : (regs_at m p).y ≢ 0) where
@@ -238,7 +238,7 @@ module _ (kind : ReadKind) (m : Inner) (files : Files) (v : DiskVolume) (file : 
 
 -- ---- a read under a lock that was granted
 
-module _ (kind : ReadKind) (lock : Held) (m : Inner) (files : Files) (v : DiskVolume) (file : DiskFile)
+module _ (kind : ReadKind) (lock : Held) (m : Processes) (files : Files) (v : DiskVolume) (file : DiskFile)
     (now : TimePacket) (p : ℕ) (opened : OpenFile) (end : CallEnd) (processes : ProcState) (mid new : FileState)
     (before after : List DriveView) (terms : List TerminalState) (most : ℕ) (called : CalledAtMost most before after)
     (is : volume_at files opened.place.drive ≡ Some v) (quiet : mid.records ≡ with_waiting files.records p None) where

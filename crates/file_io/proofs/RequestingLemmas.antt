@@ -9,7 +9,7 @@ use Rattle.os9_base.specs.declared.call.CallEnd.{CallEnd}
 use Rattle.os9_base.specs.declared.errors.TheConstants.{E_EOF}
 use Rattle.os9_base.specs.declared.registers.TimePacket.{TimePacket}
 use Rattle.os9_outer.specs.TerminalState.{TerminalState}
-use Rattle.call_rules.specs.Inner.{Inner, regs_at}
+use Rattle.call_rules.specs.Processes.{Processes, regs_at}
 use Rattle.io_model.specs.declared.terminal.ReadKind.{ReadKind}
 use Rattle.io_rules.specs.Io.{with_call}
 use Rattle.lock_model.specs.Records.{with_waiting}
@@ -25,7 +25,7 @@ use Rattle.file_drives.specs.Drives.{DriveView, drive_states}
 use Rattle.file_rules.specs.Attempts.{asker_of}
 use Rattle.file_rules.specs.Files.{Asker, Files, volume_at}
 use Rattle.file_rules.specs.Files as rules
-use Rattle.file_rules.specs.Locking.{answer_to, asks_by, end_by, first_request, is_for_update, range_of, request_kept, request_now}
+use Rattle.file_rules.specs.Locking.{answer_to, asks_by, end_by, first_request, is_for_update, range_of, pending_request, request_now}
 use Rattle.file_rules.specs.Read.{bytes_at, read_claim, read_code}
 use Rattle.file_rules.specs.Step.{FileEffect, FileStep, MayBeLeft, comes, deed_of, leaves_so, reaches, refuses}
 use Rattle.file_state.proofs.RequestLemmas.{asks-ends, lacks-none, reached-fails, reached-refused, reached-then, same-request, start-same}
@@ -42,7 +42,7 @@ use Rattle.file_io.specs.Opened.{found_on}
 use Rattle.file_io.specs.Reading.{holds_bytes, read_file, read_granted}
 
 -- the request of a read is the one that the kernel makes
-pub read-request : (kind : ReadKind) (m : Inner) (was : Files) (now : TimePacket) (p : Pid) (opened : OpenFile)
+pub read-request : (kind : ReadKind) (m : Processes) (was : Files) (now : TimePacket) (p : Pid) (opened : OpenFile)
     (v : DiskVolume) (file : DiskFile) (code size at start count many : ℕ) (range : Range) (locks : Locks) (tick : ℕ)
     (request : Request) → code ≡ read_code kind → (regs_at m p.0).y ≡ count → was.records.locks ≡ locks → m.tick ≡
     tick → size ≡ length file.contents → start ≡ at → many ≡ count → range ≡ range_of size at many → request ≡
@@ -63,7 +63,7 @@ read-request kind m was now p opened v file code size at start count many range 
     ∙ ap (λ (n : ℕ). let it : Claim = record { code = n; count = count; range = range } in it) (sym code_is) in
     same-request m was now p found opened locks tick refl refl locks_are tick_is (read_claim kind (asker_of m p.0 now) found start) claim same ∙ sym is
 
-module _ (kind : ReadKind) (m : Inner) (was : Files) (v : DiskVolume) (file : DiskFile) (now : TimePacket) (p : ℕ)
+module _ (kind : ReadKind) (m : Processes) (was : Files) (v : DiskVolume) (file : DiskFile) (now : TimePacket) (p : ℕ)
     (opened : OpenFile) (update : is_for_update opened.desc.mode ≡ true) (is : volume_at was opened.place.drive ≡ Some
     v) (before views : List DriveView) (terms : List TerminalState) (mid : FileState) (called : CalledAtMost 1 before
     views) (drives_are : was.drives ≡ drive_states before) where
@@ -105,7 +105,7 @@ module _ (kind : ReadKind) (m : Inner) (was : Files) (v : DiskVolume) (file : Di
 
   start-is : start ≡ request.lock.range.start
   start-is =
-      start-same (request_kept asker was) (first_request asker found (read_claim kind asker found start)) opened.desc.at refl
+      start-same (pending_request asker was) (first_request asker found (read_claim kind asker found start)) opened.desc.at refl
 
   few : reading_attempt_calls asker was found ≡ 1 + granted_read_calls request.lock asker was found
   few =

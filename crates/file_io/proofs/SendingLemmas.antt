@@ -10,7 +10,7 @@ use Rattle.os9_base.specs.declared.errors.TheConstants.{E_FULL}
 use Rattle.os9_base.specs.declared.registers.Regs.{Regs}
 use Rattle.os9_base.specs.declared.registers.TimePacket.{TimePacket}
 use Rattle.os9_outer.specs.TerminalState.{TerminalState}
-use Rattle.call_rules.specs.Inner.{Inner}
+use Rattle.call_rules.specs.Processes.{Processes}
 use Rattle.io_rules.specs.Io.{with_call}
 use Rattle.io_rules.specs.Step.{answers}
 use Rattle.lock_model.specs.Records.{with_waiting}
@@ -30,7 +30,7 @@ use Rattle.file_rules.specs.Attempts.{asker_of}
 use Rattle.file_rules.specs.Change.{writes}
 use Rattle.file_rules.specs.Files.{Asker, Files, volume_at}
 use Rattle.file_rules.specs.Files as rules
-use Rattle.file_rules.specs.Locking.{answer_to, asks_by, end_by, first_request, position_of, range_of, request_kept, request_now}
+use Rattle.file_rules.specs.Locking.{answer_to, asks_by, end_by, first_request, position_of, range_of, pending_request, request_now}
 use Rattle.file_rules.specs.Step.{FileStep, MayBeLeft, VolumeChange, changes, comes, deed_of, leaves, reaches, refuses}
 use Rattle.file_rules.specs.Write.{write_claim, writes_bytes}
 use Rattle.file_state.proofs.RequestLemmas.{asks-ends, lacks-none, reached-fails, reached-then, same-request}
@@ -46,7 +46,7 @@ use Rattle.file_io.specs.Opened.{found_on}
 use Rattle.file_io.specs.Writing.{after_writing, write_file, write_granted}
 
 -- the request of a write is the one that the kernel makes
-pub write-request : (m : Inner) (was : Files) (now : TimePacket) (p : Pid) (opened : OpenFile) (v : DiskVolume)
+pub write-request : (m : Processes) (was : Files) (now : TimePacket) (p : Pid) (opened : OpenFile) (v : DiskVolume)
     (file : DiskFile) (code : ℕ) (bytes : List ℕ) (count size many : ℕ) (range : Range) (locks : Locks) (tick : ℕ)
     (request : Request) → length bytes ≡ count → was.records.locks ≡ locks → m.tick ≡ tick → size ≡
     length file.contents → many ≡ count → range ≡ range_of size opened.desc.at many → request ≡
@@ -65,7 +65,7 @@ write-request m was now p opened v file code bytes count size many range locks t
     ∙ ap (λ (n : ℕ). let it : Claim = record { code = code; count = n; range = range } in it) long in
     same-request m was now p found opened locks tick refl refl locks_are tick_is (write_claim found code (length bytes)) claim same ∙ sym is
 
-module _ (code : ℕ) (bytes : List ℕ) (regs : Regs) (m : Inner) (was : Files) (v : DiskVolume) (file : DiskFile)
+module _ (code : ℕ) (bytes : List ℕ) (regs : Regs) (m : Processes) (was : Files) (v : DiskVolume) (file : DiskFile)
     (now : TimePacket) (p : ℕ) (opened : OpenFile) (is : volume_at was opened.place.drive ≡ Some v)
     (there : v.files opened.place.number ≡ Some file) (some : 0 < length bytes) (before views : List DriveView)
     (terms : List TerminalState) (mid : FileState) (called : CalledAtMost 1 before views)
@@ -114,7 +114,7 @@ module _ (code : ℕ) (bytes : List ℕ) (regs : Regs) (m : Inner) (was : Files)
 
   start-is : position_of asker was found ≡ start
   start-is =
-      start-own (request_kept asker was) (first_request asker found (write_claim found code (length bytes))) opened.desc.at refl
+      start-own (pending_request asker was) (first_request asker found (write_claim found code (length bytes))) opened.desc.at refl
 
   few : writing_attempt_calls count asker was found ≡ 1 + more
   few = ap (λ (at : ℕ). 1 + laying_calls_at at count found) start-is

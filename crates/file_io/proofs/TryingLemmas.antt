@@ -6,7 +6,7 @@ use Rattle.os9_base.specs.declared.call.CallEnd.{CallEnd}
 use Rattle.os9_base.specs.declared.registers.Regs.{Regs}
 use Rattle.os9_base.specs.declared.registers.TimePacket.{TimePacket}
 use Rattle.os9_outer.specs.TerminalState.{TerminalState}
-use Rattle.call_rules.specs.Inner.{Inner, regs_at}
+use Rattle.call_rules.specs.Processes.{Processes, regs_at}
 use Rattle.io_rules.specs.Io.{Io, with_call}
 use Rattle.io_rules.specs.Step.{answers}
 use Rattle.proc_rules.specs.Records.{record_at}
@@ -31,8 +31,8 @@ use Rattle.file_state.specs.Ends.{Ends, EndsOrLacks, EndsUnentered}
 use Rattle.file_state.specs.Lacks.{AttemptsOrLacks}
 
 -- the registers of the processes are those of the machine
-pub regs-tied : (s : ProcState) (m : Inner) (p : ℕ) → Represents s m → (record_at s.table p).regs ≡ regs_at m p
-regs-tied s m p tied = ap (λ (i : Inner). regs_at i p) (sym tied.is)
+pub regs-tied : (s : ProcState) (m : Processes) (p : ℕ) → Represents s m → (record_at s.table p).regs ≡ regs_at m p
+regs-tied s m p tied = ap (λ (i : Processes). regs_at i p) (sym tied.is)
 
 -- what is not there is nothing
 pub none-of : {A : Type 0} (o : Option A) (there : Bool) → there ≡ is_some o → there ≡ false → is_none o ≡ true
@@ -53,7 +53,7 @@ deed-goes files test number deed is = ap (λ (t : Bool). deed_of (refuses t numb
 
 -- ---- what reaches no drive
 
-module _ (m : Inner) (files : Files) (now : TimePacket) (p : ℕ) (end : CallEnd) (processes : ProcState)
+module _ (m : Processes) (files : Files) (now : TimePacket) (p : ℕ) (end : CallEnd) (processes : ProcState)
     (old : FileState) (new : Io) (views : List DriveView) (terms : List TerminalState) {most : ℕ}
     (stands : StandsFor old views files) where
   -- it is refused
@@ -93,7 +93,7 @@ module _ (m : Inner) (files : Files) (now : TimePacket) (p : ℕ) (end : CallEnd
   tries-done change regs it =
       lacks-none (done regs (with_io files (change files.io))) most m files now p end processes (record old { io = new }) views views terms (ends-done change regs it)
 
-module _ (m : Inner) (files : Files) (now : TimePacket) (p : ℕ) (end : CallEnd) (processes : ProcState)
+module _ (m : Processes) (files : Files) (now : TimePacket) (p : ℕ) (end : CallEnd) (processes : ProcState)
     (new : FileState) (views : List DriveView) (terms : List TerminalState) {most : ℕ} {before : List DriveView} where
   -- ---- the tests of a step
 
@@ -134,7 +134,7 @@ module _ (m : Inner) (files : Files) (now : TimePacket) (p : ℕ) (end : CallEnd
 
 -- ---- what an attempt did is what its call does
 
-module _ (m : Inner) (files : Files) (now : TimePacket) (p : ℕ) (end : CallEnd) (before after : Standing)
+module _ (m : Processes) (files : Files) (now : TimePacket) (p : ℕ) (end : CallEnd) (before after : Standing)
     (terms : List TerminalState) (call : PathCall) (step : FileStep) (is : file_step call (asker_of m p now) files
     (length terms) ≡ step) (most : ℕ) where
   -- with at most so many calls of the drives

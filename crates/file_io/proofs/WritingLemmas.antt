@@ -8,7 +8,7 @@ use Rattle.os9_base.specs.declared.errors.TheConstants.{E_FULL, E_SLF}
 use Rattle.os9_base.specs.declared.registers.Regs.{Regs}
 use Rattle.os9_base.specs.declared.registers.TimePacket.{TimePacket}
 use Rattle.os9_outer.specs.TerminalState.{TerminalState}
-use Rattle.call_rules.specs.Inner.{Inner}
+use Rattle.call_rules.specs.Processes.{Processes}
 use Rattle.io_rules.specs.Io.{Io, with_call}
 use Rattle.io_rules.specs.Step.{answers}
 use Rattle.lock_model.specs.History.{put}
@@ -99,7 +99,7 @@ changed-same number at one other user now result v file drive files mid before a
 
 -- ---- what it comes to
 
-module _ (lock : Held) (m : Inner) (files : Files) (v : DiskVolume) (file : DiskFile) (now : TimePacket) (p : ℕ)
+module _ (lock : Held) (m : Processes) (files : Files) (v : DiskVolume) (file : DiskFile) (now : TimePacket) (p : ℕ)
     (opened : OpenFile) (bytes : List ℕ) (regs : Regs) (end : CallEnd) (processes : ProcState) (mid new : FileState)
     (before after : List DriveView) (terms : List TerminalState) (is : volume_at files opened.place.drive ≡ Some v)
     (there : v.files opened.place.number ≡ Some file) (drives_are : files.drives ≡ drive_states before)
@@ -300,7 +300,7 @@ module _ (lock : Held) (m : Inner) (files : Files) (v : DiskVolume) (file : Disk
 -- ---- other registers and bytes
 
 -- the same, where other registers are answered that are these
-pub ends-writes : (m : Inner) (files : Files) (now : TimePacket) (p : ℕ) (end : CallEnd) (processes : ProcState)
+pub ends-writes : (m : Processes) (files : Files) (now : TimePacket) (p : ℕ) (end : CallEnd) (processes : ProcState)
     {most : ℕ} (new : FileState) {before : List DriveView} (views : List DriveView) (terms : List TerminalState)
     (code : ℕ) (bytes : List ℕ) (regs other : Regs) (found : rules.OpenFile) → regs ≡ other
     → EndsOrLacks (write_file code bytes regs (asker_of m p now) files found) most m files now p end processes new
@@ -311,7 +311,7 @@ ends-writes m files now p end processes {most} new {before} views terms code byt
     subst (λ (r : Regs). EndsOrLacks (writes_bytes (asker_of m p now) files found code bytes r) most m files now p end processes new before views terms) same ends
 
 -- the same, where the bytes are these too
-pub ends-write_file : (m : Inner) (files : Files) (now : TimePacket) (p : ℕ) (end : CallEnd) (processes : ProcState)
+pub ends-write_file : (m : Processes) (files : Files) (now : TimePacket) (p : ℕ) (end : CallEnd) (processes : ProcState)
     {most : ℕ} (new : FileState) {before : List DriveView} (views : List DriveView) (terms : List TerminalState)
     (code : ℕ) (bytes line : List ℕ) (regs other : Regs) (found : rules.OpenFile) → bytes ≡ line → regs ≡ other
     → EndsOrLacks (write_file code bytes regs (asker_of m p now) files found) most m files now p end processes new

@@ -9,7 +9,7 @@ use Rattle.rbf_change.specs.Calls.{cluster_size}
 use Rattle.rbf_change.specs.Growth.{clusters_needed}
 use Rattle.rbf_write.specs.Outcomes.{laying_calls}
 use Rattle.file_rules.specs.Files.{Asker, Files, OpenFile, open_file}
-use Rattle.file_rules.specs.Locking.{is_for_update, position_of, request_kept}
+use Rattle.file_rules.specs.Locking.{is_for_update, position_of, pending_request}
 use Rattle.file_rules.specs.Read.{read_start}
 use Rattle.file_rules.specs.Write.{line_moved}
 
@@ -65,7 +65,7 @@ i_write_calls asker files terms =
 -- the number of bytes in the line of a line write
 abbrev pub line_count : Asker → Files → ℕ
 line_count asker files =
-    option_map_or (λ (line : List ℕ). length line) (line_moved asker (request_kept asker files)) 0
+    option_map_or (λ (line : List ℕ). length line) (line_moved asker (pending_request asker files)) 0
 
 abbrev pub i_writln_calls : Asker → Files → ℕ → ℕ
 i_writln_calls asker files terms =

@@ -4,7 +4,7 @@ use Rattle.os9_base.specs.declared.call.CallEnd.{CallEnd}
 use Rattle.os9_base.specs.declared.call.CallEnd.TheVariants.{Done, Error, NoMemory}
 use Rattle.os9_base.specs.declared.errors.TheConstants.{E_EOF}
 use Rattle.os9_base.specs.declared.registers.Regs.{Regs}
-use Rattle.call_rules.specs.Inner.{Inner, with_memory, with_regs_of}
+use Rattle.call_rules.specs.Processes.{Processes, with_memory, with_regs_of}
 use Rattle.proc_model.specs.MemoryChanges.{stored}
 use Rattle.io_model.specs.declared.terminal.ReadKind.{ReadKind}
 use Rattle.io_rules.specs.Io.{Io, with_call}
@@ -21,7 +21,7 @@ use Rattle.file_io.specs.Opened.{moved_to}
 
 -- the call of a process is done with these registers. It leaves this state of input and output, but keeps nothing of
 -- the call
-pub record IsDone (m : Inner) (p : ℕ) (regs : Regs) (io : Io) (end : CallEnd) (processes : ProcState) (new : Io)
+pub record IsDone (m : Processes) (p : ℕ) (regs : Regs) (io : Io) (end : CallEnd) (processes : ProcState) (new : Io)
     : Type 0 where
   pub end_is : end ≡ Done
   pub tied : Represents processes (with_regs_of m p regs)
@@ -29,7 +29,7 @@ pub record IsDone (m : Inner) (p : ℕ) (regs : Regs) (io : Io) (end : CallEnd) 
 
 -- the call of a process is refused with this number. It leaves this state of input and output, but keeps nothing of the
 -- call
-pub record IsRefused (number : ℕ) (m : Inner) (p : ℕ) (io : Io) (end : CallEnd) (processes : ProcState) (new : Io)
+pub record IsRefused (number : ℕ) (m : Processes) (p : ℕ) (io : Io) (end : CallEnd) (processes : ProcState) (new : Io)
     : Type 0 where
   pub end_is : end ≡ Error number
   pub tied : Represents processes m
@@ -38,17 +38,17 @@ pub record IsRefused (number : ℕ) (m : Inner) (p : ℕ) (io : Io) (end : CallE
 -- ---- reads
 
 -- the processes after these bytes are stored from an address on
-abbrev pub with_bytes : Inner → ℕ → ℕ → List ℕ → Inner
+abbrev pub with_bytes : Processes → ℕ → ℕ → List ℕ → Processes
 with_bytes m p at bytes = with_memory m (stored m.memory p at bytes)
 
 -- a process gets these bytes at X and their count in Y, and the position of its path moves past them
-abbrev pub GivesBytes : List ℕ → Regs → OpenFile → Inner → ℕ → Io → CallEnd → ProcState → Io → Type 0
+abbrev pub GivesBytes : List ℕ → Regs → OpenFile → Processes → ℕ → Io → CallEnd → ProcState → Io → Type 0
 GivesBytes bytes regs opened m p io end processes new =
     IsDone (with_bytes m p regs.x bytes) p (record regs { y = length bytes })
     (moved_to io opened (opened.desc.at + length bytes)) end processes new
 
 -- a read that found the bytes `found` and gives the bytes `given`, or that found the end of the file
-pub record EndsFound (found given : List ℕ) (regs : Regs) (opened : OpenFile) (m : Inner) (p : ℕ) (io : Io)
+pub record EndsFound (found given : List ℕ) (regs : Regs) (opened : OpenFile) (m : Processes) (p : ℕ) (io : Io)
     (end : CallEnd) (processes : ProcState) (new : Io) : Type 0 where
   pub none : length found ≡ 0 → IsRefused E_EOF m p io end processes new
   pub some : length found ≢ 0 → GivesBytes given regs opened m p io end processes new
@@ -57,14 +57,14 @@ pub record EndsFound (found given : List ℕ) (regs : Regs) (opened : OpenFile) 
 
 -- the call of a process is done, with these registers, and its entry makes the records these: it leaves this but for
 -- what is kept of the call. Or memory was wanting for the entry, and the state is as it was
-pub record EndsEntered (m : Inner) (p : ℕ) (regs : Regs) (io : Io) (records : Records) (state : FileState)
+pub record EndsEntered (m : Processes) (p : ℕ) (regs : Regs) (io : Io) (records : Records) (state : FileState)
     (end : CallEnd) (processes : ProcState) (new : FileState) : Type 0 where
   pub done : end ≢ NoMemory → IsDone m p regs io end processes new.io
   pub entered : end ≢ NoMemory → new ≡ record state { io = new.io; records = records }
   pub lacks : end ≡ NoMemory → new ≡ state
 
 -- a read of these bytes under a lock, which the path then holds; the position is behind them
-abbrev pub GivesLocked : ReadKind → Held → List ℕ → Regs → OpenFile → Inner → ℕ → FileState → CallEnd → ProcState
+abbrev pub GivesLocked : ReadKind → Held → List ℕ → Regs → OpenFile → Processes → ℕ → FileState → CallEnd → ProcState
     → FileState → Type 0
 GivesLocked kind lock bytes regs opened m p state end processes new =
     EndsEntered (with_bytes m p regs.x bytes) p (record regs { y = length bytes })
@@ -73,7 +73,8 @@ GivesLocked kind lock bytes regs opened m p state end processes new =
 
 -- a write of these bytes under a lock that was answered so: if it is done its process has these registers, the position
 -- is behind the bytes, and the path holds no lock
-abbrev pub EndsWrite : Result (Unit {0}) FileFault → Held → List ℕ → Regs → OpenFile → Inner → ℕ → FileState → CallEnd
+abbrev pub EndsWrite : Result (Unit {0}) FileFault → Held → List ℕ → Regs → OpenFile → Processes → ℕ → FileState
+    → CallEnd
     → ProcState → FileState → Type 0
 EndsWrite (Ok done) lock bytes regs opened m p state end processes new =
     EndsEntered m p regs (moved_to state.io opened (lock.range.start + length bytes))

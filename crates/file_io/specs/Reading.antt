@@ -4,7 +4,7 @@ use Rattle.os9_base.specs.Cells.{Cells, FitsIn}
 use Rattle.os9_base.specs.declared.call.CallEnd.{CallEnd}
 use Rattle.os9_base.specs.declared.errors.TheConstants.{E_BPADDR}
 use Rattle.os9_base.specs.declared.registers.Regs.{Regs}
-use Rattle.call_rules.specs.Inner.{Inner}
+use Rattle.call_rules.specs.Processes.{Processes}
 use Rattle.call_rules.specs.UserBytes.{user_bytes}
 use Rattle.io_model.specs.declared.terminal.ReadKind.{ReadKind}
 use Rattle.io_rules.specs.Io.{Io}
@@ -84,7 +84,8 @@ read_opened kind asker files opened =
     (read_named kind asker files opened)
 
 -- a read with this result, and with this buffer after it
-abbrev pub EndsRead : Result ℕ FileFault → ReadKind → List ℕ → Regs → OpenFile → Inner → ℕ → Io → CallEnd → ProcState
+abbrev pub EndsRead : Result ℕ FileFault → ReadKind → List ℕ → Regs → OpenFile → Processes → ℕ → Io → CallEnd
+    → ProcState
     → Io → Type 0
 EndsRead (Ok count) kind buffer regs opened m p io end processes new =
     EndsFound (take count buffer) (part_of kind (take count buffer)) regs opened m p io end processes new

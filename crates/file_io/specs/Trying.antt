@@ -3,7 +3,7 @@ use Rattle.std.specs.Prelude.{◌≡◌, ℕ, Some, List}
 use Rattle.os9_base.specs.declared.call.CallEnd.{CallEnd}
 use Rattle.os9_base.specs.declared.registers.TimePacket.{TimePacket}
 use Rattle.os9_outer.specs.TerminalState.{TerminalState}
-use Rattle.call_rules.specs.Inner.{Inner}
+use Rattle.call_rules.specs.Processes.{Processes}
 use Rattle.rbf_model.specs.File.{DiskFile}
 use Rattle.rbf_model.specs.Volume.{DiskVolume}
 use Rattle.proc_state.specs.Tie.{Represents}
@@ -22,7 +22,7 @@ use Rattle.file_io.specs.Opened.{found_on}
 abbrev pub TriesFrom : (Files → Files) → (Asker → Files → rules.OpenFile → FileStep)
     → (Asker → Files → rules.OpenFile → ℕ) → OpenFile → TimePacket → ℕ → CallEnd → Standing → Standing → Type 0
 TriesFrom changed step most opened now p end before after =
-    (m : Inner) (files : Files) (v : DiskVolume) (file : DiskFile) (terms : List TerminalState)
+    (m : Processes) (files : Files) (v : DiskVolume) (file : DiskFile) (terms : List TerminalState)
     → Represents before.processes m → StandsFor before.files before.views (changed files)
     → volume_at files opened.place.drive ≡ Some v → v.files opened.place.number ≡ Some file
     → EndsOrLacks (step (asker_of m p now) files (found_on opened v file))

@@ -1,7 +1,7 @@
 //! The ends of calls.
 
 ghost use Rattle.std.specs.Prelude.{◌≡◌, ◌<◌, None, Some};
-ghost use Rattle.call_rules.specs.Inner.{Inner, with_regs_of};
+ghost use Rattle.call_rules.specs.Processes.{Processes, with_regs_of};
 ghost use Rattle.file_io.specs.Opened.{IsPathOf, ReadsNoTerminal, moved_to};
 ghost use Rattle.io_rules.specs.Io.{with_call};
 ghost use Rattle.proc_rules.specs.Records.{IsLiving};
@@ -29,7 +29,8 @@ pub(crate) fn answer(s: &mut ProcState, io: &mut IoState, p: Pid, regs: Regs) ->
     requires lives { IsLiving s.old.table p.0 }
     requires no_read { ReadsNoTerminal io.old p.0 }
     ensures end { result ≡ CallEnd.Done }
-    ensures tied { (m : Inner) → Represents s.old m → Represents s.new (with_regs_of m p.0 regs) }
+    ensures tied { (m : Processes) → Represents s.old m
+        → Represents s.new (with_regs_of m p.0 regs) }
     ensures io { io.new ≡ with_call io.old p.0 None }
     ensures lives { IsLiving s.new.table p.0 }
 {
@@ -52,7 +53,8 @@ pub(crate) fn answer_at(
     requires no_read { ReadsNoTerminal io.old p.0 }
     requires path { IsPathOf io.old opened.now }
     ensures end { result ≡ CallEnd.Done }
-    ensures tied { (m : Inner) → Represents s.old m → Represents s.new (with_regs_of m p.0 regs) }
+    ensures tied { (m : Processes) → Represents s.old m
+        → Represents s.new (with_regs_of m p.0 regs) }
     ensures io { io.new ≡ with_call (moved_to io.old opened.now at) p.0 None }
     ensures lives { IsLiving s.new.table p.0 }
 {

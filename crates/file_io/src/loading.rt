@@ -1,12 +1,13 @@
 //! Bytes of files in the buffer, on their way to the memory of a process.
 
 ghost use Rattle.std.specs.Prelude.{◌≡◌, ℕ, ◌<◌, ◌≤◌, IfOk, IfSome, IsSome, OnErr, length, take};
-ghost use Rattle.call_rules.specs.Inner.{Inner, with_memory};
+ghost use Rattle.call_rules.specs.Processes.{Processes, with_memory};
 ghost use Rattle.file_io.specs.Reading.{IsLoaded, part_of};
 ghost use Rattle.file_drives.specs.Drives.{drives_seen};
 ghost use Rattle.file_drives.specs.Mounted.{HasFileAt, OnDisks, ReadsFile};
 ghost use Rattle.guest_memory.specs.Tie.{cells_of};
-ghost use Rattle.io_model.specs.Line.{has_return as has_return_lem, line_length as line_length_lem, return_place};
+ghost use Rattle.io_model.specs.Line as model;
+ghost use Rattle.io_model.specs.Line.{return_place};
 ghost use Rattle.os9_base.specs.Cells.{FitsIn};
 ghost use Rattle.proc_model.specs.MemoryChanges.{stored};
 ghost use Rattle.proc_state.specs.Tie.{IsSame, Represents};
@@ -89,7 +90,7 @@ pub(crate) fn part_length(kind: ReadKind, bytes: &[u8]) -> usize
 
 /// The number of bytes in the first line with its carriage return; all if there is none.
 fn line_length(bytes: &[u8]) -> usize
-    ensures length { result ≡ line_length_lem bytes.now }
+    ensures length { result ≡ model.line_length bytes.now }
     ensures within { result ≤ length bytes.now }
 {
     match place_of_return(bytes) {
@@ -100,7 +101,7 @@ fn line_length(bytes: &[u8]) -> usize
 
 /// Is a carriage return among the bytes?
 pub(crate) fn has_return(bytes: &[u8]) -> bool
-    ensures { result ≡ has_return_lem bytes.now }
+    ensures { result ≡ model.has_return bytes.now }
 {
     place_of_return(bytes).is_some()
 }
@@ -118,7 +119,7 @@ fn place_of_return(bytes: &[u8]) -> Option<usize>
 pub(crate) fn store_front(s: &mut ProcState, p: Pid, at: u16, count: u16)
     requires process { p.0 < 33 }
     requires fits { FitsIn (cells_of s.old.memory p.0) at count }
-    ensures tied { (m : Inner) → Represents s.old m → Represents s.new
+    ensures tied { (m : Processes) → Represents s.old m → Represents s.new
         (with_memory m (stored m.memory p.0 at (take count s.old.buffer.items))) }
     ensures records { s.new.table ≡ s.old.table }
 {

@@ -1,11 +1,12 @@
 //! I$Read and I$ReadLn (System Programmer's Manual, I$Read and I$ReadLn).
 
 ghost use Rattle.std.specs.Prelude.{◌≡◌, ℕ, ◌+◌, ◌<◌, ◌≤◌, ◌^◌, IfOk, List, length, take};
-ghost use Rattle.call_rules.specs.Inner.{Inner};
+ghost use Rattle.call_rules.specs.Processes.{Processes};
 ghost use Rattle.file_io.specs.Calls.{granted_read_calls, i_read_calls, reading_attempt_calls};
 ghost use Rattle.file_io.specs.Ending.{EndsFound, GivesLocked};
 ghost use Rattle.file_io.specs.Opened.{IsOnFile, IsOpened, IsPathOf, ReadsNoTerminal};
-ghost use Rattle.file_io.specs.Reading.{EndsRead, HasRoom, IsBuffer, MayRead, MayUpdate, part_of, read_file as read_file_lem, read_granted as read_granted_lem, read_named as read_named_lem, read_opened as read_opened_lem};
+ghost use Rattle.file_io.specs.Reading as model;
+ghost use Rattle.file_io.specs.Reading.{EndsRead, HasRoom, IsBuffer, MayRead, MayUpdate, part_of};
 ghost use Rattle.file_io.specs.Trying.{Tries, TriesAlways, TriesGranted};
 ghost use Rattle.file_rules.specs.Read.{line_range, lock_by, read_code};
 ghost use Rattle.file_rules.specs.declared.path_call.PathCall.TheVariants as Call;
@@ -118,7 +119,7 @@ fn read_opened(
     requires regs { regs ≡ (record_at s.old.table p.0).regs }
     requires may { MayRead files.old.io files.old.records.locks p.0 opened.now regs }
     requires opened { IsOnFile opened.now (standing BlockDriver-box s.old files.old devices.old) }
-    ensures call { (now : TimePacket) → Tries (read_opened_lem kind) reading_attempt_calls
+    ensures call { (now : TimePacket) → Tries (model.read_opened kind) reading_attempt_calls
         opened.now now p.0 result (standing BlockDriver-box s.old files.old devices.old)
         (standing BlockDriver-box s.new files.new devices.new) }
     ensures lives { IsLiving s.new.table p.0 }
@@ -146,7 +147,7 @@ fn read_named(
     requires may { MayRead files.old.io files.old.records.locks p.0 opened.now regs }
     requires opened { IsOnFile opened.now (standing BlockDriver-box s.old files.old devices.old) }
     requires named { FitsIn (cells_of s.old.memory p.0) regs.x regs.y }
-    ensures call { TriesAlways (read_named_lem kind) reading_attempt_calls opened.now p.0 result
+    ensures call { TriesAlways (model.read_named kind) reading_attempt_calls opened.now p.0 result
         (standing BlockDriver-box s.old files.old devices.old)
         (standing BlockDriver-box s.new files.new devices.new) }
     ensures lives { IsLiving s.new.table p.0 }
@@ -177,7 +178,7 @@ fn read_file(
     requires may { MayRead files.old.io files.old.records.locks p.0 opened.now regs }
     requires opened { IsOnFile opened.now (standing BlockDriver-box s.old files.old devices.old) }
     requires buffer { IsBuffer (cells_of s.old.memory p.0) regs }
-    ensures call { TriesAlways (read_file_lem kind) reading_attempt_calls opened.now p.0 result
+    ensures call { TriesAlways (model.read_file kind) reading_attempt_calls opened.now p.0 result
         (standing BlockDriver-box s.old files.old devices.old)
         (standing BlockDriver-box s.new files.new devices.new) }
     ensures lives { IsLiving s.new.table p.0 }
@@ -214,7 +215,7 @@ fn read_for_update(
     requires may { MayUpdate files.old.io files.old.records.locks p.0 opened.now regs }
     requires opened { IsOnFile opened.now (standing BlockDriver-box s.old files.old devices.old) }
     requires buffer { IsBuffer (cells_of s.old.memory p.0) regs }
-    ensures call { TriesAlways (read_file_lem kind) reading_attempt_calls opened.now p.0 result
+    ensures call { TriesAlways (model.read_file kind) reading_attempt_calls opened.now p.0 result
         (standing BlockDriver-box s.old files.old devices.old)
         (standing BlockDriver-box s.new files.new devices.new) }
     ensures lives { IsLiving s.new.table p.0 }
@@ -266,7 +267,7 @@ fn read_granted(
     requires opened { IsOnFile opened.now (standing BlockDriver-box s.old files.old devices.old) }
     requires granted { IsGranted files.old.records.locks lock }
     requires room { HasRoom (cells_of s.old.memory p.0) (record_at s.old.table p.0).regs lock }
-    ensures call { (now : TimePacket) → TriesGranted (read_granted_lem kind lock)
+    ensures call { (now : TimePacket) → TriesGranted (model.read_granted kind lock)
         (granted_read_calls lock) opened.now now p.0 result
         (standing BlockDriver-box s.old files.old devices.old)
         (standing BlockDriver-box s.new files.new devices.new) }
@@ -299,7 +300,7 @@ fn give_locked(
     requires room { HasRoom (cells_of s.old.memory p.0) (record_at s.old.table p.0).regs lock }
     requires few { count ≤ (record_at s.old.table p.0).regs.y }
     requires fits { lock.range.start + count < 2 ^ 32 }
-    ensures call { (m : Inner) → Represents s.old m → GivesLocked kind lock
+    ensures call { (m : Processes) → Represents s.old m → GivesLocked kind lock
         (part_of kind (take count s.old.buffer.items)) (record_at s.old.table p.0).regs opened.now m
         p.0 files.old result s.new files.new }
     ensures lives { IsLiving s.new.table p.0 }
@@ -357,7 +358,8 @@ fn end_read(
     requires named { FitsIn (cells_of s.old.memory p.0) regs.x regs.y }
     requires few { IfOk loaded (λ count. count ≤ regs.y) }
     requires fits { IfOk loaded (λ count. opened.now.desc.at + count < 2 ^ 32) }
-    ensures call { (m : Inner) → Represents s.old m → EndsRead loaded kind s.old.buffer.items regs
+    ensures call { (m : Processes) → Represents s.old m
+        → EndsRead loaded kind s.old.buffer.items regs
         opened.now m p.0 io.old result s.new io.new }
     ensures lives { IsLiving s.new.table p.0 }
 {
@@ -387,7 +389,7 @@ fn give(
     requires named { FitsIn (cells_of s.old.memory p.0) regs.x regs.y }
     requires few { count ≤ regs.y }
     requires fits { opened.now.desc.at + count < 2 ^ 32 }
-    ensures call { (m : Inner) → Represents s.old m → EndsFound (take count s.old.buffer.items)
+    ensures call { (m : Processes) → Represents s.old m → EndsFound (take count s.old.buffer.items)
         (part_of kind (take count s.old.buffer.items)) regs opened.now m p.0 io.old result s.new
         io.new }
     ensures lives { IsLiving s.new.table p.0 }

@@ -1,11 +1,12 @@
 //! I$Seek (System Programmer's Manual, I$Seek).
 
 ghost use Rattle.std.specs.Prelude.{◌≡◌, ℕ, List};
-ghost use Rattle.call_rules.specs.Inner.{Inner};
+ghost use Rattle.call_rules.specs.Processes.{Processes};
 ghost use Rattle.file_io.specs.Calls.{i_seek_calls};
 ghost use Rattle.file_io.specs.Opened.{IsOpened, ReadsNoTerminal};
 ghost use Rattle.file_drives.specs.Drives.{DriveView};
-ghost use Rattle.file_rules.specs.Seek.{long_of as long_of_lem, seeks_nothing};
+ghost use Rattle.file_rules.specs.Seek as model;
+ghost use Rattle.file_rules.specs.Seek.{seeks_nothing};
 ghost use Rattle.file_rules.specs.declared.path_call.PathCall.TheVariants as Call;
 ghost use Rattle.file_state.specs.Counted.{AttemptsWithin};
 ghost use Rattle.io_rules.specs.Attempts.{caller_of};
@@ -42,7 +43,7 @@ pub fn seek(s: &mut ProcState, files: &mut FileState, p: Pid, opened: &OpenFile)
 
 /// The number in X, its high half, and U.
 fn long_of(regs: Regs) -> u32
-    ensures { result ≡ long_of_lem regs }
+    ensures { result ≡ model.long_of regs }
 {
     65_536 * u32::from(regs.x) + u32::from(regs.u)
 }
@@ -55,7 +56,7 @@ fn long_of(regs: Regs) -> u32
 pub fn seek_nothing(s: &mut ProcState, io: &mut IoState, p: Pid) -> CallEnd
     requires lives { IsLiving s.old.table p.0 }
     requires no_read { ReadsNoTerminal io.old p.0 }
-    ensures call { (m : Inner) → Represents s.old m
+    ensures call { (m : Processes) → Represents s.old m
         → Ends (seeks_nothing (caller_of m p.0) io.old) m io.old p.0 result s.new io.new }
     ensures lives { IsLiving s.new.table p.0 }
 {

@@ -1,14 +1,14 @@
 //! I$Write, I$WritLn and F$PErr (System Programmer's Manual, I$Write, I$WritLn and F$PErr).
 
 ghost use Rattle.std.specs.Prelude.{◌≡◌, ◌≢◌, ℕ, ◌+◌, ◌<◌, ◌≤◌, ◌^◌, false, IfSome, IsOk, List, Ok, Some, length, option_map, take};
-ghost use Rattle.call_rules.specs.Inner.{Inner, cells_at};
+ghost use Rattle.call_rules.specs.Processes.{Processes, cells_at};
 ghost use Rattle.call_rules.specs.UserBytes.{user_bytes};
 ghost use Rattle.file_io.specs.Calls.{f_perr_calls, granted_write_calls, i_writln_calls, i_write_calls, writing_attempt_calls};
 ghost use Rattle.file_io.specs.Ending.{EndsWrite};
 ghost use Rattle.file_io.specs.Opened.{IsOpened, IsPathOf, MayBeWritten, ReadsNoTerminal};
 ghost use Rattle.file_io.specs.Sending.{IsSending, MayWrite};
 ghost use Rattle.file_io.specs.Trying.{Tries, TriesGranted};
-ghost use Rattle.file_io.specs.Writing.{line_of, write_file as write_file_lem, write_granted as write_granted_lem, write_opened as write_opened_lem};
+ghost use Rattle.file_io.specs.Writing.{line_of, write_file as write_file_model, write_granted as write_granted_model, write_opened as write_opened_model};
 ghost use Rattle.file_drives.specs.Drives.{drives_seen};
 ghost use Rattle.file_drives.specs.Mounted.{HasDataFileAt};
 ghost use Rattle.file_rules.specs.declared.path_call.PathCall.TheVariants as Call;
@@ -17,9 +17,9 @@ ghost use Rattle.file_state.specs.Asking.{IsGranted, KeepsRequest, MayAsk, Tries
 ghost use Rattle.file_state.specs.Attempt.{standing};
 ghost use Rattle.file_state.specs.Lacks.{TriesWithin};
 ghost use Rattle.file_state.specs.Tie.{IsSound};
-ghost use Rattle.io_rules.specs.Io.{kept_at};
-ghost use Rattle.io_rules.specs.Modes.{can_write as can_write_lem};
-ghost use Rattle.io_rules.specs.Write.{error_line as error_line_lem};
+ghost use Rattle.io_rules.specs.Io.{pending_at};
+ghost use Rattle.io_rules.specs.Modes.{can_write as can_write_model};
+ghost use Rattle.io_rules.specs.Write.{error_line as error_line_model};
 ghost use Rattle.io_rules.specs.declared.io_call.IoCall.TheVariants as Device;
 ghost use Rattle.io_rules.specs.declared.modes.TheConstants.{STANDARD_ERROR};
 ghost use Rattle.lock_model.specs.Conflict.{conflicts};
@@ -137,7 +137,7 @@ pub fn write_line(
 fn line_count(s: &mut ProcState, files: &FileState, p: Pid, regs: Regs) -> Option<u16>
     requires process { p.0 < 33 }
     requires kept { KeepsRequest files.now.io files.now.records.locks p.0 }
-    ensures line { (m : Inner) → Represents s.old m → line_of
+    ensures line { (m : Processes) → Represents s.old m → line_of
         (request_of files.now.records.locks p.0) (cells_at m p.0) regs
         ≡ option_map (λ count. take count s.new.buffer.items) result }
     ensures some { IfSome result (λ count. regs.y ≢ 0 → 0 < count) }
@@ -148,12 +148,12 @@ fn line_count(s: &mut ProcState, files: &FileState, p: Pid, regs: Regs) -> Optio
             let count = s.read_line(p, regs.x, regs.y)?;
             Some(count as u16)
         }
-        Some(request) => kept_count(s, files, p, regs, request),
+        Some(request) => pending_count(s, files, p, regs, request),
     }
 }
 
 /// How many bytes a line write moves that waits in a request: as many as its first attempt found.
-fn kept_count(
+fn pending_count(
     s: &mut ProcState,
     files: &FileState,
     p: Pid,
@@ -161,15 +161,15 @@ fn kept_count(
     request: Request,
 ) -> Option<u16>
     requires process { p.0 < 33 }
-    requires kept { kept_at files.now.io p.0 ≡ Some (call_of request) }
-    ensures line { (m : Inner) → Represents s.old m
+    requires kept { pending_at files.now.io p.0 ≡ Some (call_of request) }
+    ensures line { (m : Processes) → Represents s.old m
         → user_bytes (cells_at m p.0) regs.x request.count
         ≡ option_map (λ count. take count s.new.buffer.items) result }
     ensures some { IfSome result (λ count. 0 < count) }
     ensures same { IsSame s.old s.new }
 {
     // A call that waits has a byte left to move.
-    prove!(files.io.kept(p).is_some());
+    prove!(files.io.pending(p).is_some());
     if s.read_bytes(p, regs.x, request.count) {
         Some(request.count)
     } else {
@@ -240,7 +240,7 @@ fn send(
         (drives_seen BlockDriver-box devices.old) }
     requires may { MayWrite files.old.io files.old.records.locks p.0 opened.now
         (record_at s.old.table p.0).regs sent }
-    ensures call { Tries (write_opened_lem sent.code (take sent.count s.old.buffer.items))
+    ensures call { Tries (write_opened_model sent.code (take sent.count s.old.buffer.items))
         (writing_attempt_calls sent.count) opened.now now p.0 result
         (standing BlockDriver-box s.old files.old devices.old)
         (standing BlockDriver-box s.new files.new devices.new) }
@@ -274,7 +274,7 @@ fn write_file(
     requires sends { IsSending sent }
     requires file { HasDataFileAt files.old.disks
         (drives_seen BlockDriver-box devices.old) opened.now.place }
-    ensures call { Tries (write_file_lem sent.code (take sent.count s.old.buffer.items) sent.done)
+    ensures call { Tries (write_file_model sent.code (take sent.count s.old.buffer.items) sent.done)
         (writing_attempt_calls sent.count) opened.now now p.0 result
         (standing BlockDriver-box s.old files.old devices.old)
         (standing BlockDriver-box s.new files.new devices.new) }
@@ -314,7 +314,7 @@ fn write_granted(
     requires file { HasDataFileAt files.old.disks
         (drives_seen BlockDriver-box devices.old) opened.now.place }
     requires granted { IsGranted files.old.records.locks lock }
-    ensures call { TriesGranted (write_granted_lem lock (take sent.count s.old.buffer.items)
+    ensures call { TriesGranted (write_granted_model lock (take sent.count s.old.buffer.items)
         sent.done) (granted_write_calls lock sent.count) opened.now now p.0 result
         (standing BlockDriver-box s.old files.old devices.old)
         (standing BlockDriver-box s.new files.new devices.new) }
@@ -343,7 +343,7 @@ fn end_write(
     requires path { IsPathOf files.old.io opened.now }
     requires free { conflicts files.old.records.locks lock ≡ false }
     requires fits { IsOk written → lock.range.start + sent.count < 2 ^ 32 }
-    ensures call { (m : Inner) → Represents s.old m → EndsWrite written lock
+    ensures call { (m : Processes) → Represents s.old m → EndsWrite written lock
         (take sent.count s.old.buffer.items) sent.done opened.now m p.0 files.old result s.new
         files.new }
     ensures lives { IsLiving s.new.table p.0 }
@@ -368,7 +368,7 @@ fn enter_write(
     requires path { IsPathOf files.old.io opened.now }
     requires free { conflicts files.old.records.locks lock ≡ false }
     requires fits { lock.range.start + sent.count < 2 ^ 32 }
-    ensures call { (m : Inner) → Represents s.old m → EndsWrite (Ok tt) lock
+    ensures call { (m : Processes) → Represents s.old m → EndsWrite (Ok tt) lock
         (take sent.count s.old.buffer.items) sent.done opened.now m p.0 files.old result s.new
         files.new }
     ensures lives { IsLiving s.new.table p.0 }
@@ -383,7 +383,7 @@ fn enter_write(
 
 /// Puts the line of the number of an error at the front of the buffer.
 fn put_error_line(s: &mut ProcState, number: u8)
-    ensures line { take ERROR_LINE_BYTES s.new.buffer.items ≡ error_line_lem number }
+    ensures line { take ERROR_LINE_BYTES s.new.buffer.items ≡ error_line_model number }
     ensures same { IsSame s.old s.new }
 {
     put_line(&mut s.buffer, number);
@@ -392,7 +392,7 @@ fn put_error_line(s: &mut ProcState, number: u8)
 /// The same at the front of the given buffer.
 fn put_line(into: &mut [u8], number: u8)
     requires room { ERROR_LINE_BYTES ≤ length into.old }
-    ensures line { take ERROR_LINE_BYTES into.new ≡ error_line_lem number }
+    ensures line { take ERROR_LINE_BYTES into.new ≡ error_line_model number }
     ensures room { length into.new ≡ length into.old }
 {
     into[..ERROR_LINE_BYTES as usize].copy_from_slice(&error_line(number));
@@ -400,7 +400,7 @@ fn put_line(into: &mut [u8], number: u8)
 
 /// The line of the number of an error.
 fn error_line(number: u8) -> [u8; 11]
-    ensures { result ≡ error_line_lem number }
+    ensures { result ≡ error_line_model number }
 {
     [
         b'E',

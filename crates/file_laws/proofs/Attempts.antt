@@ -8,12 +8,12 @@ use Rattle.os9_base.specs.declared.registers.Regs.{Regs}
 use Rattle.os9_base.specs.declared.registers.TimePacket.{TimePacket}
 use Rattle.os9_outer.specs.TerminalState.{TerminalState}
 use Rattle.call_rules.specs.CallResult.{CallResult}
-use Rattle.call_rules.specs.Inner.{Inner}
+use Rattle.call_rules.specs.Processes.{Processes}
 use Rattle.call_rules.specs.ModuleLinks.{Entered}
 use Rattle.call_rules.specs.Chain.{f_chain}
 use Rattle.call_rules.specs.Fork.{f_fork}
 use Rattle.call_rules.specs.Program.{Program}
-use Rattle.io_rules.specs.Attempts.{kept_in}
+use Rattle.io_rules.specs.Attempts.{pending_in}
 use Rattle.io_rules.specs.Dup.{i_dup}
 use Rattle.io_rules.specs.Io.{with_call}
 use Rattle.file_rules.specs.Attempts.{AskerAttempts, FileAttempts, asker_of, file_step, files_after}
@@ -62,17 +62,17 @@ module _ (asker : Asker) (files : Files) (kinds : AreKinds files) where
       → Stands files (files_after p effect)
   does-stands call effect p old new does =
       let left : Stands files effect.files = does-kept asker files kinds (file_step call asker files (length old)) effect old new (step-kept call (length old)) does in
-      let waits = with_io effect.files (with_call effect.files.io p (kept_in effect.end)) in
+      let waits = with_io effect.files (with_call effect.files.io p (pending_in effect.end)) in
       stands-records files kinds waits (records_after effect.end effect.files.records p) (record {
-        kinds = kinds-io effect.files left.kinds (with_call effect.files.io p (kept_in effect.end)) left.kinds.paths;
-        many = many-then files effect.files waits left.many (many-io effect.files (with_call effect.files.io p (kept_in effect.end)));
+        kinds = kinds-io effect.files left.kinds (with_call effect.files.io p (pending_in effect.end)) left.kinds.paths;
+        many = many-then files effect.files waits left.many (many-io effect.files (with_call effect.files.io p (pending_in effect.end)));
       })
 
-pub attempt-stands : (call : PathCall) (inner : Inner) (files : Files) (now : TimePacket) (p : ℕ)
-    (result : CallResult) (new : Files) (old_terms new_terms : List TerminalState) → FileAttempts call inner files now
+pub attempt-stands : (call : PathCall) (processes : Processes) (files : Files) (now : TimePacket) (p : ℕ)
+    (result : CallResult) (new : Files) (old_terms new_terms : List TerminalState) → FileAttempts call processes files now
     p result new old_terms new_terms → AreKinds files → Stands files new
-attempt-stands call inner files now p result new old_terms new_terms it kinds =
-    subst (Stands files) (sym it.state) (does-stands (asker_of inner p now) files kinds call it.effect p old_terms new_terms it.does)
+attempt-stands call processes files now p result new old_terms new_terms it kinds =
+    subst (Stands files) (sym it.state) (does-stands (asker_of processes p now) files kinds call it.effect p old_terms new_terms it.does)
 
 pub asked-stands : (call : PathCall) (asker : Asker) (files : Files) (end : CallEnd) (regs : Regs) (cells : Cells)
     (new : Files) (old_terms new_terms : List TerminalState) → AskerAttempts call asker files end regs cells new
@@ -94,33 +94,33 @@ module _ (step : Step ProgramFile) (reading : Result ProgramFile ℕ) (old new :
       by_outcome (inl (is, none)) = none-many old.drives it.drives none
       by_outcome (inr broken) = broken.failed.as_many
 
-module _ (inner : Inner) (asker : Asker) (old : Files) (terms p : ℕ) (result : CallResult) (new : Files) where
-  pub load-kinds : LoadAttempts inner asker old terms p result new → AreKinds old → AreKinds new
+module _ (processes : Processes) (asker : Asker) (old : Files) (terms p : ℕ) (result : CallResult) (new : Files) where
+  pub load-kinds : LoadAttempts processes asker old terms p result new → AreKinds old → AreKinds new
   load-kinds it kinds = reads-kinds _ it.reading old new it.reads kinds
 
-  pub load-many : LoadAttempts inner asker old terms p result new → AreAsMany old new
+  pub load-many : LoadAttempts processes asker old terms p result new → AreAsMany old new
   load-many it = reads-many _ it.reading old new it.reads
 
   -- what is left where a program of a file is started, or one that is entered
-  abbrev Starts : (Inner → ℕ → Program → CallResult) → CallResult → Option Entered → Type 0
-  Starts start named entered = MatchOption entered (StartsFile start inner asker old terms p result new) (λ entered. (result ≡ named) × (new ≡ old))
+  abbrev Starts : (Processes → ℕ → Program → CallResult) → CallResult → Option Entered → Type 0
+  Starts start named entered = MatchOption entered (StartsFile start processes asker old terms p result new) (λ entered. (result ≡ named) × (new ≡ old))
 
-  starts-kinds : (start : Inner → ℕ → Program → CallResult) (named : CallResult) (entered : Option Entered) → Starts start named entered → AreKinds old → AreKinds new
+  starts-kinds : (start : Processes → ℕ → Program → CallResult) (named : CallResult) (entered : Option Entered) → Starts start named entered → AreKinds old → AreKinds new
   starts-kinds start named None it kinds = reads-kinds _ it.reading old new it.reads kinds
   starts-kinds start named (Some entered) (is, same) kinds = subst AreKinds (sym same) kinds
 
-  starts-many : (start : Inner → ℕ → Program → CallResult) (named : CallResult) (entered : Option Entered) → Starts start named entered → AreAsMany old new
+  starts-many : (start : Processes → ℕ → Program → CallResult) (named : CallResult) (entered : Option Entered) → Starts start named entered → AreAsMany old new
   starts-many start named None it = reads-many _ it.reading old new it.reads
   starts-many start named (Some entered) (is, same) = subst (AreAsMany old) (sym same) (many-same old)
 
-  pub fork-kinds : ForkAttempts inner asker old terms p result new → AreKinds old → AreKinds new
-  fork-kinds it = starts-kinds forks (f_fork inner p) (named_program inner p) it
+  pub fork-kinds : ForkAttempts processes asker old terms p result new → AreKinds old → AreKinds new
+  fork-kinds it = starts-kinds forks (f_fork processes p) (named_program processes p) it
 
-  pub fork-many : ForkAttempts inner asker old terms p result new → AreAsMany old new
-  fork-many it = starts-many forks (f_fork inner p) (named_program inner p) it
+  pub fork-many : ForkAttempts processes asker old terms p result new → AreAsMany old new
+  fork-many it = starts-many forks (f_fork processes p) (named_program processes p) it
 
-  pub chain-kinds : ChainAttempts inner asker old terms p result new → AreKinds old → AreKinds new
-  chain-kinds it = starts-kinds chains (f_chain inner p) (named_program inner p) it
+  pub chain-kinds : ChainAttempts processes asker old terms p result new → AreKinds old → AreKinds new
+  chain-kinds it = starts-kinds chains (f_chain processes p) (named_program processes p) it
 
-  pub chain-many : ChainAttempts inner asker old terms p result new → AreAsMany old new
-  chain-many it = starts-many chains (f_chain inner p) (named_program inner p) it
+  pub chain-many : ChainAttempts processes asker old terms p result new → AreAsMany old new
+  chain-many it = starts-many chains (f_chain processes p) (named_program processes p) it

@@ -10,7 +10,7 @@ use Rattle.os9_outer.specs.TerminalState.{TerminalState}
 use Rattle.user_names.specs.declared.name_fault.NameFault.{NameFault}
 use Rattle.user_names.specs.declared.name_fault.NameFault.TheVariants.{Unreadable, NoName}
 use Rattle.call_rules.specs.CallResult.{CallResult}
-use Rattle.call_rules.specs.Inner.{Inner}
+use Rattle.call_rules.specs.Processes.{Processes}
 use Rattle.device_table.specs.Names.{device_of}
 use Rattle.device_table.specs.declared.devices.Dev.{Dev}
 use Rattle.device_table.specs.declared.devices.Dev.TheVariants.{Drive, Term, Pipe}
@@ -29,12 +29,12 @@ use Rattle.io_rules.specs.Step.{IoEnd, IoStep, answers, fails, keeps, refused as
 use Rattle.io_rules.specs.declared.io_call.IoCall.{IoCall}
 use Rattle.io_rules.specs.declared.io_call.IoCall.TheVariants as Device
 use Rattle.file_rules.specs.Attempts.{FileAttempts, asker_of, file_step, files_after, io_effect}
-use Rattle.file_rules.specs.Create.{creates_on_way}
+use Rattle.file_rules.specs.Create.{creates_on_route}
 use Rattle.file_rules.specs.Files.{Files, Asker, directory_of, open_file, open_file_at, place_of_target, volume_at, with_io, with_records}
 use Rattle.file_rules.specs.Locking.{records_after}
-use Rattle.file_rules.specs.Open.{is_for_execution, opens_on_way, tests_mode}
+use Rattle.file_rules.specs.Open.{is_for_execution, opens_on_route, tests_mode}
 use Rattle.file_rules.specs.Step.{FileEffect, FileStep, refused, comes, as_io, FileDoes, on_files, refuses_so, with_drives_after}
-use Rattle.file_rules.specs.Way.{Way, is_drive, is_root, list_of, nowhere, reads_list, to_device, to_device_of, way_by, way_from, way_of, way_of_device, way_on_drive, way_to_new}
+use Rattle.file_rules.specs.Route.{Route, is_drive, is_root, list_of, nowhere, reads_list, to_device, to_device_of, route_by, route_from, route_of, route_of_device, route_on_drive, route_to_new}
 use Rattle.file_rules.specs.declared.path_call.PathCall.{PathCall}
 use Rattle.file_rules.specs.declared.path_call.PathCall.TheVariants as Call
 use Rattle.lock_model.specs.declared.place.FilePlace.{FilePlace}
@@ -50,9 +50,9 @@ Agrees step device =
     (step ≡ comes (as_io device)) ⊎ ((number : ℕ) × (step ≡ refused number) × (device ≡ io_refused number))
 
 -- a list leads to a device, or both ways are refused with the same number
-abbrev WayAgrees : Way → Lead → Type 0
-WayAgrees way lead =
-    (way ≡ to_device) ⊎ ((number : ℕ) × (way ≡ nowhere number) × (lead ≡ leads_nowhere number))
+abbrev WayAgrees : Route → Lead → Type 0
+WayAgrees route lead =
+    (route ≡ to_device) ⊎ ((number : ℕ) × (route ≡ nowhere number) × (lead ≡ leads_nowhere number))
 
 module _ (asker : Asker) (files : Files) (terms : ℕ) (bare : HasNoFiles files asker.caller.process.0) where
   -- ---- a number names no file
@@ -76,30 +76,30 @@ module _ (asker : Asker) (files : Files) (terms : ℕ) (bare : HasNoFiles files 
     slash-agrees true lead = inr (E_BPNAM, refl, refl)
     slash-agrees false lead = inl refl
 
-    device-agrees : (device : Option Dev) → WayAgrees (way_of_device files list device) (on_device what_is_there list device)
+    device-agrees : (device : Option Dev) → WayAgrees (route_of_device files list device) (on_device what_is_there list device)
     device-agrees None = inr (E_MNF, refl, refl)
-    device-agrees (Some (Drive drive)) = inr (E_MNF, ap (way_on_drive drive list.names) (bare.volumes drive), refl)
+    device-agrees (Some (Drive drive)) = inr (E_MNF, ap (route_on_drive drive list.names) (bare.volumes drive), refl)
     device-agrees (Some (Term terminal)) = slash-agrees (has_slash_behind_device list) _
     device-agrees (Some Pipe) = slash-agrees (has_slash_behind_device list) _
 
-    from-agrees : WayAgrees (way_from (directory_of files asker.caller.process.0 execute) list.names) (leads_nowhere E_PNNF)
-    from-agrees = inr (E_PNNF, ap (λ (place : Option FilePlace). way_from place list.names) (bare.directories execute), refl)
+    from-agrees : WayAgrees (route_from (directory_of files asker.caller.process.0 execute) list.names) (leads_nowhere E_PNNF)
+    from-agrees = inr (E_PNNF, ap (λ (place : Option FilePlace). route_from place list.names) (bare.directories execute), refl)
 
-    way-agrees : (device : Option (List ℕ)) → WayAgrees (way_by asker files terms execute list device) (lead_by_device what_is_there (length files.drives) terms list device)
+    way-agrees : (device : Option (List ℕ)) → WayAgrees (route_by asker files terms execute list device) (lead_by_device what_is_there (length files.drives) terms list device)
     way-agrees None = from-agrees
     way-agrees (Some device) = device-agrees (device_of (length files.drives) terms device)
 
     -- nothing is made at a root
-    root-agrees : (root : Bool) (drive : ℕ) → WayAgrees (if root && true then nowhere E_BPNAM else way_on_drive drive
+    root-agrees : (root : Bool) (drive : ℕ) → WayAgrees (if root && true then nowhere E_BPNAM else route_on_drive drive
         list.names (volume_at files drive)) (leads_nowhere (if root then E_BPNAM else E_MNF))
     root-agrees true drive = inr (E_BPNAM, refl, refl)
-    root-agrees false drive = inr (E_MNF, ap (way_on_drive drive list.names) (bare.volumes drive), refl)
+    root-agrees false drive = inr (E_MNF, ap (route_on_drive drive list.names) (bare.volumes drive), refl)
 
-    no-root : (root : Bool) (way : Way) (lead : Lead) → WayAgrees way lead → WayAgrees (if root && false then nowhere E_BPNAM else way) lead
-    no-root true way lead agrees = agrees
-    no-root false way lead agrees = agrees
+    no-root : (root : Bool) (route : Route) (lead : Lead) → WayAgrees route lead → WayAgrees (if root && false then nowhere E_BPNAM else route) lead
+    no-root true route lead agrees = agrees
+    no-root false route lead agrees = agrees
 
-    new-device : (device : Option Dev) → WayAgrees (if (length list.names == 0) && is_drive device then nowhere E_BPNAM else way_of_device files list device) (on_device a_new_place list device)
+    new-device : (device : Option Dev) → WayAgrees (if (length list.names == 0) && is_drive device then nowhere E_BPNAM else route_of_device files list device) (on_device a_new_place list device)
     new-device None = no-root (length list.names == 0) (nowhere E_MNF) (leads_nowhere E_MNF) (inr (E_MNF, refl, refl))
     new-device (Some (Drive drive)) = root-agrees (length list.names == 0) drive
     new-device (Some (Term terminal)) =
@@ -109,16 +109,16 @@ module _ (asker : Asker) (files : Files) (terms : ℕ) (bare : HasNoFiles files 
 
     new-way : (device : Option (List ℕ)) → WayAgrees (if (length list.names == 0) && option_map_or
         (λ device. is_drive (device_of (length files.drives) terms device)) device false then nowhere E_BPNAM else
-        way_by asker files terms execute list device) (lead_by_device a_new_place (length files.drives) terms list
+        route_by asker files terms execute list device) (lead_by_device a_new_place (length files.drives) terms list
         device)
     new-way None =
-        no-root (length list.names == 0) (way_from (directory_of files asker.caller.process.0 execute) list.names) (leads_nowhere E_PNNF) from-agrees
+        no-root (length list.names == 0) (route_from (directory_of files asker.caller.process.0 execute) list.names) (leads_nowhere E_PNNF) from-agrees
     new-way (Some device) = new-device (device_of (length files.drives) terms device)
 
-    new-agrees : WayAgrees (way_to_new asker files terms execute list) (lead_of a_new_place (length files.drives) terms list)
+    new-agrees : WayAgrees (route_to_new asker files terms execute list) (lead_of a_new_place (length files.drives) terms list)
     new-agrees = by_dots (ends_in_dots list)
       where
-        by_dots : (dots : Bool) → WayAgrees (if dots || is_root files terms list then nowhere E_BPNAM else way_of
+        by_dots : (dots : Bool) → WayAgrees (if dots || is_root files terms list then nowhere E_BPNAM else route_of
             asker files terms execute list) (if dots then leads_nowhere E_BPNAM else lead_by_device a_new_place
             (length files.drives) terms list list.device)
         by_dots true = inr (E_BPNAM, refl, refl)
@@ -145,41 +145,41 @@ module _ (asker : Asker) (files : Files) (terms : ℕ) (bare : HasNoFiles files 
   open-agrees : Agrees (file_step Call.Open asker files terms) (opens_device asker.caller files.io (length files.drives) terms)
   open-agrees =
       list-agrees (opens_device asker.caller files.io (length files.drives) terms) (is_mode asker.caller.regs.a)
-      (λ list. opens_on_way asker files terms list
-      (way_of asker files terms (is_for_execution asker.caller.regs.a) list))
+      (λ list. opens_on_route asker files terms list
+      (route_of asker files terms (is_for_execution asker.caller.regs.a) list))
       (lead_of what_is_there (length files.drives) terms)
-      (λ list. by_way list (way_of asker files terms (is_for_execution asker.caller.regs.a) list)
+      (λ list. by_way list (route_of asker files terms (is_for_execution asker.caller.regs.a) list)
       (lead_of what_is_there (length files.drives) terms list) (way-agrees (is_for_execution asker.caller.regs.a)
       list list.device))
       (list_of asker) refl
     where
-      by_way : (list : PathList) (way : Way) (lead : Lead) → WayAgrees way lead
-          → (opens_on_way asker files terms list way ≡ comes
+      by_way : (list : PathList) (route : Route) (lead : Lead) → WayAgrees route lead
+          → (opens_on_route asker files terms list route ≡ comes
           (as_io (opens_device asker.caller files.io (length files.drives) terms))) ⊎
-          ((number : ℕ) × (opens_on_way asker files terms list way ≡ refused number) ×
+          ((number : ℕ) × (opens_on_route asker files terms list route ≡ refused number) ×
           (opens_lead asker.caller files.io list lead ≡ io_refused number))
-      by_way list way lead (inl is) = inl (ap (opens_on_way asker files terms list) is)
-      by_way list way lead (inr (number, here, there)) =
-          inr (number, ap (opens_on_way asker files terms list) here, ap (opens_lead asker.caller files.io list) there)
+      by_way list route lead (inl is) = inl (ap (opens_on_route asker files terms list) is)
+      by_way list route lead (inr (number, here, there)) =
+          inr (number, ap (opens_on_route asker files terms list) here, ap (opens_lead asker.caller files.io list) there)
 
   create-agrees : Agrees (file_step Call.Create asker files terms) (creates_device asker.caller files.io (length files.drives) terms)
   create-agrees =
       list-agrees (creates_device asker.caller files.io (length files.drives) terms) (can_write asker.caller.regs.a)
-      (λ list. creates_on_way asker files terms list (way_to_new asker files terms
+      (λ list. creates_on_route asker files terms list (route_to_new asker files terms
       (is_for_execution asker.caller.regs.a) list)) (lead_of a_new_place (length files.drives) terms)
-      (λ list. by_way list (way_to_new asker files terms (is_for_execution asker.caller.regs.a) list)
+      (λ list. by_way list (route_to_new asker files terms (is_for_execution asker.caller.regs.a) list)
       (lead_of a_new_place (length files.drives) terms list) (new-agrees (is_for_execution asker.caller.regs.a)
       list))
       (list_of asker) refl
     where
-      by_way : (list : PathList) (way : Way) (lead : Lead) → WayAgrees way lead
-          → (creates_on_way asker files terms list way ≡ comes
+      by_way : (list : PathList) (route : Route) (lead : Lead) → WayAgrees route lead
+          → (creates_on_route asker files terms list route ≡ comes
           (as_io (creates_device asker.caller files.io (length files.drives) terms))) ⊎
-          ((number : ℕ) × (creates_on_way asker files terms list way ≡ refused number) ×
+          ((number : ℕ) × (creates_on_route asker files terms list route ≡ refused number) ×
           (opens_lead asker.caller files.io list lead ≡ io_refused number))
-      by_way list way lead (inl is) = inl (ap (creates_on_way asker files terms list) is)
-      by_way list way lead (inr (number, here, there)) =
-          inr (number, ap (creates_on_way asker files terms list) here, ap (opens_lead asker.caller files.io list) there)
+      by_way list route lead (inl is) = inl (ap (creates_on_route asker files terms list) is)
+      by_way list route lead (inr (number, here, there)) =
+          inr (number, ap (creates_on_route asker files terms list) here, ap (opens_lead asker.caller files.io list) there)
 
   -- ---- each call
 
@@ -215,17 +215,17 @@ module _ (asker : Asker) (files : Files) (terms : ℕ) (bare : HasNoFiles files 
 
 -- ---- attempts
 
-module _ (call : PathCall) (device : IoCall) (inner : Inner) (files : Files) (now : TimePacket) (p : ℕ) (result : CallResult) (is : device_call call ≡ Some device) where
+module _ (call : PathCall) (device : IoCall) (processes : Processes) (files : Files) (now : TimePacket) (p : ℕ) (result : CallResult) (is : device_call call ≡ Some device) where
   abbrev asker : Asker
-  asker = asker_of inner p now
+  asker = asker_of processes p now
 
   -- both are refused
   refused-does : (number : ℕ) (effect : FileEffect) (old new : List TerminalState) → io_step device asker.caller
       files.io (length files.drives) (length old) ≡ io_refused number → FileDoes (refused number) asker files effect
-      old new → IsOnDevice call inner files p (result_of inner p (io_effect effect)) (files_after p effect) old new
+      old new → IsOnDevice call processes files p (result_of processes p (io_effect effect)) (files_after p effect) old new
   refused-does number effect old new device_is (inr (broken, same)) = absurd (none-some broken.drive broken.reached)
   refused-does number effect old new device_is (inl well) =
-      subst (λ (effect : FileEffect). IsOnDevice call inner files p (result_of inner p (io_effect effect)) (files_after p effect) old new)
+      subst (λ (effect : FileEffect). IsOnDevice call processes files p (result_of processes p (io_effect effect)) (files_after p effect) old new)
       (sym (well.effect_is ∙ ap (λ (it : FileEffect). with_drives_after it well.drives) well.does.0))
       (record {
         device = device;
@@ -247,15 +247,16 @@ module _ (call : PathCall) (device : IoCall) (inner : Inner) (files : Files) (no
   -- a step that agrees with theirs is one of theirs
   pub agreed-attempt : (left : Files) (old new : List TerminalState)
       → Agrees (file_step call asker files (length old)) (io_step device asker.caller files.io (length files.drives)
-      (length old)) → FileAttempts call inner files now p result left old new → IsOnDevice call inner files p result
+      (length old)) → FileAttempts call processes files now p result left old new → IsOnDevice call processes files p result
       left old new
-  agreed-attempt left old new (inl step_is) it = step-on-device call device is inner files now p old new result left it step_is
+  agreed-attempt left old new (inl step_is) it = step-on-device call device is processes files now p old new result left it step_is
   agreed-attempt left old new (inr (number, step_is, device_is)) it =
-      subst (λ (result : CallResult). IsOnDevice call inner files p result left old new) (sym it.result_is)
-      (subst (λ (left : Files). IsOnDevice call inner files p (result_of inner p (io_effect it.effect)) left old new) (sym it.state)
+      subst (λ (result : CallResult). IsOnDevice call processes files p result left old new) (sym it.result_is)
+      (subst (λ (left : Files). IsOnDevice call processes files p (result_of processes p (io_effect it.effect)) left old new) (sym it.state)
       (refused-does number it.effect old new device_is (subst (λ (step : FileStep). FileDoes step asker files it.effect old new) step_is it.does)))
 
-  pub bare-attempt : (left : Files) (old new : List TerminalState) → HasNoFiles files p → FileAttempts call inner files now p result left old new → IsOnDevice call inner files p result left old new
+  pub bare-attempt : (left : Files) (old new : List TerminalState) → HasNoFiles files p → FileAttempts call processes files now p result left old new
+      → IsOnDevice call processes files p result left old new
   bare-attempt left old new bare it = agreed-attempt left old new (agrees-by asker files (length old) bare call device is) it
 
   -- a process without a request has none to forget
@@ -270,10 +271,10 @@ module _ (call : PathCall) (device : IoCall) (inner : Inner) (files : Files) (no
   quiet-records (keeps kept) none = forgets-none none
 
   -- and back
-  attempts-by : (left : Io) (old new : List TerminalState) (it : IoAttempts device inner files.io
+  attempts-by : (left : Io) (old new : List TerminalState) (it : IoAttempts device processes files.io
       (length files.drives) p result left old new) → HasNoFiles files p
       → FileDoes (file_step call asker files (length old)) asker files (on_files p files it.effect) old new
-      → FileAttempts call inner files now p result (with_io files left) old new
+      → FileAttempts call processes files now p result (with_io files left) old new
   attempts-by left old new it bare does = record {
     effect = on_files p files it.effect;
     does = does;
@@ -281,13 +282,13 @@ module _ (call : PathCall) (device : IoCall) (inner : Inner) (files : Files) (no
     state = ap (with_io files) it.state ∙ ap (with_records (with_io files (io_after p it.effect))) (sym (quiet-records it.effect.end bare.requests));
   }
 
-  pub bare-back : (left : Io) (old new : List TerminalState) → HasNoFiles files p → IoAttempts device inner files.io
-      (length files.drives) p result left old new → FileAttempts call inner files now p result (with_io files left)
+  pub bare-back : (left : Io) (old new : List TerminalState) → HasNoFiles files p → IoAttempts device processes files.io
+      (length files.drives) p result left old new → FileAttempts call processes files now p result (with_io files left)
       old new
   bare-back left old new bare it = by_step (agrees-by asker files (length old) bare call device is)
     where
       by_step : Agrees (file_step call asker files (length old)) (io_step device asker.caller files.io
-          (length files.drives) (length old)) → FileAttempts call inner files now p result (with_io files left) old
+          (length files.drives) (length old)) → FileAttempts call processes files now p result (with_io files left) old
           new
       by_step (inl step_is) =
           attempts-by left old new it bare

@@ -13,7 +13,7 @@ use Rattle.io_rules.specs.PathList.{PathList}
 use Rattle.io_rules.specs.Step.{IoEffect, answers, fails}
 use Rattle.file_rules.specs.Files.{Files, volume_at}
 use Rattle.file_rules.specs.Step.{refused, reaches, needs, refuses, FileStep, Deed, leaves_so, as_io, changes, deed_of, done}
-use Rattle.file_rules.specs.Way.{Found, along, list_of, reads_list as reads_list_of, walk_ends, walks}
+use Rattle.file_rules.specs.Route.{Found, along, list_of, reads_list as reads_list_of, walk_ends, walks}
 use Rattle.lock_model.specs.declared.place.FilePlace.{FilePlace}
 use Rattle.file_laws.specs.Causes.{FileCause, Finds, IsUnreadable, Leads, Walks, bad_address, finds_nothing, may_not_pass, no_name, no_volume, not_there, reads_list}
 use Rattle.file_laws.specs.Claims.{Made}

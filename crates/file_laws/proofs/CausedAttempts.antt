@@ -4,7 +4,7 @@ use Rattle.os9_base.specs.declared.errors.TheConstants.{E_SLF}
 use Rattle.os9_base.specs.declared.registers.TimePacket.{TimePacket}
 use Rattle.os9_outer.specs.TerminalState.{TerminalState}
 use Rattle.call_rules.specs.CallResult.{CallResult}
-use Rattle.call_rules.specs.Inner.{Inner}
+use Rattle.call_rules.specs.Processes.{Processes}
 use Rattle.io_rules.specs.Attempts.{result_of}
 use Rattle.io_rules.specs.Step.{fails}
 use Rattle.io_rules.specs.declared.io_call.IoCall.TheVariants as Device
@@ -44,24 +44,24 @@ step-caused Call.PErr asker files terms = perr-caused asker files terms
 same-fails : (n m : ℕ) → fails n ≡ fails m → n ≡ m
 same-fails n m is = cc
 
-module _ (call : PathCall) (inner : Inner) (files : Files) (now : TimePacket) (p : ℕ) (old new : List TerminalState) (number : ℕ) where
+module _ (call : PathCall) (processes : Processes) (files : Files) (now : TimePacket) (p : ℕ) (old new : List TerminalState) (number : ℕ) where
   abbrev step : FileStep
-  step = file_step call (asker_of inner p now) files (length old)
+  step = file_step call (asker_of processes p now) files (length old)
 
   abbrev On : FileEffect → Type 0
-  On effect = IsOnDevice call inner files p (result_of inner p (io_effect effect)) (files_after p effect) old new × IsOnNoFile call (asker_of inner p now) files (length old)
+  On effect = IsOnDevice call processes files p (result_of processes p (io_effect effect)) (files_after p effect) old new × IsOnNoFile call (asker_of processes p now) files (length old)
 
   abbrev Why : Type 0
-  Why = FileCause (made call (asker_of inner p now) files (length old)) number
+  Why = FileCause (made call (asker_of processes p now) files (length old)) number
 
   by-deed : (deed : Deed) → deed_of step files ≡ deed → (it : FileEffect) (drives : List DriveState)
-      → NoneFailed files.drives drives → Caused (made call (asker_of inner p now) files (length old)) deed
-      → DoesDeed deed (asker_of inner p now) files it old new → it.end ≡ fails number
+      → NoneFailed files.drives drives → Caused (made call (asker_of processes p now) files (length old)) deed
+      → DoesDeed deed (asker_of processes p now) files it old new → it.end ≡ fails number
       → On (with_drives_after it drives) ⊎ Why
   by-deed (leaves_so effect) deed_is it drives none caused (is, same) ended =
       inr (caused number (sym (ap (λ (it : FileEffect). it.end) is) ∙ ended))
   by-deed (as_io io) deed_is it drives none (inl on) (effect, does, is) ended =
-      inl (subst (λ (it : FileEffect). On (with_drives_after it drives)) (sym is) (on-device call inner files now p old new io effect drives none on.0 does, on.1))
+      inl (subst (λ (it : FileEffect). On (with_drives_after it drives)) (sym is) (on-device call processes files now p old new io effect drives none on.0 does, on.1))
   by-deed (as_io io) deed_is it drives none (inr why) (effect, does, is) ended =
       inr (why effect old new number does (sym (ap (λ (it : FileEffect). it.end) is) ∙ ended))
   by-deed (changes change) deed_is it drives none answer (inl changed, same) ended =
@@ -72,22 +72,22 @@ module _ (call : PathCall) (inner : Inner) (files : Files) (now : TimePacket) (p
       ended))) (record { it = change; is = deed_is; v = long.old; mounted = long.is; full = long.too_long }))
 
   abbrev reached : Option ℕ
-  reached = drive_reached call (asker_of inner p now) files (length old)
+  reached = drive_reached call (asker_of processes p now) files (length old)
 
   abbrev Comes : FileEffect → Type 0
-  Comes effect = On effect ⊎ OneDriveFails reached files (result_of inner p (io_effect effect)) (files_after p effect) ⊎ Why
+  Comes effect = On effect ⊎ OneDriveFails reached files (result_of processes p (io_effect effect)) (files_after p effect) ⊎ Why
 
-  comes-of : (effect : FileEffect) → FileDoes step (asker_of inner p now) files effect old new → effect.end ≡ fails number → Comes effect
+  comes-of : (effect : FileEffect) → FileDoes step (asker_of processes p now) files effect old new → effect.end ≡ fails number → Comes effect
   comes-of effect (inl well) ended =
       subst Comes (sym well.effect_is) (by_case (by-deed (deed_of step files) refl well.it well.drives
-      well.none_failed (step-caused call (asker_of inner p now) files (length old)) well.does
+      well.none_failed (step-caused call (asker_of processes p now) files (length old)) well.does
       (sym (ap (λ (it : FileEffect). it.end) well.effect_is) ∙ ended)))
     where
       by_case : On (with_drives_after well.it well.drives) ⊎ Why → Comes (with_drives_after well.it well.drives)
       by_case (inl on) = inl on
       by_case (inr why) = inr (inr why)
   comes-of effect (inr (broken, same)) ended = inr
-      (inl (subst (λ (effect : FileEffect). OneDriveFails reached files (result_of inner p (io_effect effect))
+      (inl (subst (λ (effect : FileEffect). OneDriveFails reached files (result_of processes p (io_effect effect))
       (files_after p effect)) (sym broken.effect_is) (record {
         drive = broken.drive;
         reaches = broken.reached;
@@ -100,16 +100,16 @@ module _ (call : PathCall) (inner : Inner) (files : Files) (now : TimePacket) (p
         is = refl;
       })))
 
-module _ (call : PathCall) (inner : Inner) (files : Files) (now : TimePacket) (p : ℕ) (before after : List TerminalState) (number : ℕ) where
+module _ (call : PathCall) (processes : Processes) (files : Files) (now : TimePacket) (p : ℕ) (before after : List TerminalState) (number : ℕ) where
   -- it is on a terminal or a pipe, on no file; or the drive that it reached failed; or it has its cause
   abbrev Has : CallResult → Files → Type 0
   Has result new =
-      IsOnDevice call inner files p result new before after × IsOnNoFile call (asker_of inner p now) files (length before)
-      ⊎ OneDriveFails (drive_reached call (asker_of inner p now) files (length before)) files result new
-      ⊎ FileCause (made call (asker_of inner p now) files (length before)) number
+      IsOnDevice call processes files p result new before after × IsOnNoFile call (asker_of processes p now) files (length before)
+      ⊎ OneDriveFails (drive_reached call (asker_of processes p now) files (length before)) files result new
+      ⊎ FileCause (made call (asker_of processes p now) files (length before)) number
 
-  pub refusal-caused : (result : CallResult) (new : Files) → FileAttempts call inner files now p result new before after → result ≡ CallResult.refused number → Has result new
+  pub refusal-caused : (result : CallResult) (new : Files) → FileAttempts call processes files now p result new before after → result ≡ CallResult.refused number → Has result new
   refusal-caused result new it refused =
       subst (λ (result : CallResult). Has result new) (sym it.result_is)
-      (subst (Has (result_of inner p (io_effect it.effect))) (sym it.state)
-      (comes-of call inner files now p before after number it.effect it.does (ends-refused it.effect.end inner p (io_effect it.effect) number (sym it.result_is ∙ refused))))
+      (subst (Has (result_of processes p (io_effect it.effect))) (sym it.state)
+      (comes-of call processes files now p before after number it.effect it.does (ends-refused it.effect.end processes p (io_effect it.effect) number (sym it.result_is ∙ refused))))

@@ -20,7 +20,7 @@ use Rattle.file_rules.specs.MakDir.{past_list}
 use Rattle.file_rules.specs.Open.{is_for_execution, tests_mode}
 use Rattle.file_rules.specs.Sharing.{is_open}
 use Rattle.file_rules.specs.Step.{FileStep, refused, comes, changes, leaves, needs, refuses}
-use Rattle.file_rules.specs.Way.{Found, Way, along, before_last, last_of, list_of, nowhere, to_device, way_by, way_from, way_of, way_of_device, way_on_drive}
+use Rattle.file_rules.specs.Route.{Found, Route, along, before_last, last_of, list_of, nowhere, to_device, route_by, route_from, route_of, route_of_device, route_on_drive}
 use Rattle.file_rules.specs.declared.path_call.PathCall.TheVariants as Call
 use Rattle.lock_model.specs.declared.place.FilePlace.{FilePlace}
 use Rattle.file_laws.specs.Causes.{FindsIn, Leads, Walks, a_device, a_root, deletes_name, executes, forbidden_in, is_used, makes_new, not_in, reads_list}
@@ -76,9 +76,9 @@ module _ (m : Made) (reads : reads_list m.call ≡ true) (deletes_it : deletes_n
       (λ none. not_in found name refl deletes_it finds none)
       (λ n there. goes list name found n finds there))
 
-  delete-way : (list : PathList) (way : Way) → Leads m way → (last : Option (List ℕ))
-      → ((place : FilePlace) (names : List (List ℕ)) → way ≡ along place names → last_of names ≡ last)
-      → D (deletes_named m.asker m.files execute list way last)
+  delete-way : (list : PathList) (route : Route) → Leads m route → (last : Option (List ℕ))
+      → ((place : FilePlace) (names : List (List ℕ)) → route ≡ along place names → last_of names ≡ last)
+      → D (deletes_named m.asker m.files execute list route last)
   delete-way list (along place names) leads None last_is =
       let last = last_is place names refl in
       caused-walks m execute names names (λ place v end leads mounted is. walks_so names place v end leads mounted
@@ -91,7 +91,7 @@ module _ (m : Made) (reads : reads_list m.call ≡ true) (deletes_it : deletes_n
   delete-way list to_device leads last last_is = caused-refused m E_FNA (a_device refl other_open other_create leads)
   delete-way list (nowhere number) leads last last_is = caused-refused m number (nowhere-caused m number leads)
 
--- ---- the names behind the start of a way are those of the list
+-- ---- the names behind the start of a route are those of the list
 
 names-along : (from place : FilePlace) (names others : List (List ℕ)) → along from names ≡ along place others → others ≡ names
 names-along from place names others is = cc
@@ -103,11 +103,11 @@ device-along : (place : FilePlace) (names : List (List ℕ)) → to_device ≡ a
 device-along place names is = cc
 
 module _ (asker : Asker) (files : Files) (terms : ℕ) (execute : Bool) (list : PathList) (place : FilePlace) (names : List (List ℕ)) where
-  from-names : (start : Option FilePlace) → way_from start list.names ≡ along place names → names ≡ list.names
+  from-names : (start : Option FilePlace) → route_from start list.names ≡ along place names → names ≡ list.names
   from-names None is = absurd (nowhere-along E_PNNF place names is)
   from-names (Some start) is = names-along start place list.names names is
 
-  drive-names : (drive : ℕ) (v : Option DiskVolume) → way_on_drive drive list.names v ≡ along place names → names ≡ list.names
+  drive-names : (drive : ℕ) (v : Option DiskVolume) → route_on_drive drive list.names v ≡ along place names → names ≡ list.names
   drive-names drive None is = absurd (nowhere-along _ place names is)
   drive-names drive (Some v) is = names-along _ place list.names names is
 
@@ -115,20 +115,20 @@ module _ (asker : Asker) (files : Files) (terms : ℕ) (execute : Bool) (list : 
   slash-names true is = absurd (nowhere-along E_BPNAM place names is)
   slash-names false is = absurd (device-along place names is)
 
-  device-names : (device : Option Dev) → way_of_device files list device ≡ along place names → names ≡ list.names
+  device-names : (device : Option Dev) → route_of_device files list device ≡ along place names → names ≡ list.names
   device-names None is = absurd (nowhere-along _ place names is)
   device-names (Some (Drive drive)) is = drive-names drive (volume_at files drive) is
   device-names (Some (Term terminal)) is = slash-names (has_slash_behind_device list) is
   device-names (Some Pipe) is = slash-names (has_slash_behind_device list) is
 
-  way-names : (device : Option (List ℕ)) → way_by asker files terms execute list device ≡ along place names → names ≡ list.names
+  way-names : (device : Option (List ℕ)) → route_by asker files terms execute list device ≡ along place names → names ≡ list.names
   way-names None is = from-names (directory_of files asker.caller.process.0 execute) is
   way-names (Some device) is = device-names (device_of (length files.drives) terms device) is
 
 -- ---- the calls
 
 last-of : (asker : Asker) (files : Files) (terms : ℕ) (execute : Bool) (list : PathList) (place : FilePlace)
-    (names : List (List ℕ)) → way_of asker files terms execute list ≡ along place names → last_of names ≡ last_of
+    (names : List (List ℕ)) → route_of asker files terms execute list ≡ along place names → last_of names ≡ last_of
     list.names
 last-of asker files terms execute list place names is =
     ap last_of (way-names asker files terms execute list place names list.device is)
@@ -137,23 +137,23 @@ module _ (asker : Asker) (files : Files) (terms : ℕ) where
   pub delete-caused : StepCaused (made Call.Delete asker files terms) (i_delete asker files terms)
   delete-caused =
       caused-list (made Call.Delete asker files terms) refl (λ is. (refl, is)) (list_of asker) refl (λ step. step)
-      (λ list. deletes_named asker files false list (way_of asker files terms false list) (last_of list.names))
+      (λ list. deletes_named asker files false list (route_of asker files terms false list) (last_of list.names))
       (λ step holds. holds)
       (λ list read. delete-way (made Call.Delete asker files terms) refl refl false refl (λ same. cc) (λ same. cc)
       (λ names place v end leads mounted is. record { leads = leads; mounted = mounted; is = is }) list
-      (way_of asker files terms false list) (record { reads = refl; list = list; read = read; is = refl })
+      (route_of asker files terms false list) (record { reads = refl; list = list; read = read; is = refl })
       (last_of list.names) (last-of asker files terms false list))
 
   pub deletx-caused : StepCaused (made Call.DeletX asker files terms) (i_deletx asker files terms)
   deletx-caused =
       caused-list (made Call.DeletX asker files terms) refl (λ is. (refl, is)) (list_of asker) refl
       (tests_mode (is_mode asker.caller.regs.a)) (λ list. deletes_named asker files
-      (is_for_execution asker.caller.regs.a) list (way_of asker files terms (is_for_execution asker.caller.regs.a)
+      (is_for_execution asker.caller.regs.a) list (route_of asker files terms (is_for_execution asker.caller.regs.a)
       list) (last_of list.names))
       (tests (made Call.DeletX asker files terms) (is_mode asker.caller.regs.a) (λ bad. bad))
       (λ list read. delete-way (made Call.DeletX asker files terms) refl refl (is_for_execution asker.caller.regs.a)
       refl (λ same. cc) (λ same. cc) (λ names place v end leads mounted is. record
       { leads = leads; mounted = mounted; is = is }) list
-      (way_of asker files terms (is_for_execution asker.caller.regs.a) list)
+      (route_of asker files terms (is_for_execution asker.caller.regs.a) list)
       (record { reads = refl; list = list; read = read; is = refl }) (last_of list.names)
       (last-of asker files terms (is_for_execution asker.caller.regs.a) list))

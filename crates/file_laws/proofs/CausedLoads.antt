@@ -18,7 +18,7 @@ use Rattle.proc_rules.specs.Records.{free_process}
 use Rattle.call_rules.specs.CallResult.{CallResult, changes, done, needs as call_needs, refuses as call_refuses, refused as call_refused}
 use Rattle.call_rules.specs.Chain.{f_chain}
 use Rattle.call_rules.specs.Fork.{f_fork}
-use Rattle.call_rules.specs.Inner.{Inner, own_at, regs_at, with_memory}
+use Rattle.call_rules.specs.Processes.{Processes, own_at, regs_at, with_memory}
 use Rattle.call_rules.specs.Link.{links_at, mapped_group}
 use Rattle.call_rules.specs.ModuleLinks.{Entered, entered_at}
 use Rattle.call_rules.specs.Program.{Program, asks_for_program, most_pages, program_kind}
@@ -30,10 +30,10 @@ use Rattle.file_rules.specs.Files.{Asker, Files, NoneFailed, volume_at}
 use Rattle.file_rules.specs.Load.{GoesOnLoaded, LoadAttempts, Loaded, Loads, first_entered, links_first, loaded_by, with_file_entered}
 use Rattle.file_rules.specs.Open.{may_open}
 use Rattle.file_rules.specs.Program.{ChainAttempts, ForkAttempts, StartsFile, chains, forks, loaded_program, named_program, parameters_of, starts_first, tests_program}
-use Rattle.file_rules.specs.ProgramFile.{ProgramFile, ReadingIsBroken, ReadsProgram, program_file, program_found, program_on_way, reading_of}
+use Rattle.file_rules.specs.ProgramFile.{ProgramFile, ReadingIsBroken, ReadsProgram, program_file, program_found, program_on_route, reading_of}
 use Rattle.file_rules.specs.Sharing.{is_not_shared}
 use Rattle.file_rules.specs.Step.{Step, comes, drive_of, needs, reaches, refused, refuses}
-use Rattle.file_rules.specs.Way.{Found, Way, along, list_of, nowhere, reads_list, to_device, walk_ends, walks, way_of}
+use Rattle.file_rules.specs.Route.{Found, Route, along, list_of, nowhere, reads_list, to_device, walk_ends, walks, route_of}
 use Rattle.lock_model.specs.declared.place.FilePlace.{FilePlace}
 use Rattle.file_laws.specs.Causes.{FileCause, Finds, Leads, LeadsNowhere, bad_address, dots, finds_nothing, forbidden, may_not_pass, no_device, no_directory, no_name, no_volume, not_mounted, not_shared, not_there, root, slash}
 use Rattle.file_laws.specs.Claims.{Made}
@@ -130,7 +130,7 @@ module _ (asker : Asker) (files : Files) (terms : ℕ) (Tested : ℕ → Type 0)
       by_end v mounted not_found is =
           opened E_PNNF (λ same. omega (arith, same)) (finds_nothing names place v refl (record { leads = leads; mounted = mounted; is = is }))
 
-  k-way : (list : PathList) (way : Way) → Leads (looking asker files terms) way → K (program_on_way asker files list way)
+  k-way : (list : PathList) (route : Route) → Leads (looking asker files terms) route → K (program_on_route asker files list route)
   k-way list (along place names) leads = k-walks list names place leads
   k-way list to_device leads = inr (to_a_device refl leads)
   k-way list (nowhere number) leads =
@@ -139,9 +139,10 @@ module _ (asker : Asker) (files : Files) (terms : ℕ) (Tested : ℕ → Type 0)
   pub file-caused : (test : Step ProgramFile → Step ProgramFile) → ((step : Step ProgramFile) → K step → K (test step)) → K (program_file asker files terms test)
   file-caused test tests = by_list (list_of asker) refl
     where
-      by_list : (read : Result PathList NameFault) → list_of asker ≡ read → K (reads_list read test (λ list. program_on_way asker files list (way_of asker files terms true list)))
+      by_list : (read : Result PathList NameFault) → list_of asker ≡ read → K (reads_list read test (λ list. program_on_route asker files list (route_of asker files terms true list)))
       by_list (Ok list) is =
-          tests (program_on_way asker files list (way_of asker files terms true list)) (k-way list (way_of asker files terms true list) (record { reads = refl; list = list; read = is; is = refl }))
+          tests (program_on_route asker files list (route_of asker files terms true list))
+              (k-way list (route_of asker files terms true list) (record { reads = refl; list = list; read = is; is = refl }))
       by_list (Err Unreadable) is = opened E_BPADDR (λ same. omega (arith, same)) (bad_address refl (refl, is))
       by_list (Err NoName) is =
           tests (refused E_BPNAM) (opened E_BPNAM (λ same. omega (arith, same)) (no_name refl refl is))
@@ -151,7 +152,7 @@ module _ (asker : Asker) (files : Files) (terms : ℕ) (Tested : ℕ → Type 0)
 same-refusal : (n m : ℕ) → call_refused n ≡ call_refused m → m ≡ n
 same-refusal n m is = cc
 
-not-done : (number : ℕ) (m : Inner) → done m ≡ call_refused number → ⊥
+not-done : (number : ℕ) (m : Processes) → done m ≡ call_refused number → ⊥
 not-done number m is = cc
 
 -- a file that is not in memory, and one that is
@@ -212,7 +213,7 @@ module _ (m : MemoryState) (file : List ℕ) (loaded : Loaded) where
       by_entries (Err (at, refusal)) is = absurd (not-loaded refusal loaded (sym is))
       by_entries (Ok entries) is = there-by-first entries (first_entered m entries) refl is
 
-module _ (m : Inner) (asker : Asker) (files : Files) (terms : ℕ) (Tested : ℕ → Type 0) (Ends : ProgramFile → Loaded → ℕ → Type 0) (number : ℕ) where
+module _ (m : Processes) (asker : Asker) (files : Files) (terms : ℕ) (Tested : ℕ → Type 0) (Ends : ProgramFile → Loaded → ℕ → Type 0) (number : ℕ) where
   abbrev Why : Type 0
   Why = CauseOfLoad m asker files terms Tested Ends number
 
@@ -297,7 +298,7 @@ needs-so : {A : Type 0} (o : Option A) (error number : ℕ) (next : A → CallRe
 needs-so None error number next P none rest is = none refl (same-refusal error number is)
 needs-so (Some a) error number next P none rest is = rest a refl is
 
-module _ (m : Inner) (p number : ℕ) where
+module _ (m : Processes) (p number : ℕ) where
   link-caused : (file : ProgramFile) (loaded : Loaded) → IsThere loaded → links_first m p file loaded ≡ call_refused number → LinkCause m p loaded number
   link-caused file loaded there is =
       needs-so (mapped_group loaded.memory p loaded.first.entry.group) E_MEMFUL number _ (LinkCause m p loaded number)
@@ -311,7 +312,7 @@ module _ (m : Inner) (p number : ℕ) where
     program = loaded_program m p file loaded.first
 
     -- the memory is taken, by the entry of the module
-    module _ (begins : Option ℕ) (q : ℕ) (begins_is : begins ≡ Some q) (next : MemoryState → Inner) where
+    module _ (begins : Option ℕ) (q : ℕ) (begins_is : begins ≡ Some q) (next : MemoryState → Processes) where
       abbrev blocks : ℕ
       blocks = blocks_for m p file loaded
 
@@ -343,7 +344,7 @@ module _ (m : Inner) (p number : ℕ) where
           (subst (λ (entry : Option ModuleEntry). changes (option_map_or (started_with loaded.memory q blocks) entry (Err MemFull)) (λ memory. done (next memory)) ≡ call_refused number) there is)
 
     -- the test of the module's type, before it is started
-    first-caused : (begins : Option ℕ) (start : Inner → ℕ → Program → CallResult)
+    first-caused : (begins : Option ℕ) (start : Processes → ℕ → Program → CallResult)
         → (start (with_memory m loaded.memory) p program ≡ call_refused number → StartCause m p begins file loaded
         number) → starts_first start m p file loaded ≡ call_refused number → StartCause m p begins file loaded number
     first-caused begins start starts is =
@@ -352,7 +353,7 @@ module _ (m : Inner) (p number : ℕ) where
         (λ same is. starts is) is
 
     -- the pages are tested, and then the memory is taken
-    pages-caused : IsThere loaded → (begins : Option ℕ) (q : ℕ) → begins ≡ Some q → (next : MemoryState → Inner)
+    pages-caused : IsThere loaded → (begins : Option ℕ) (q : ℕ) → begins ≡ Some q → (next : MemoryState → Processes)
         → call_refuses (nat_lt most_pages program.pages) E_MEMFUL
         (changes (started loaded.memory q loaded.first.number (blocks_for m p file loaded))
         (λ memory. done (next memory))) ≡ call_refused number → StartCause m p begins file loaded number
@@ -383,7 +384,7 @@ module _ (m : Inner) (p number : ℕ) where
       (λ test. inl (other_type refl (not-is (asks_for_program (regs_at m p).a) test)))
       (λ asks. holds))
 
-module _ (m : Inner) (asker : Asker) (old : Files) (terms p number : ℕ) (new : Files) where
+module _ (m : Processes) (asker : Asker) (old : Files) (terms p number : ℕ) (new : Files) where
   pub load-caused : LoadAttempts m asker old terms p (call_refused number) new
       → FaultAnswers (drive_of (program_file asker old terms (λ step. step))) old (call_refused number) new ⊎
       LoadCause m asker old terms p number
@@ -396,7 +397,7 @@ module _ (m : Inner) (asker : Asker) (old : Files) (terms p number : ℕ) (new :
   start_drive = drive_of (program_file asker old terms (tests_program m p))
 
   -- a start of a program in a file
-  start-caused : (begins : Option ℕ) (start : Inner → ℕ → Program → CallResult)
+  start-caused : (begins : Option ℕ) (start : Processes → ℕ → Program → CallResult)
       → ((file : ProgramFile) (loaded : Loaded) → IsThere loaded → starts_first start m p file loaded ≡ call_refused
       number → StartCause m p begins file loaded number) → (named : CallResult) → named_program m p ≡ None
       → MatchOption (named_program m p) (StartsFile start m asker old terms p (call_refused number) new)

@@ -15,14 +15,14 @@ use Rattle.io_rules.specs.PathList.{PathList}
 use Rattle.io_rules.specs.Step.{answers}
 use Rattle.io_rules.specs.declared.io_call.IoCall.TheVariants as Device
 use Rattle.file_rules.specs.Change.{creates, makes_directory}
-use Rattle.file_rules.specs.ChgDir.{goes_on_way, goes_to, i_chgdir, may_go_to}
-use Rattle.file_rules.specs.Create.{clusters_for, creates_in, creates_on_way, creates_with_path, has_room_for, i_create, opens_new}
+use Rattle.file_rules.specs.ChgDir.{goes_on_route, goes_to, i_chgdir, may_go_to}
+use Rattle.file_rules.specs.Create.{clusters_for, creates_in, creates_on_route, creates_with_path, has_room_for, i_create, opens_new}
 use Rattle.file_rules.specs.Files.{Files, Asker, directories_at, target_on, with_directories_of, with_directory, with_path_table}
-use Rattle.file_rules.specs.MakDir.{i_makdir, makes_in, makes_on_way, new_directory_size, past_list}
-use Rattle.file_rules.specs.Open.{begins_on, i_open, is_for_execution, may_open, opens_found, opens_on_way, says_directory, tests_mode}
+use Rattle.file_rules.specs.MakDir.{i_makdir, makes_in, makes_on_route, new_directory_size, past_list}
+use Rattle.file_rules.specs.Open.{begins_on, i_open, is_for_execution, may_open, opens_found, opens_on_route, says_directory, tests_mode}
 use Rattle.file_rules.specs.Sharing.{is_not_shared}
 use Rattle.file_rules.specs.Step.{FileStep, comes, changes, done, leaves, needs, refuses}
-use Rattle.file_rules.specs.Way.{Found, Way, along, before_last, last_of, list_of, nowhere, to_device, walks, way_of, way_to_new}
+use Rattle.file_rules.specs.Route.{Found, Route, along, before_last, last_of, list_of, nowhere, to_device, walks, route_of, route_to_new}
 use Rattle.file_rules.specs.declared.path_call.PathCall.TheVariants as Call
 use Rattle.file_laws.specs.Causes.{FindsIn, HasBadMode, Leads, a_device, bad_mode, executes, first_size, forbidden, forbidden_in, makes_new, no_last, no_number, no_room, no_segment, not_shared, reads_list, there_already}
 use Rattle.file_laws.specs.Claims.{Made}
@@ -83,7 +83,7 @@ module _ (asker : Asker) (files : Files) (terms : ℕ) where
   abbrev opening : Made
   opening = made Call.Open asker files terms
 
-  open-way : (list : PathList) (way : Way) → Leads opening way → StepCaused opening (opens_on_way asker files terms list way)
+  open-way : (list : PathList) (route : Route) → Leads opening route → StepCaused opening (opens_on_route asker files terms list route)
   open-way list (along place names) leads =
       caused-walks opening (is_for_execution asker.caller.regs.a) names names (λ place v end leads mounted is. record
       { leads = leads; mounted = mounted; is = is }) place (opens_found asker files list) leads (λ found finds.
@@ -104,17 +104,17 @@ module _ (asker : Asker) (files : Files) (terms : ℕ) where
   pub open-caused : StepCaused (made Call.Open asker files terms) (i_open asker files terms)
   open-caused =
       caused-list opening refl (λ is. (refl, is)) (list_of asker) refl (tests_mode (is_mode asker.caller.regs.a))
-      (λ list. opens_on_way asker files terms list
-      (way_of asker files terms (is_for_execution asker.caller.regs.a) list))
+      (λ list. opens_on_route asker files terms list
+      (route_of asker files terms (is_for_execution asker.caller.regs.a) list))
       (tests opening (is_mode asker.caller.regs.a) (λ bad. bad))
-      (λ list read. open-way list (way_of asker files terms (is_for_execution asker.caller.regs.a) list) (record { reads = refl; list = list; read = read; is = refl }))
+      (λ list read. open-way list (route_of asker files terms (is_for_execution asker.caller.regs.a) list) (record { reads = refl; list = list; read = read; is = refl }))
 
   -- ---- I$Create
 
   abbrev creating : Made
   creating = made Call.Create asker files terms
 
-  create-way : (list : PathList) (way : Way) → Leads creating way → StepCaused creating (creates_on_way asker files terms list way)
+  create-way : (list : PathList) (route : Route) → Leads creating route → StepCaused creating (creates_on_route asker files terms list route)
   create-way list (along place names) leads =
       caused-needs creating (last_of names) E_BPNAM (λ name. walks asker files (is_for_execution asker.caller.regs.a) place (before_last names) (creates_in asker files list name))
       (λ none. no_last names place refl refl leads none)
@@ -153,17 +153,17 @@ module _ (asker : Asker) (files : Files) (terms : ℕ) where
   pub create-caused : StepCaused (made Call.Create asker files terms) (i_create asker files terms)
   create-caused =
       caused-list creating refl (λ is. (refl, is)) (list_of asker) refl (tests_mode (can_write asker.caller.regs.a))
-      (λ list. creates_on_way asker files terms list (way_to_new asker files terms
+      (λ list. creates_on_route asker files terms list (route_to_new asker files terms
       (is_for_execution asker.caller.regs.a) list))
       (tests creating (can_write asker.caller.regs.a) (λ bad. bad))
-      (λ list read. create-way list (way_to_new asker files terms (is_for_execution asker.caller.regs.a) list) (record { reads = refl; list = list; read = read; is = refl }))
+      (λ list read. create-way list (route_to_new asker files terms (is_for_execution asker.caller.regs.a) list) (record { reads = refl; list = list; read = read; is = refl }))
 
   -- ---- I$MakDir
 
   abbrev making : Made
   making = made Call.MakDir asker files terms
 
-  make-way : (list : PathList) (way : Way) → Leads making way → StepCaused making (makes_on_way asker files list way)
+  make-way : (list : PathList) (route : Route) → Leads making route → StepCaused making (makes_on_route asker files list route)
   make-way list (along place names) leads =
       caused-needs making (last_of names) E_BPNAM (λ name. walks asker files false place (before_last names) (makes_in asker files list name))
       (λ none. no_last names place refl refl leads none)
@@ -201,16 +201,16 @@ module _ (asker : Asker) (files : Files) (terms : ℕ) where
 
   pub makdir-caused : StepCaused (made Call.MakDir asker files terms) (i_makdir asker files terms)
   makdir-caused =
-      caused-list making refl (λ is. (refl, is)) (list_of asker) refl (λ step. step) (λ list. makes_on_way asker files list (way_to_new asker files terms false list))
+      caused-list making refl (λ is. (refl, is)) (list_of asker) refl (λ step. step) (λ list. makes_on_route asker files list (route_to_new asker files terms false list))
       (λ step holds. holds)
-      (λ list read. make-way list (way_to_new asker files terms false list) (record { reads = refl; list = list; read = read; is = refl }))
+      (λ list read. make-way list (route_to_new asker files terms false list) (record { reads = refl; list = list; read = read; is = refl }))
 
   -- ---- I$ChgDir
 
   abbrev going : Made
   going = made Call.ChgDir asker files terms
 
-  go-way : (list : PathList) (way : Way) → Leads going way → StepCaused going (goes_on_way asker files list way)
+  go-way : (list : PathList) (route : Route) → Leads going route → StepCaused going (goes_on_route asker files list route)
   go-way list (along place names) leads =
       caused-walks going (is_for_execution asker.caller.regs.a) names names (λ place v end leads mounted is. record
       { leads = leads; mounted = mounted; is = is }) place (goes_to asker files list) leads (λ found finds.
@@ -228,7 +228,7 @@ module _ (asker : Asker) (files : Files) (terms : ℕ) where
   pub chgdir-caused : StepCaused (made Call.ChgDir asker files terms) (i_chgdir asker files terms)
   chgdir-caused =
       caused-list going refl (λ is. (refl, is)) (list_of asker) refl (tests_mode (is_mode asker.caller.regs.a))
-      (λ list. goes_on_way asker files list (way_of asker files terms (is_for_execution asker.caller.regs.a)
+      (λ list. goes_on_route asker files list (route_of asker files terms (is_for_execution asker.caller.regs.a)
       list))
       (tests going (is_mode asker.caller.regs.a) (λ bad. bad))
-      (λ list read. go-way list (way_of asker files terms (is_for_execution asker.caller.regs.a) list) (record { reads = refl; list = list; read = read; is = refl }))
+      (λ list read. go-way list (route_of asker files terms (is_for_execution asker.caller.regs.a) list) (record { reads = refl; list = list; read = read; is = refl }))

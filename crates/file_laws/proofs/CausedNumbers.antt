@@ -18,7 +18,7 @@ use Rattle.rbf_change.specs.Calls.{cluster_size, free_total}
 use Rattle.rbf_change.specs.Contents.{written}
 use Rattle.rbf_change.specs.Growth.{clusters_needed}
 use Rattle.rbf_change.specs.NewFiles.{owns_file}
-use Rattle.io_model.specs.declared.kept.Kept.{Kept}
+use Rattle.io_model.specs.declared.pending.PendingCall.{PendingCall}
 use Rattle.io_rules.specs.Attempts.{Does, io_step}
 use Rattle.io_rules.specs.Close.{i_close as closes_device}
 use Rattle.io_rules.specs.Io.{OpenPath, open_path}
@@ -35,7 +35,7 @@ use Rattle.io_rules.specs.declared.io_call.IoCall.TheVariants as Device
 use Rattle.file_rules.specs.Change.{Change, writes, sizes, sets_attributes}
 use Rattle.file_rules.specs.Files.{Files, Asker, OpenFile, open_file, with_position, with_records, with_ticks}
 use Rattle.file_rules.specs.Close.{files_after_close, i_close}
-use Rattle.file_rules.specs.Locking.{answer_to, asks_by, first_request, is_for_update, request_kept, request_now}
+use Rattle.file_rules.specs.Locking.{answer_to, asks_by, first_request, is_for_update, pending_request, request_now}
 use Rattle.file_rules.specs.declared.claim.Claim.{Claim}
 use Rattle.file_rules.specs.OnFile.{by_kind, moves_bytes, on_file}
 use Rattle.file_rules.specs.Read.{bytes_at, i_read, i_readln, read_claim, read_start, reads_file, reads_freely, reads_locked}
@@ -58,8 +58,8 @@ use Rattle.file_laws.proofs.Splits.{not-refused}
 abbrev pub made : PathCall → Asker → Files → ℕ → Made
 made call asker files terms = record { call = call; asker = asker; files = files; terms = terms }
 
-not-kept : (kept : Kept) (number : ℕ) → keeps kept ≡ fails number → ⊥
-not-kept kept number is = cc
+not-kept : (pending : PendingCall) (number : ℕ) → keeps pending ≡ fails number → ⊥
+not-kept pending number is = cc
 
 module _ (m : Made) where
   abbrev C : FileStep → Type 0
@@ -165,7 +165,7 @@ module _ (m : Made) where
         asks-caused claim claims _
         (grows (writes found.place.number at bytes) (length (written found.file.contents at bytes))
         (asks (length (written found.file.contents at bytes))
-        (ap (λ (at : ℕ). length (written found.file.contents at bytes)) (start-by (request_kept m.asker m.files)
+        (ap (λ (at : ℕ). length (written found.file.contents at bytes)) (start-by (pending_request m.asker m.files)
         (first_request m.asker found claim) refl)))
         regs _)
         (answer_to m.asker m.files (request_now m.asker m.files found claim)) refl
@@ -220,7 +220,7 @@ module _ (asker : Asker) (files : Files) (terms : ℕ) where
   pub writln-caused : StepCaused (made Call.WritLn asker files terms) (i_writln asker files)
   writln-caused =
       on-number (made Call.WritLn asker files terms) asker.caller.regs.a (writes_device_line asker.caller files.io) _ (theirs Call.WritLn Device.WritLn refl) (λ found names.
-      caused-needs (made Call.WritLn asker files terms) (line_moved asker (request_kept asker files)) E_BPADDR (sends_bytes asker files found I_WRITLN)
+      caused-needs (made Call.WritLn asker files terms) (line_moved asker (pending_request asker files)) E_BPADDR (sends_bytes asker files found I_WRITLN)
       (λ none. bad_address refl none)
       (λ bytes is. send (made Call.WritLn asker files terms) found names I_WRITLN bytes
       (λ can. Claims.writes_line bytes refl can is refl) (λ some size size_is. (bytes, is, some, size_is))

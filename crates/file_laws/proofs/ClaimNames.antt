@@ -22,15 +22,15 @@ use Rattle.io_rules.specs.PathList.{PathList, ends_in_dots, has_slash_behind_dev
 use Rattle.io_rules.specs.Step.{answers}
 use Rattle.io_rules.specs.declared.io_call.IoCall.TheVariants as Served
 use Rattle.file_rules.specs.Change.{creates, deletes, makes_directory}
-use Rattle.file_rules.specs.ChgDir.{goes_on_way, goes_to, i_chgdir, may_go_to}
-use Rattle.file_rules.specs.Create.{clusters_for, creates_in, creates_on_way, creates_with_path, has_room_for, i_create, opens_new}
+use Rattle.file_rules.specs.ChgDir.{goes_on_route, goes_to, i_chgdir, may_go_to}
+use Rattle.file_rules.specs.Create.{clusters_for, creates_in, creates_on_route, creates_with_path, has_room_for, i_create, opens_new}
 use Rattle.file_rules.specs.Delete.{deletes_by, deletes_file, deletes_in, deletes_named, i_delete, i_deletx}
 use Rattle.file_rules.specs.Files.{Asker, Files, directories_at, directory_of, target_on, volume_at, with_directories_of, with_directory, with_path_table}
-use Rattle.file_rules.specs.MakDir.{i_makdir, makes_in, makes_on_way, new_directory_size, past_list}
-use Rattle.file_rules.specs.Open.{begins_on, i_open, is_for_execution, may_open, opens_found, opens_on_way, says_directory, tests_mode}
+use Rattle.file_rules.specs.MakDir.{i_makdir, makes_in, makes_on_route, new_directory_size, past_list}
+use Rattle.file_rules.specs.Open.{begins_on, i_open, is_for_execution, may_open, opens_found, opens_on_route, says_directory, tests_mode}
 use Rattle.file_rules.specs.Sharing.{is_not_shared, is_open}
 use Rattle.file_rules.specs.Step.{FileStep, changes, comes, done, leaves, needs, refused, refuses}
-use Rattle.file_rules.specs.Way.{Found, Way, along, before_last, is_root, last_of, list_of, nowhere, to_device, walks, way_by, way_from, way_of, way_of_device, way_on_drive, way_to_new}
+use Rattle.file_rules.specs.Route.{Found, Route, along, before_last, is_root, last_of, list_of, nowhere, to_device, walks, route_by, route_from, route_of, route_of_device, route_on_drive, route_to_new}
 use Rattle.file_rules.specs.declared.path_call.PathCall.{PathCall}
 use Rattle.file_rules.specs.declared.path_call.PathCall.TheVariants as Call
 use Rattle.file_laws.proofs.ClaimSteps.{ClaimedOn, IsClaimedChange, IsFolderIn, StepClaimed, is_of_lock, list-by, needs-by, none-on, none-so, refuses-by, still-answered, walks-so}
@@ -38,12 +38,12 @@ use Rattle.file_laws.proofs.ClaimSteps.{ClaimedOn, IsClaimedChange, IsFolderIn, 
 -- ---- ways that lead nowhere
 
 -- no lock is why a list leads nowhere
-abbrev IsOtherWay : Way → Type 0
+abbrev IsOtherWay : Route → Type 0
 IsOtherWay (along from names) = Unit {0}
 IsOtherWay to_device = Unit {0}
 IsOtherWay (nowhere number) = is_of_lock number ≡ false
 
-way-on-drive : (drive : ℕ) (names : List (List ℕ)) (volume : Option DiskVolume) → IsOtherWay (way_on_drive drive names volume)
+way-on-drive : (drive : ℕ) (names : List (List ℕ)) (volume : Option DiskVolume) → IsOtherWay (route_on_drive drive names volume)
 way-on-drive drive names None = refl
 way-on-drive drive names (Some v) = tt
 
@@ -51,28 +51,28 @@ way-to-device : (behind : Bool) → IsOtherWay (if behind then nowhere E_BPNAM e
 way-to-device true = refl
 way-to-device false = tt
 
-way-of-device : (files : Files) (list : PathList) (device : Option Dev) → IsOtherWay (way_of_device files list device)
+way-of-device : (files : Files) (list : PathList) (device : Option Dev) → IsOtherWay (route_of_device files list device)
 way-of-device files list None = refl
 way-of-device files list (Some (Device.Drive drive)) = way-on-drive drive list.names (volume_at files drive)
 way-of-device files list (Some (Device.Term terminal)) = way-to-device (has_slash_behind_device list)
 way-of-device files list (Some Device.Pipe) = way-to-device (has_slash_behind_device list)
 
-way-from : (place : Option FilePlace) (names : List (List ℕ)) → IsOtherWay (way_from place names)
+way-from : (place : Option FilePlace) (names : List (List ℕ)) → IsOtherWay (route_from place names)
 way-from None names = refl
 way-from (Some place) names = tt
 
 module _ (asker : Asker) (files : Files) (terms : ℕ) (execute : Bool) (list : PathList) where
-  way-by : (device : Option (List ℕ)) → IsOtherWay (way_by asker files terms execute list device)
+  way-by : (device : Option (List ℕ)) → IsOtherWay (route_by asker files terms execute list device)
   way-by None = way-from (directory_of files asker.caller.process.0 execute) list.names
   way-by (Some device) = way-of-device files list (device_of (length files.drives) terms device)
 
-  way-is : IsOtherWay (way_of asker files terms execute list)
+  way-is : IsOtherWay (route_of asker files terms execute list)
   way-is = way-by list.device
 
-  new-way-is : IsOtherWay (way_to_new asker files terms execute list)
+  new-way-is : IsOtherWay (route_to_new asker files terms execute list)
   new-way-is = by_dots (ends_in_dots list || is_root files terms list)
     where
-      by_dots : (dots : Bool) → IsOtherWay (if dots then nowhere E_BPNAM else way_of asker files terms execute list)
+      by_dots : (dots : Bool) → IsOtherWay (if dots then nowhere E_BPNAM else route_of asker files terms execute list)
       by_dots true = refl
       by_dots false = way-is
 
@@ -242,7 +242,7 @@ module _ (asker : Asker) (files : Files) (terms : ℕ) where
   abbrev execute : Bool
   execute = is_for_execution asker.caller.regs.a
 
-  open-way : (list : PathList) (way : Way) → IsOtherWay way → StepClaimed Call.Open asker files terms (opens_on_way asker files terms list way)
+  open-way : (list : PathList) (route : Route) → IsOtherWay route → StepClaimed Call.Open asker files terms (opens_on_route asker files terms list route)
   open-way list (along from names) other =
       walks-so Call.Open asker files terms execute from names (opens_found asker files list) (λ found at. opens-so Call.Open asker files terms list found)
   open-way list to_device other = inl (record { device = Served.Open; device_is = refl; is = refl })
@@ -251,12 +251,12 @@ module _ (asker : Asker) (files : Files) (terms : ℕ) where
   pub open-claimed : StepClaimed Call.Open asker files terms (i_open asker files terms)
   open-claimed =
       list-by (StepClaimed Call.Open asker files terms) (list_of asker) (tests_mode (is_mode asker.caller.regs.a))
-      (λ list. opens_on_way asker files terms list (way_of asker files terms execute list))
+      (λ list. opens_on_route asker files terms list (route_of asker files terms execute list))
       (none-so Call.Open asker files terms E_BPADDR refl) (none-so Call.Open asker files terms E_BPNAM refl)
       (mode-so Call.Open asker files terms (is_mode asker.caller.regs.a))
-      (λ list read. open-way list (way_of asker files terms execute list) (way-is asker files terms execute list))
+      (λ list read. open-way list (route_of asker files terms execute list) (way-is asker files terms execute list))
 
-  create-way : (list : PathList) (way : Way) → IsOtherWay way → StepClaimed Call.Create asker files terms (creates_on_way asker files terms list way)
+  create-way : (list : PathList) (route : Route) → IsOtherWay route → StepClaimed Call.Create asker files terms (creates_on_route asker files terms list route)
   create-way list (along from names) other =
       needs-by (StepClaimed Call.Create asker files terms) (last_of names) E_BPNAM (λ name. walks asker files execute
       from (before_last names) (creates_in asker files list name)) (none-so Call.Create asker files terms E_BPNAM
@@ -270,12 +270,12 @@ module _ (asker : Asker) (files : Files) (terms : ℕ) where
   pub create-claimed : StepClaimed Call.Create asker files terms (i_create asker files terms)
   create-claimed =
       list-by (StepClaimed Call.Create asker files terms) (list_of asker) (tests_mode (can_write asker.caller.regs.a))
-      (λ list. creates_on_way asker files terms list (way_to_new asker files terms execute list))
+      (λ list. creates_on_route asker files terms list (route_to_new asker files terms execute list))
       (none-so Call.Create asker files terms E_BPADDR refl) (none-so Call.Create asker files terms E_BPNAM refl)
       (mode-so Call.Create asker files terms (can_write asker.caller.regs.a))
-      (λ list read. create-way list (way_to_new asker files terms execute list) (new-way-is asker files terms execute list))
+      (λ list read. create-way list (route_to_new asker files terms execute list) (new-way-is asker files terms execute list))
 
-  make-way : (list : PathList) (way : Way) → IsOtherWay way → StepClaimed Call.MakDir asker files terms (makes_on_way asker files list way)
+  make-way : (list : PathList) (route : Route) → IsOtherWay route → StepClaimed Call.MakDir asker files terms (makes_on_route asker files list route)
   make-way list (along from names) other =
       needs-by (StepClaimed Call.MakDir asker files terms) (last_of names) E_BPNAM (λ name. walks asker files false
       from (before_last names) (makes_in asker files list name)) (none-so Call.MakDir asker files terms E_BPNAM
@@ -286,13 +286,13 @@ module _ (asker : Asker) (files : Files) (terms : ℕ) where
 
   pub makdir-claimed : StepClaimed Call.MakDir asker files terms (i_makdir asker files terms)
   makdir-claimed =
-      list-by (StepClaimed Call.MakDir asker files terms) (list_of asker) (λ step. step) (λ list. makes_on_way asker
-      files list (way_to_new asker files terms false list)) (none-so Call.MakDir asker files terms E_BPADDR refl)
+      list-by (StepClaimed Call.MakDir asker files terms) (list_of asker) (λ step. step) (λ list. makes_on_route asker
+      files list (route_to_new asker files terms false list)) (none-so Call.MakDir asker files terms E_BPADDR refl)
       (none-so Call.MakDir asker files terms E_BPNAM refl)
       (λ step holds. holds)
-      (λ list read. make-way list (way_to_new asker files terms false list) (new-way-is asker files terms false list))
+      (λ list read. make-way list (route_to_new asker files terms false list) (new-way-is asker files terms false list))
 
-  go-way : (list : PathList) (way : Way) → IsOtherWay way → StepClaimed Call.ChgDir asker files terms (goes_on_way asker files list way)
+  go-way : (list : PathList) (route : Route) → IsOtherWay route → StepClaimed Call.ChgDir asker files terms (goes_on_route asker files list route)
   go-way list (along from names) other =
       walks-so Call.ChgDir asker files terms execute from names (goes_to asker files list) (λ found at. goes-so Call.ChgDir asker files terms list found)
   go-way list to_device other = none-so Call.ChgDir asker files terms E_FNA refl
@@ -301,13 +301,13 @@ module _ (asker : Asker) (files : Files) (terms : ℕ) where
   pub chgdir-claimed : StepClaimed Call.ChgDir asker files terms (i_chgdir asker files terms)
   chgdir-claimed =
       list-by (StepClaimed Call.ChgDir asker files terms) (list_of asker) (tests_mode (is_mode asker.caller.regs.a))
-      (λ list. goes_on_way asker files list (way_of asker files terms execute list))
+      (λ list. goes_on_route asker files list (route_of asker files terms execute list))
       (none-so Call.ChgDir asker files terms E_BPADDR refl) (none-so Call.ChgDir asker files terms E_BPNAM refl)
       (mode-so Call.ChgDir asker files terms (is_mode asker.caller.regs.a))
-      (λ list read. go-way list (way_of asker files terms execute list) (way-is asker files terms execute list))
+      (λ list read. go-way list (route_of asker files terms execute list) (way-is asker files terms execute list))
 
   module _ (call : PathCall) (for_execution : Bool) where
-    delete-named : (list : PathList) (way : Way) → IsOtherWay way → (name : Option (List ℕ)) → StepClaimed call asker files terms (deletes_named asker files for_execution list way name)
+    delete-named : (list : PathList) (route : Route) → IsOtherWay route → (name : Option (List ℕ)) → StepClaimed call asker files terms (deletes_named asker files for_execution list route name)
     delete-named list (along from names) other None =
         walks-so call asker files terms for_execution from names (λ root. refused E_FNA) (λ found at. none-on call asker files terms found.place.drive E_FNA refl)
     delete-named list (along from names) other (Some name) =
@@ -321,9 +321,9 @@ module _ (asker : Asker) (files : Files) (terms : ℕ) where
         (deletes_by asker files terms for_execution test)
     delete-so test tests =
         list-by (StepClaimed call asker files terms) (list_of asker) test (λ list. deletes_named asker files
-        for_execution list (way_of asker files terms for_execution list) (last_of list.names))
+        for_execution list (route_of asker files terms for_execution list) (last_of list.names))
         (none-so call asker files terms E_BPADDR refl) (none-so call asker files terms E_BPNAM refl) tests
-        (λ list read. delete-named list (way_of asker files terms for_execution list) (way-is asker files terms for_execution list) (last_of list.names))
+        (λ list read. delete-named list (route_of asker files terms for_execution list) (way-is asker files terms for_execution list) (last_of list.names))
 
   pub delete-claimed : StepClaimed Call.Delete asker files terms (i_delete asker files terms)
   delete-claimed = delete-so Call.Delete false (λ step. step) (λ step holds. holds)

@@ -34,7 +34,7 @@ use Rattle.io_rules.specs.declared.status.TheConstants.{OPTION_BYTES, SS_EOF, SS
 use Rattle.file_rules.specs.Change.{Change, sets_attributes, sizes, writes}
 use Rattle.file_rules.specs.Close.{files_after_close, i_close}
 use Rattle.file_rules.specs.Files.{Asker, Files, OpenFile, open_file, with_io, with_position, with_records, with_ticks}
-use Rattle.file_rules.specs.Locking.{answer_to, first_request, is_for_update, lock_ends, position_of, request_kept, request_now, start_of}
+use Rattle.file_rules.specs.Locking.{answer_to, first_request, is_for_update, lock_ends, position_of, pending_request, request_now, start_of}
 use Rattle.file_rules.specs.OnFile.{moves_bytes}
 use Rattle.file_rules.specs.Read.{answers_bytes, bytes_at, i_read, i_readln, lock_by, read_claim, read_start, reads_file, reads_freely, reads_locked, reads_on}
 use Rattle.file_rules.specs.Seek.{i_seek, long_of, seeks_nothing}
@@ -125,7 +125,7 @@ module _ (call : PathCall) (asker : Asker) (files : Files) (terms : ℕ) where
         free = bytes_at kind asker found found.opened.desc.at
 
         -- it begins where its request does
-        begins : is_for_update found.opened.desc.mode ≡ true → (kept : Option Request) → request_kept asker files ≡ kept
+        begins : is_for_update found.opened.desc.mode ≡ true → (kept : Option Request) → pending_request asker files ≡ kept
             → (unwrap_or kept (first_request asker found (read_claim kind asker found at))).lock.range.start ≡ at
         begins update None is = refl
         begins update (Some other) is =
@@ -139,7 +139,7 @@ module _ (call : PathCall) (asker : Asker) (files : Files) (terms : ℕ) where
             asks-so call asker files terms found.place.drive request (comes-to (read_claim kind asker found at) claims)
             (comes (leaves_so (answers_bytes asker (with_records files (holding files.records found.opened.path.0 (lock_by kind request.lock bytes) bytes)) found request.lock.range.start bytes)))
             (λ answer. LeftSo.held request kind bytes (is-granted (read_claim kind asker found at) claims answer)
-            (IsTaken.by_read is (ap (bytes_at kind asker found) (sym (begins update (request_kept asker files) refl))))
+            (IsTaken.by_read is (ap (bytes_at kind asker found) (sym (begins update (pending_request asker files) refl))))
             (record { regs = count_regs asker.caller (length bytes); end = refl; volumes = refl })
             refl)
         by_mode false update more =
@@ -342,9 +342,9 @@ module _ (call : PathCall) (asker : Asker) (files : Files) (terms : ℕ) where
 
 -- a line write has the count of its request
 line-count : (asker : Asker) (files : Files) (found : OpenFile) (bytes : List ℕ)
-    → line_moved asker (request_kept asker files) ≡ Some bytes
+    → line_moved asker (pending_request asker files) ≡ Some bytes
     → (request_now asker files found (write_claim found I_WRITLN (length bytes))).count ≡ length bytes
-line-count asker files found bytes moved = by_kept (request_kept asker files) moved
+line-count asker files found bytes moved = by_kept (pending_request asker files) moved
   where
     by_kept : (kept : Option Request) → line_moved asker kept ≡ Some bytes → (unwrap_or kept (first_request asker found (write_claim found I_WRITLN (length bytes)))).count ≡ length bytes
     by_kept None is = refl
@@ -377,11 +377,11 @@ module _ (asker : Asker) (files : Files) (terms : ℕ) where
   pub writln-claimed : StepClaimed Call.WritLn asker files terms (i_writln asker files)
   writln-claimed =
       number-so Call.WritLn asker files terms asker.caller.regs.a (writes_device_line asker.caller files.io)
-      (λ found. needs (line_moved asker (request_kept asker files)) E_BPADDR (sends_bytes asker files found
+      (λ found. needs (line_moved asker (pending_request asker files)) E_BPADDR (sends_bytes asker files found
       I_WRITLN))
       (inl (record { device = Device.WritLn; device_is = refl; is = refl }))
       (λ found named. needs-by (StepClaimed Call.WritLn asker files terms)
-      (line_moved asker (request_kept asker files)) E_BPADDR (sends_bytes asker files found I_WRITLN)
+      (line_moved asker (pending_request asker files)) E_BPADDR (sends_bytes asker files found I_WRITLN)
       (none-so Call.WritLn asker files terms E_BPADDR refl)
       (λ bytes is. moves-so Call.WritLn asker files terms found can_write (writes_bytes asker files found I_WRITLN bytes (count_regs asker.caller (length bytes)))
       (λ may some. write-so Call.WritLn asker files terms found named I_WRITLN bytes (count_regs asker.caller (length bytes))

@@ -14,7 +14,7 @@ use Rattle.rbf_model.specs.File.{DiskFile, is_directory}
 use Rattle.rbf_model.specs.Volume.{DiskVolume}
 use Rattle.rbf_model.specs.Walk.{WalkEnd, arrives, not_allowed, not_found, walk}
 use Rattle.io_model.specs.declared.terminal.ReadKind.{ReadKind}
-use Rattle.io_rules.specs.Attempts.{kept_in}
+use Rattle.io_rules.specs.Attempts.{pending_in}
 use Rattle.io_rules.specs.PathList.{PathList}
 use Rattle.io_rules.specs.Step.{IoStep, answers, fails, keeps}
 use Rattle.file_rules.specs.Change.{Change, creates, deletes, makes_directory, sets_attributes, sizes, writes}
@@ -25,7 +25,7 @@ use Rattle.file_rules.specs.Read.{lock_by}
 use Rattle.file_rules.specs.Seek.{long_of, seeks_nothing}
 use Rattle.file_rules.specs.Sharing.{is_open}
 use Rattle.file_rules.specs.Step.{Deed, FileEffect, FileStep, Step, VolumeChange, as_io, changes, deed_of, done, drive_of, leaves, leaves_so, needs, reaches, refused, refuses, refuses_so}
-use Rattle.file_rules.specs.Way.{Found, reads_list, walk_ends, walks}
+use Rattle.file_rules.specs.Route.{Found, reads_list, walk_ends, walks}
 use Rattle.file_rules.specs.declared.path_call.PathCall.{PathCall}
 use Rattle.file_rules.specs.declared.path_call.PathCall.TheVariants as Call
 use Rattle.file_rules.specs.declared.status.TheConstants.{SS_SIZE}
@@ -55,7 +55,7 @@ module _ (call : PathCall) (asker : Asker) (files : Files) (terms : ℕ) where
 
   -- nothing is made of locks and volumes, and no lock is why it is refused, if it is
   pub record IsStill (it : FileEffect) : Type 0 where
-    pub over : kept_in it.end ≡ None
+    pub over : pending_in it.end ≡ None
     pub records : it.files.records ≡ files.records
     pub volumes : it.files.volumes ≡ files.volumes
     pub number : (n : ℕ) → it.end ≡ fails n → is_of_lock n ≡ false

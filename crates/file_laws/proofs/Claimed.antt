@@ -6,7 +6,7 @@ use Rattle.os9_base.specs.declared.registers.Regs.{Regs}
 use Rattle.os9_outer.specs.TerminalState.{TerminalState}
 use Rattle.lock_model.specs.Records.{Records, with_waiting, without_lock, written_by}
 use Rattle.lock_model.specs.declared.lock.Request.{Request}
-use Rattle.io_rules.specs.Attempts.{kept_in}
+use Rattle.io_rules.specs.Attempts.{pending_in}
 use Rattle.io_rules.specs.Step.{IoEnd, answers, fails, keeps}
 use Rattle.io_rules.specs.declared.io_call.IoCall.TheVariants as Device
 use Rattle.file_rules.specs.Attempts.{file_step}
@@ -57,20 +57,20 @@ module _ (call : PathCall) (asker : Asker) (files : Files) (terms : ℕ) where
   Comes end records = RecordsCome m (records_after end records p)
 
   -- an attempt that does not wait forgets the request
-  over-comes : (end : IoEnd) (records : Records) → kept_in end ≡ None → RecordsCome m (with_waiting records p None) → Comes end records
+  over-comes : (end : IoEnd) (records : Records) → pending_in end ≡ None → RecordsCome m (with_waiting records p None) → Comes end records
   over-comes end records over come = subst (RecordsCome m) (sym (over-drops end records p over)) come
 
-  still-comes : (end : IoEnd) (records : Records) → kept_in end ≡ None → records ≡ files.records → Comes end records
+  still-comes : (end : IoEnd) (records : Records) → pending_in end ≡ None → records ≡ files.records → Comes end records
   still-comes end records over same =
       over-comes end records over (RecordsCome.stay (ap (λ (records : Records). with_waiting records p None) same))
 
-  answered-over : (end : IoEnd) (regs : Regs) → end ≡ answers regs → kept_in end ≡ None
-  answered-over end regs is = ap kept_in is
+  answered-over : (end : IoEnd) (regs : Regs) → end ≡ answers regs → pending_in end ≡ None
+  answered-over end regs is = ap pending_in is
 
   device-comes : (end : IoEnd) → Comes end (with_waiting files.records p None)
   device-comes (answers regs) = RecordsCome.stay (forgets-again p files.records)
   device-comes (fails number) = RecordsCome.stay (forgets-again p files.records)
-  device-comes (keeps kept) = RecordsCome.stay refl
+  device-comes (keeps pending) = RecordsCome.stay refl
 
   refused-comes : (request : Request) (it : FileEffect) → RefusedBy call asker files terms request it → Comes it.end it.files.records
   refused-comes request it (inl (answer, is)) =

@@ -22,7 +22,7 @@ use Rattle.file_rules.specs.MakDir.{past_list}
 use Rattle.file_rules.specs.Open.{is_for_execution, tests_mode}
 use Rattle.file_rules.specs.Sharing.{is_open, is_path_on, is_same_place}
 use Rattle.file_rules.specs.Step.{FileStep, refused, comes, changes, leaves, needs, refuses}
-use Rattle.file_rules.specs.Way.{Found, Way, along, to_device, nowhere, before_last, last_of, list_of, way_of}
+use Rattle.file_rules.specs.Route.{Found, Route, along, to_device, nowhere, before_last, last_of, list_of, route_of}
 use Rattle.lock_model.specs.declared.place.FilePlace.{FilePlace}
 use Rattle.file_laws.specs.Kinds.{AreKinds}
 use Rattle.file_laws.proofs.Counts.{many-same}
@@ -121,7 +121,7 @@ module _ (asker : Asker) (files : Files) (kinds : AreKinds files) where
         (needs (look_up dir.file.contents name) E_PNNF (deletes_file asker files list name dir))
         (λ may. needs-by (KeptOn asker files dir.place.drive) none-on (look_up dir.file.contents name) E_PNNF (deletes_file asker files list name dir) (λ n is. delete-file n))
 
-  delete-way : (execute : Bool) (list : PathList) (way : Way) (name : Option (List ℕ)) → Kept asker files (deletes_named asker files execute list way name)
+  delete-way : (execute : Bool) (list : PathList) (route : Route) (name : Option (List ℕ)) → Kept asker files (deletes_named asker files execute list route name)
   delete-way execute list (along place names) None =
       walks-kept asker files kinds execute place names (λ root. refused E_FNA) (λ root found. on-refused asker files kinds root.place.drive E_FNA)
   delete-way execute list (along place names) (Some name) =
@@ -132,8 +132,8 @@ module _ (asker : Asker) (files : Files) (kinds : AreKinds files) where
   delete-by : (terms : ℕ) (execute : Bool) (test : FileStep → FileStep) → ((step : FileStep) → Kept asker files step
       → Kept asker files (test step)) → Kept asker files (deletes_by asker files terms execute test)
   delete-by terms execute test tests =
-      list-by (Kept asker files) none-kept (list_of asker) test (λ list. deletes_named asker files execute list (way_of asker files terms execute list) (last_of list.names))
-      tests (λ list. delete-way execute list (way_of asker files terms execute list) (last_of list.names))
+      list-by (Kept asker files) none-kept (list_of asker) test (λ list. deletes_named asker files execute list (route_of asker files terms execute list) (last_of list.names))
+      tests (λ list. delete-way execute list (route_of asker files terms execute list) (last_of list.names))
 
   pub delete-kept : (terms : ℕ) → Kept asker files (i_delete asker files terms)
   delete-kept terms = delete-by terms false (λ step. step) (λ step kept. kept)

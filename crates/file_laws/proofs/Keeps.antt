@@ -10,14 +10,14 @@ use Rattle.std.proofs.lemmas.Option.{none-some, option_and_then_some, same_Some}
 use Rattle.os9_base.specs.declared.registers.TimePacket.{TimePacket}
 use Rattle.os9_outer.specs.TerminalState.{TerminalState}
 use Rattle.call_rules.specs.CallResult.{CallResult}
-use Rattle.call_rules.specs.Inner.{Inner}
+use Rattle.call_rules.specs.Processes.{Processes}
 use Rattle.io_model.specs.Path.{PathTable, desc_of, free_number, free_path, numbers_of, paths_after_begin, slot_of, with_desc, with_path}
 use Rattle.io_model.specs.declared.path.Desc.{Desc}
 use Rattle.io_model.specs.declared.path.SysPath.{SysPath}
 use Rattle.io_model.specs.declared.path.Target.{Target}
 use Rattle.rbf_model.specs.File.{DiskFile}
 use Rattle.rbf_model.specs.Volume.{DiskVolume}
-use Rattle.io_rules.specs.Io.{Io, OpenPath, kept_at, new_desc, open_path, with_call, with_paths}
+use Rattle.io_rules.specs.Io.{Io, OpenPath, pending_at, new_desc, open_path, with_call, with_paths}
 use Rattle.file_rules.specs.Attempts.{asker_of}
 use Rattle.file_rules.specs.Files.{Asker, Files, OpenFile, open_file, open_file_at, place_of_target, volume_at}
 use Rattle.file_rules.specs.declared.path_call.PathCall.{PathCall}
@@ -27,7 +27,7 @@ use Rattle.file_laws.specs.Touch.{BeginsPath, KeepsCalls, KeepsIo, KeepsPaths, L
 
 -- ---- calls that wait
 
-call-none : (io : Io) (p : ℕ) → kept_at (with_call io p None) p ≡ None
+call-none : (io : Io) (p : ℕ) → pending_at (with_call io p None) p ≡ None
 call-none io p =
     elim (cases_lt p (length io.calls)) [
       | inl within ↦ get_or-set_same io.calls p None None within
@@ -316,11 +316,11 @@ stays call asker files paths (inr (inl moves)) = stay-position call asker files 
 stays call asker files paths (inr (inr (inl sets))) = stay-ticks call asker files paths sets
 stays call asker files paths (inr (inr (inr begins))) = stay-path call asker files paths begins
 
-pub io-kept : {call : PathCall} {now : TimePacket} (inner : Inner) (files : Files) (p : ℕ) (result : CallResult)
-    (new : Files) (before after : List TerminalState) → LeavesDevices call inner files now p result new before after
+pub io-kept : {call : PathCall} {now : TimePacket} (processes : Processes) (files : Files) (p : ℕ) (result : CallResult)
+    (new : Files) (before after : List TerminalState) → LeavesDevices call processes files now p result new before after
     → KeepsIo p files.io new.io
-io-kept {call} {now} inner files p result new before after it = subst (KeepsIo p files.io) (sym it.rest) (record {
-  paths = paths-kept p files.io new.io.paths (stays call (asker_of inner p now) files new.io.paths it.paths);
+io-kept {call} {now} processes files p result new before after it = subst (KeepsIo p files.io) (sym it.rest) (record {
+  paths = paths-kept p files.io new.io.paths (stays call (asker_of processes p now) files new.io.paths it.paths);
   calls = calls-kept files.io new.io.paths p;
   terminals = refl;
   pipes = refl;

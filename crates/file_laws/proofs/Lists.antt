@@ -7,11 +7,11 @@ use Rattle.io_rules.specs.Modes.{can_write, is_mode}
 use Rattle.io_rules.specs.Open.{i_create as creates_device, i_open as opens_device, opens_lead, reads_list as reads_device_list}
 use Rattle.io_rules.specs.PathList.{PathList}
 use Rattle.io_rules.specs.Step.{IoStep}
-use Rattle.file_rules.specs.Create.{creates_on_way, i_create}
+use Rattle.file_rules.specs.Create.{creates_on_route, i_create}
 use Rattle.file_rules.specs.Files.{Files, Asker}
-use Rattle.file_rules.specs.Open.{i_open, is_for_execution, opens_on_way, tests_mode}
+use Rattle.file_rules.specs.Open.{i_open, is_for_execution, opens_on_route, tests_mode}
 use Rattle.file_rules.specs.Step.{FileStep, comes, as_io}
-use Rattle.file_rules.specs.Way.{list_of, reads_list, to_device, way_of, way_to_new}
+use Rattle.file_rules.specs.Route.{list_of, reads_list, to_device, route_of, route_to_new}
 use Rattle.file_laws.proofs.Bare.{Agrees}
 
 module _ (asker : Asker) (files : Files) (whole : IoStep) (lead : PathList → Lead) (next : PathList → FileStep) where
@@ -29,19 +29,19 @@ module _ (asker : Asker) (files : Files) (whole : IoStep) (lead : PathList → L
   )
 
 module _ (asker : Asker) (files : Files) (terms : ℕ) (list : PathList) (is : list_of asker ≡ Ok list) where
-  pub open-agrees : way_of asker files terms (is_for_execution asker.caller.regs.a) list ≡ to_device
+  pub open-agrees : route_of asker files terms (is_for_execution asker.caller.regs.a) list ≡ to_device
       → Agrees (i_open asker files terms) (opens_device asker.caller files.io (length files.drives) terms)
-  open-agrees way =
+  open-agrees route =
       read-agrees asker files (opens_device asker.caller files.io (length files.drives) terms)
-      (lead_of what_is_there (length files.drives) terms) (λ list. opens_on_way asker files terms list
-      (way_of asker files terms (is_for_execution asker.caller.regs.a) list)) (is_mode asker.caller.regs.a) list
-      (ap (opens_on_way asker files terms list) way) (list_of asker) is refl
+      (lead_of what_is_there (length files.drives) terms) (λ list. opens_on_route asker files terms list
+      (route_of asker files terms (is_for_execution asker.caller.regs.a) list)) (is_mode asker.caller.regs.a) list
+      (ap (opens_on_route asker files terms list) route) (list_of asker) is refl
 
-  pub create-agrees : way_to_new asker files terms (is_for_execution asker.caller.regs.a) list ≡ to_device
+  pub create-agrees : route_to_new asker files terms (is_for_execution asker.caller.regs.a) list ≡ to_device
       → Agrees (i_create asker files terms) (creates_device asker.caller files.io (length files.drives) terms)
-  create-agrees way =
+  create-agrees route =
       read-agrees asker files (creates_device asker.caller files.io (length files.drives) terms)
-      (lead_of a_new_place (length files.drives) terms) (λ list. creates_on_way asker files terms list
-      (way_to_new asker files terms (is_for_execution asker.caller.regs.a) list)) (can_write asker.caller.regs.a)
+      (lead_of a_new_place (length files.drives) terms) (λ list. creates_on_route asker files terms list
+      (route_to_new asker files terms (is_for_execution asker.caller.regs.a) list)) (can_write asker.caller.regs.a)
       list
-      (ap (creates_on_way asker files terms list) way) (list_of asker) is refl
+      (ap (creates_on_route asker files terms list) route) (list_of asker) is refl

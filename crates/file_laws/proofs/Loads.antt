@@ -4,7 +4,7 @@ use Rattle.std.specs.Prelude.{MatchOption}
 use Rattle.call_rules.specs.CallResult.{CallResult}
 use Rattle.call_rules.specs.Chain.{f_chain}
 use Rattle.call_rules.specs.Fork.{f_fork}
-use Rattle.call_rules.specs.Inner.{Inner}
+use Rattle.call_rules.specs.Processes.{Processes}
 use Rattle.call_rules.specs.ModuleLinks.{Entered}
 use Rattle.call_rules.specs.Program.{Program}
 use Rattle.file_rules.specs.Files.{Asker, Files, NoneFailed, with_drives}
@@ -18,7 +18,7 @@ leaves-same : (reached : Option ℕ) (old : Files) (result : CallResult) → Lea
 leaves-same reached old result = record { io = refl; directories = refl; volumes = refl; records = refl; drives = inl refl }
 
 -- what a reading of a file leaves
-module _ (s : Inner) (step : Step ProgramFile) (next : ProgramFile → Loaded → CallResult) (old : Files) (result : CallResult) where
+module _ (s : Processes) (step : Step ProgramFile) (next : ProgramFile → Loaded → CallResult) (old : Files) (result : CallResult) where
   goes-refused : (reading : Result ProgramFile ℕ) (number : ℕ) → reading ≡ Err number → GoesOnLoaded s reading next result → result ≡ CallResult.refused number
   goes-refused reading number is goes = subst (λ (reading : Result ProgramFile ℕ). GoesOnLoaded s reading next result) is goes
 
@@ -38,26 +38,26 @@ module _ (s : Inner) (step : Step ProgramFile) (next : ProgramFile → Loaded �
       by_outcome (inr broken) =
           inr (record { drive = broken.drive; reaches = broken.reached; number = broken.number; failed = broken.failed; answer = goes-refused reading broken.number broken.is goes })
 
-module _ (inner : Inner) (asker : Asker) (old : Files) (terms p : ℕ) (result : CallResult) (new : Files) where
-  pub load-leaves : LoadAttempts inner asker old terms p result new → LeavesFiles (drive_of (program_file asker old terms (λ step. step))) old result new
+module _ (processes : Processes) (asker : Asker) (old : Files) (terms p : ℕ) (result : CallResult) (new : Files) where
+  pub load-leaves : LoadAttempts processes asker old terms p result new → LeavesFiles (drive_of (program_file asker old terms (λ step. step))) old result new
   load-leaves it =
-      reads-leave inner (program_file asker old terms (λ step. step)) (links_first inner p) old result it.reading new it.reads it.comes
+      reads-leave processes (program_file asker old terms (λ step. step)) (links_first processes p) old result it.reading new it.reads it.comes
 
   -- the drive that the path list of a program leads to, if it leads to one
   abbrev start_drive : Option ℕ
-  start_drive = drive_of (program_file asker old terms (tests_program inner p))
+  start_drive = drive_of (program_file asker old terms (tests_program processes p))
 
   -- a program of a file, or one that is entered
-  starts-leave : (start : Inner → ℕ → Program → CallResult) (named : CallResult) (entered : Option Entered)
-      → MatchOption entered (StartsFile start inner asker old terms p result new) (λ entered. (result ≡ named) ×
+  starts-leave : (start : Processes → ℕ → Program → CallResult) (named : CallResult) (entered : Option Entered)
+      → MatchOption entered (StartsFile start processes asker old terms p result new) (λ entered. (result ≡ named) ×
       (new ≡ old)) → LeavesFiles start_drive old result new
   starts-leave start named None it =
-      reads-leave inner (program_file asker old terms (tests_program inner p)) (starts_first start inner p) old result it.reading new it.reads it.comes
+      reads-leave processes (program_file asker old terms (tests_program processes p)) (starts_first start processes p) old result it.reading new it.reads it.comes
   starts-leave start named (Some entered) (is, same) =
       subst (LeavesFiles start_drive old result) (sym same) (leaves-same start_drive old result)
 
-  pub fork-leaves : ForkAttempts inner asker old terms p result new → LeavesFiles start_drive old result new
-  fork-leaves it = starts-leave forks (f_fork inner p) (named_program inner p) it
+  pub fork-leaves : ForkAttempts processes asker old terms p result new → LeavesFiles start_drive old result new
+  fork-leaves it = starts-leave forks (f_fork processes p) (named_program processes p) it
 
-  pub chain-leaves : ChainAttempts inner asker old terms p result new → LeavesFiles start_drive old result new
-  chain-leaves it = starts-leave chains (f_chain inner p) (named_program inner p) it
+  pub chain-leaves : ChainAttempts processes asker old terms p result new → LeavesFiles start_drive old result new
+  chain-leaves it = starts-leave chains (f_chain processes p) (named_program processes p) it

@@ -20,12 +20,12 @@ use Rattle.io_rules.specs.Open.{i_create as opens_for_create}
 use Rattle.io_rules.specs.PathList.{PathList}
 use Rattle.io_rules.specs.Step.{answers}
 use Rattle.file_rules.specs.Change.{creates, makes_directory}
-use Rattle.file_rules.specs.Create.{clusters_for, creates_in, creates_on_way, creates_with_path, has_room_for, i_create, opens_new}
+use Rattle.file_rules.specs.Create.{clusters_for, creates_in, creates_on_route, creates_with_path, has_room_for, i_create, opens_new}
 use Rattle.file_rules.specs.Files.{Files, Asker, volume_at, with_volume}
-use Rattle.file_rules.specs.MakDir.{i_makdir, makes_in, makes_on_way, new_directory_size, past_list}
+use Rattle.file_rules.specs.MakDir.{i_makdir, makes_in, makes_on_route, new_directory_size, past_list}
 use Rattle.file_rules.specs.Open.{is_for_execution, says_directory, tests_mode}
 use Rattle.file_rules.specs.Step.{FileStep, refused, comes, changes, leaves, refuses}
-use Rattle.file_rules.specs.Way.{Found, Way, along, to_device, nowhere, before_last, last_of, list_of, walks, way_to_new}
+use Rattle.file_rules.specs.Route.{Found, Route, along, to_device, nowhere, before_last, last_of, list_of, walks, route_to_new}
 use Rattle.file_laws.specs.Kinds.{IsOfKind, AreKinds}
 use Rattle.file_laws.proofs.Counts.{many-io, many-same}
 use Rattle.file_laws.proofs.Kept.{file_of, kinds-io, kinds-still, volume-new}
@@ -163,7 +163,7 @@ module _ (asker : Asker) (files : Files) (kinds : AreKinds files) where
         (λ was left is it. kinds-still files dir.place.drive was left is (new-file-still was left dir.place.number
         name (directory_plan asker.caller.regs.b asker.user asker.now dir.place.number) it) kinds))))
 
-  create-way : (terms : ℕ) (list : PathList) (way : Way) → Kept asker files (creates_on_way asker files terms list way)
+  create-way : (terms : ℕ) (list : PathList) (route : Route) → Kept asker files (creates_on_route asker files terms list route)
   create-way terms list (along place names) =
       needs-by (Kept asker files) none-kept (last_of names) E_BPNAM (λ name. walks asker files (is_for_execution asker.caller.regs.a) place (before_last names) (creates_in asker files list name))
       (λ name is. walks-kept asker files kinds (is_for_execution asker.caller.regs.a) place (before_last names) (creates_in asker files list name) (λ dir found. create-in list dir name))
@@ -176,11 +176,11 @@ module _ (asker : Asker) (files : Files) (kinds : AreKinds files) where
   pub create-kept : (terms : ℕ) → Kept asker files (i_create asker files terms)
   create-kept terms =
       list-by (Kept asker files) none-kept (list_of asker) (tests_mode (can_write asker.caller.regs.a))
-      (λ list. creates_on_way asker files terms list (way_to_new asker files terms
+      (λ list. creates_on_route asker files terms list (route_to_new asker files terms
       (is_for_execution asker.caller.regs.a) list))
-      (mode-kept asker files kinds (can_write asker.caller.regs.a)) (λ list. create-way terms list (way_to_new asker files terms (is_for_execution asker.caller.regs.a) list))
+      (mode-kept asker files kinds (can_write asker.caller.regs.a)) (λ list. create-way terms list (route_to_new asker files terms (is_for_execution asker.caller.regs.a) list))
 
-  make-way : (list : PathList) (way : Way) → Kept asker files (makes_on_way asker files list way)
+  make-way : (list : PathList) (route : Route) → Kept asker files (makes_on_route asker files list route)
   make-way list (along place names) =
       needs-by (Kept asker files) none-kept (last_of names) E_BPNAM (λ name. walks asker files false place (before_last names) (makes_in asker files list name))
       (λ name is. walks-kept asker files kinds false place (before_last names) (makes_in asker files list name) (λ dir found. make-in list dir name))
@@ -189,5 +189,5 @@ module _ (asker : Asker) (files : Files) (kinds : AreKinds files) where
 
   pub makdir-kept : (terms : ℕ) → Kept asker files (i_makdir asker files terms)
   makdir-kept terms =
-      list-by (Kept asker files) none-kept (list_of asker) (λ step. step) (λ list. makes_on_way asker files list (way_to_new asker files terms false list))
-      (λ step kept. kept) (λ list. make-way list (way_to_new asker files terms false list))
+      list-by (Kept asker files) none-kept (list_of asker) (λ step. step) (λ list. makes_on_route asker files list (route_to_new asker files terms false list))
+      (λ step kept. kept) (λ list. make-way list (route_to_new asker files terms false list))

@@ -8,7 +8,7 @@ use Rattle.device_table.specs.declared.devices.Dev.TheVariants.{Drive, Term, Pip
 use Rattle.rbf_model.specs.Volume.{DiskVolume}
 use Rattle.io_rules.specs.PathList.{PathList, ends_in_dots, has_slash_behind_device}
 use Rattle.file_rules.specs.Files.{directory_of, volume_at}
-use Rattle.file_rules.specs.Way.{along, is_root, nowhere, to_device, way_by, way_from, way_of, way_of_device, way_on_drive, way_to_new}
+use Rattle.file_rules.specs.Route.{along, is_root, nowhere, to_device, route_by, route_from, route_of, route_of_device, route_on_drive, route_to_new}
 use Rattle.lock_model.specs.declared.place.FilePlace.{FilePlace}
 use Rattle.file_laws.specs.Causes.{FileCause, IsNoDrive, Leads, LeadsNowhere, device_in, dots, executes, leads_nowhere, makes_new, no_device, no_directory, not_mounted, root, slash}
 use Rattle.file_laws.specs.Claims.{Made}
@@ -31,22 +31,22 @@ module _ (m : Made) (list : PathList) (number : ℕ) where
   by-slash device at none true behind is = slash device (same-nowhere E_BPNAM number is) at none behind
   by-slash device at none false behind is = absurd (device-nowhere number is)
 
-  by-drive : (drive : ℕ) → device_in m list ≡ Some (Drive drive) → (v : Option DiskVolume) → volume_at m.files drive ≡ v → way_on_drive drive list.names v ≡ nowhere number → Why
+  by-drive : (drive : ℕ) → device_in m list ≡ Some (Drive drive) → (v : Option DiskVolume) → volume_at m.files drive ≡ v → route_on_drive drive list.names v ≡ nowhere number → Why
   by-drive drive at None mounted is = not_mounted drive (same-nowhere E_MNF number is) at mounted
   by-drive drive at (Some v) mounted is = absurd (along-nowhere _ list.names number is)
 
-  by-device : IsSome list.device → (device : Option Dev) → device_in m list ≡ device → way_of_device m.files list device ≡ nowhere number → Why
+  by-device : IsSome list.device → (device : Option Dev) → device_in m list ≡ device → route_of_device m.files list device ≡ nowhere number → Why
   by-device some None at is = no_device (same-nowhere E_MNF number is) some at
   by-device some (Some (Drive drive)) at is = by-drive drive at (volume_at m.files drive) refl is
   by-device some (Some (Term terminal)) at is = by-slash (Term terminal) at tt (has_slash_behind_device list) refl is
   by-device some (Some Pipe) at is = by-slash Pipe at tt (has_slash_behind_device list) refl is
 
   by-directory : list.device ≡ None → (place : Option FilePlace) → directory_of m.files m.asker.caller.process.0
-      (executes m.call m.asker.caller.regs.a) ≡ place → way_from place list.names ≡ nowhere number → Why
+      (executes m.call m.asker.caller.regs.a) ≡ place → route_from place list.names ≡ nowhere number → Why
   by-directory none None at is = no_directory (same-nowhere E_PNNF number is) none at
   by-directory none (Some place) at is = absurd (along-nowhere place list.names number is)
 
-  by-name : (device : Option (List ℕ)) → list.device ≡ device → way_by m.asker m.files m.terms (executes m.call m.asker.caller.regs.a) list device ≡ nowhere number → Why
+  by-name : (device : Option (List ℕ)) → list.device ≡ device → route_by m.asker m.files m.terms (executes m.call m.asker.caller.regs.a) list device ≡ nowhere number → Why
   by-name None named is =
       by-directory named (directory_of m.files m.asker.caller.process.0 (executes m.call m.asker.caller.regs.a)) refl is
   by-name (Some device) named is =
@@ -54,14 +54,14 @@ module _ (m : Made) (list : PathList) (number : ℕ) where
       (ap (option_and_then (device_of (length m.files.drives) m.terms)) named) is
 
   by-new : makes_new m.call ≡ true → (in_dots at_root : Bool) → ends_in_dots list ≡ in_dots → is_root m.files m.terms
-      list ≡ at_root → (if in_dots || at_root then nowhere E_BPNAM else way_of m.asker m.files m.terms
+      list ≡ at_root → (if in_dots || at_root then nowhere E_BPNAM else route_of m.asker m.files m.terms
       (executes m.call m.asker.caller.regs.a) list) ≡ nowhere number → Why
   by-new makes true at_root a b is = dots (same-nowhere E_BPNAM number is) makes a
   by-new makes false true a b is = root (same-nowhere E_BPNAM number is) makes b
   by-new makes false false a b is = by-name list.device refl is
 
-  by-call : (makes : Bool) → makes_new m.call ≡ makes → (if makes then way_to_new m.asker m.files m.terms
-      (executes m.call m.asker.caller.regs.a) list else way_of m.asker m.files m.terms
+  by-call : (makes : Bool) → makes_new m.call ≡ makes → (if makes then route_to_new m.asker m.files m.terms
+      (executes m.call m.asker.caller.regs.a) list else route_of m.asker m.files m.terms
       (executes m.call m.asker.caller.regs.a) list) ≡ nowhere number → Why
   by-call true makes is = by-new makes (ends_in_dots list) (is_root m.files m.terms list) refl refl is
   by-call false makes is = by-name list.device refl is

@@ -33,7 +33,7 @@ use Rattle.file_rules.specs.Files.{Files, Asker, OpenFile, open_file, with_io, w
 use Rattle.file_rules.specs.OnFile.{by_kind, moves_bytes, on_file}
 use Rattle.file_rules.specs.Read.{answers_bytes, bytes_at, i_read, i_readln, lock_by, read_claim, read_start, reads_at, reads_file, reads_freely, reads_locked, reads_on}
 use Rattle.file_rules.specs.Close.{files_after_close, i_close}
-use Rattle.file_rules.specs.Locking.{is_for_update, lock_ends, request_kept, request_now}
+use Rattle.file_rules.specs.Locking.{is_for_update, lock_ends, pending_request, request_now}
 use Rattle.lock_model.specs.Records.{Records, ends_lock, holding, without_lock, written_by}
 use Rattle.io_rules.specs.Close.{i_close as closes_device, after_close}
 use Rattle.file_rules.specs.Seek.{i_seek, long_of, seeks_nothing}
@@ -336,9 +336,9 @@ module _ (asker : Asker) (files : Files) (kinds : AreKinds files) where
   pub i_writln-kept : Kept asker files (i_writln asker files)
   i_writln-kept =
       on-kept asker.caller.regs.a (writes_device_line asker.caller files.io)
-      (λ opened. needs (line_moved asker (request_kept asker files)) E_BPADDR (sends_bytes asker files opened
+      (λ opened. needs (line_moved asker (pending_request asker files)) E_BPADDR (sends_bytes asker files opened
       I_WRITLN)) (line-leaves files asker.caller files.io kinds.paths)
-      (λ opened there. needs-by (Kept asker files) none-kept (line_moved asker (request_kept asker files)) E_BPADDR
+      (λ opened there. needs-by (Kept asker files) none-kept (line_moved asker (pending_request asker files)) E_BPADDR
       (sends_bytes asker files opened I_WRITLN) (λ bytes is. send-kept opened there I_WRITLN bytes))
 
   pub f_perr-kept : Kept asker files (f_perr asker files)

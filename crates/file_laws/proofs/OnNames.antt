@@ -19,15 +19,15 @@ use Rattle.io_rules.specs.PathList.{PathList}
 use Rattle.io_rules.specs.Step.{answers}
 use Rattle.io_rules.specs.declared.io_call.IoCall.TheVariants as Device
 use Rattle.file_rules.specs.Change.{creates, deletes, makes_directory}
-use Rattle.file_rules.specs.ChgDir.{goes_on_way, goes_to, i_chgdir, may_go_to}
-use Rattle.file_rules.specs.Create.{clusters_for, creates_in, creates_on_way, creates_with_path, has_room_for, i_create, opens_new}
+use Rattle.file_rules.specs.ChgDir.{goes_on_route, goes_to, i_chgdir, may_go_to}
+use Rattle.file_rules.specs.Create.{clusters_for, creates_in, creates_on_route, creates_with_path, has_room_for, i_create, opens_new}
 use Rattle.file_rules.specs.Delete.{deletes_by, deletes_file, deletes_in, deletes_named, i_delete, i_deletx}
 use Rattle.file_rules.specs.Files.{Files, Asker, directories_at, no_directories, place_of_target, target_on, with_directories_of, with_directory, with_path_table}
-use Rattle.file_rules.specs.MakDir.{i_makdir, makes_in, makes_on_way, new_directory_size, past_list}
-use Rattle.file_rules.specs.Open.{begins_on, i_open, is_for_execution, may_open, opens_found, opens_on_way, says_directory, tests_mode}
+use Rattle.file_rules.specs.MakDir.{i_makdir, makes_in, makes_on_route, new_directory_size, past_list}
+use Rattle.file_rules.specs.Open.{begins_on, i_open, is_for_execution, may_open, opens_found, opens_on_route, says_directory, tests_mode}
 use Rattle.file_rules.specs.Sharing.{is_not_shared, is_open}
 use Rattle.file_rules.specs.Step.{FileStep, refused, comes, changes, done, leaves, needs, refuses}
-use Rattle.file_rules.specs.Way.{Found, Way, along, before_last, last_of, list_of, nowhere, to_device, walks, way_of, way_to_new}
+use Rattle.file_rules.specs.Route.{Found, Route, along, before_last, last_of, list_of, nowhere, to_device, walks, route_of, route_to_new}
 use Rattle.file_rules.specs.declared.path_call.PathCall.{PathCall}
 use Rattle.file_rules.specs.declared.path_call.PathCall.TheVariants as Call
 use Rattle.lock_model.specs.declared.place.FilePlace.{FilePlace}
@@ -181,9 +181,9 @@ module _ (call : PathCall) (asker : Asker) (files : Files) (terms : ℕ) where
 -- ---- the calls
 
 module _ (asker : Asker) (files : Files) (terms : ℕ) where
-  open-way : (list : PathList) → list_of asker ≡ Ok list → (way : Way) → way_of asker files terms
-      (is_for_execution asker.caller.regs.a) list ≡ way → StepSplits Call.Open asker files terms
-      (opens_on_way asker files terms list way)
+  open-way : (list : PathList) → list_of asker ≡ Ok list → (route : Route) → route_of asker files terms
+      (is_for_execution asker.caller.regs.a) list ≡ route → StepSplits Call.Open asker files terms
+      (opens_on_route asker files terms list route)
   open-way list read (along from names) is =
       walks-split Call.Open asker files terms (is_for_execution asker.caller.regs.a) from names (opens_found asker files list) (λ found. opens-split Call.Open asker files terms list found refl)
   open-way list read to_device is = device-splits Call.Open asker files terms Device.Open refl (list, read, is)
@@ -192,14 +192,14 @@ module _ (asker : Asker) (files : Files) (terms : ℕ) where
   pub open-split : StepSplits Call.Open asker files terms (i_open asker files terms)
   open-split =
       list-by (StepSplits Call.Open asker files terms) (none-splits Call.Open asker files terms) (list_of asker)
-      (tests_mode (is_mode asker.caller.regs.a)) (λ list. opens_on_way asker files terms list
-      (way_of asker files terms (is_for_execution asker.caller.regs.a) list))
+      (tests_mode (is_mode asker.caller.regs.a)) (λ list. opens_on_route asker files terms list
+      (route_of asker files terms (is_for_execution asker.caller.regs.a) list))
       (mode-splits Call.Open asker files terms (is_mode asker.caller.regs.a))
-      (λ list read. open-way list read (way_of asker files terms (is_for_execution asker.caller.regs.a) list) refl)
+      (λ list read. open-way list read (route_of asker files terms (is_for_execution asker.caller.regs.a) list) refl)
 
-  create-way : (list : PathList) → list_of asker ≡ Ok list → (way : Way) → way_to_new asker files terms
-      (is_for_execution asker.caller.regs.a) list ≡ way → StepSplits Call.Create asker files terms
-      (creates_on_way asker files terms list way)
+  create-way : (list : PathList) → list_of asker ≡ Ok list → (route : Route) → route_to_new asker files terms
+      (is_for_execution asker.caller.regs.a) list ≡ route → StepSplits Call.Create asker files terms
+      (creates_on_route asker files terms list route)
   create-way list read (along from names) is =
       needs-by (StepSplits Call.Create asker files terms) (none-splits Call.Create asker files terms) (last_of names)
       E_BPNAM (λ name. walks asker files (is_for_execution asker.caller.regs.a) from (before_last names)
@@ -213,12 +213,12 @@ module _ (asker : Asker) (files : Files) (terms : ℕ) where
   pub create-split : StepSplits Call.Create asker files terms (i_create asker files terms)
   create-split =
       list-by (StepSplits Call.Create asker files terms) (none-splits Call.Create asker files terms) (list_of asker)
-      (tests_mode (can_write asker.caller.regs.a)) (λ list. creates_on_way asker files terms list
-      (way_to_new asker files terms (is_for_execution asker.caller.regs.a) list))
+      (tests_mode (can_write asker.caller.regs.a)) (λ list. creates_on_route asker files terms list
+      (route_to_new asker files terms (is_for_execution asker.caller.regs.a) list))
       (mode-splits Call.Create asker files terms (can_write asker.caller.regs.a))
-      (λ list read. create-way list read (way_to_new asker files terms (is_for_execution asker.caller.regs.a) list) refl)
+      (λ list read. create-way list read (route_to_new asker files terms (is_for_execution asker.caller.regs.a) list) refl)
 
-  make-way : (list : PathList) (way : Way) → StepSplits Call.MakDir asker files terms (makes_on_way asker files list way)
+  make-way : (list : PathList) (route : Route) → StepSplits Call.MakDir asker files terms (makes_on_route asker files list route)
   make-way list (along from names) =
       needs-by (StepSplits Call.MakDir asker files terms) (none-splits Call.MakDir asker files terms) (last_of names)
       E_BPNAM (λ name. walks asker files false from (before_last names) (makes_in asker files list name))
@@ -229,9 +229,9 @@ module _ (asker : Asker) (files : Files) (terms : ℕ) where
   pub makdir-split : StepSplits Call.MakDir asker files terms (i_makdir asker files terms)
   makdir-split =
       list-by (StepSplits Call.MakDir asker files terms) (none-splits Call.MakDir asker files terms) (list_of asker)
-      (λ step. step) (λ list. makes_on_way asker files list (way_to_new asker files terms false list))
+      (λ step. step) (λ list. makes_on_route asker files list (route_to_new asker files terms false list))
       (λ step holds. holds)
-      (λ list read. make-way list (way_to_new asker files terms false list))
+      (λ list read. make-way list (route_to_new asker files terms false list))
 
   -- ---- I$ChgDir, which alone changes a directory of the process
 
@@ -261,7 +261,7 @@ module _ (asker : Asker) (files : Files) (terms : ℕ) where
       (done (past_list asker.caller.regs list) (goes_there found))
       (inl (gone list found))
 
-  go-way : (list : PathList) (way : Way) → StepSplits Call.ChgDir asker files terms (goes_on_way asker files list way)
+  go-way : (list : PathList) (route : Route) → StepSplits Call.ChgDir asker files terms (goes_on_route asker files list route)
   go-way list (along from names) =
       walks-split Call.ChgDir asker files terms (is_for_execution asker.caller.regs.a) from names (goes_to asker files list) (goes-split list)
   go-way list to_device = none-splits Call.ChgDir asker files terms E_FNA
@@ -270,13 +270,13 @@ module _ (asker : Asker) (files : Files) (terms : ℕ) where
   pub chgdir-split : StepSplits Call.ChgDir asker files terms (i_chgdir asker files terms)
   chgdir-split =
       list-by (StepSplits Call.ChgDir asker files terms) (none-splits Call.ChgDir asker files terms) (list_of asker)
-      (tests_mode (is_mode asker.caller.regs.a)) (λ list. goes_on_way asker files list
-      (way_of asker files terms (is_for_execution asker.caller.regs.a) list))
+      (tests_mode (is_mode asker.caller.regs.a)) (λ list. goes_on_route asker files list
+      (route_of asker files terms (is_for_execution asker.caller.regs.a) list))
       (mode-splits Call.ChgDir asker files terms (is_mode asker.caller.regs.a))
-      (λ list read. go-way list (way_of asker files terms (is_for_execution asker.caller.regs.a) list))
+      (λ list read. go-way list (route_of asker files terms (is_for_execution asker.caller.regs.a) list))
 
   module _ (call : PathCall) (may : may_change_volume call ≡ true) where
-    delete-way : (execute : Bool) (list : PathList) (way : Way) (last : Option (List ℕ)) → StepSplits call asker files terms (deletes_named asker files execute list way last)
+    delete-way : (execute : Bool) (list : PathList) (route : Route) (last : Option (List ℕ)) → StepSplits call asker files terms (deletes_named asker files execute list route last)
     delete-way execute list (along from names) None =
         walks-split call asker files terms execute from names (λ root. refused E_FNA) (λ root. none-on call asker files terms root.place.drive E_FNA)
     delete-way execute list (along from names) (Some name) =
@@ -289,9 +289,9 @@ module _ (asker : Asker) (files : Files) (terms : ℕ) where
         (deletes_by asker files terms execute test)
     delete-by execute test tests =
         list-by (StepSplits call asker files terms) (none-splits call asker files terms) (list_of asker) test
-        (λ list. deletes_named asker files execute list (way_of asker files terms execute list)
+        (λ list. deletes_named asker files execute list (route_of asker files terms execute list)
         (last_of list.names))
-        tests (λ list read. delete-way execute list (way_of asker files terms execute list) (last_of list.names))
+        tests (λ list read. delete-way execute list (route_of asker files terms execute list) (last_of list.names))
 
   pub delete-split : StepSplits Call.Delete asker files terms (i_delete asker files terms)
   delete-split = delete-by Call.Delete refl false (λ step. step) (λ step holds. holds)

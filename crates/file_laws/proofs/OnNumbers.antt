@@ -19,7 +19,7 @@ use Rattle.rbf_change.specs.Contents.{written}
 use Rattle.rbf_change.specs.Growth.{clusters_needed}
 use Rattle.rbf_change.specs.NewFiles.{owns_file}
 use Rattle.io_model.specs.declared.path.SysPath.{SysPath}
-use Rattle.io_rules.specs.Attempts.{Does, io_step, kept_in}
+use Rattle.io_rules.specs.Attempts.{Does, io_step, pending_in}
 use Rattle.io_rules.specs.Close.{i_close as closes_device, after_close}
 use Rattle.io_rules.specs.Io.{OpenPath, open_path}
 use Rattle.io_rules.specs.Modes.{can_read, can_write}
@@ -35,7 +35,7 @@ use Rattle.io_rules.specs.declared.io_call.IoCall.TheVariants as Device
 use Rattle.file_rules.specs.Change.{Change, writes, sizes, sets_attributes}
 use Rattle.file_rules.specs.Files.{Files, Asker, OpenFile, open_file, with_position, with_records}
 use Rattle.file_rules.specs.Close.{files_after_close, i_close}
-use Rattle.file_rules.specs.Locking.{is_for_update, lock_ends, request_kept, request_now}
+use Rattle.file_rules.specs.Locking.{is_for_update, lock_ends, pending_request, request_now}
 use Rattle.file_rules.specs.OnFile.{moves_bytes}
 use Rattle.file_rules.specs.Read.{answers_bytes, bytes_at, i_read, i_readln, lock_by, read_claim, read_start, reads_file, reads_freely, reads_locked, reads_on}
 use Rattle.file_rules.specs.Seek.{i_seek, long_of, seeks_nothing}
@@ -323,10 +323,10 @@ module _ (asker : Asker) (files : Files) (terms : ℕ) where
   pub writln-split : StepSplits Call.WritLn asker files terms (i_writln asker files)
   writln-split =
       number-splits Call.WritLn asker files terms asker.caller.regs.a (writes_device_line asker.caller files.io)
-      (λ found. needs (line_moved asker (request_kept asker files)) E_BPADDR (sends_bytes asker files found
+      (λ found. needs (line_moved asker (pending_request asker files)) E_BPADDR (sends_bytes asker files found
       I_WRITLN)) (λ none. inl (on Call.WritLn Device.WritLn asker files terms refl none))
       (λ found named. needs-by (StepSplits Call.WritLn asker files terms) (none-splits Call.WritLn asker files terms)
-      (line_moved asker (request_kept asker files)) E_BPADDR (sends_bytes asker files found I_WRITLN)
+      (line_moved asker (pending_request asker files)) E_BPADDR (sends_bytes asker files found I_WRITLN)
       (λ bytes is. send-splits Call.WritLn asker files terms found named refl refl I_WRITLN bytes (λ can. Claims.writes_line bytes refl can is refl)))
 
   pub perr-split : StepSplits Call.PErr asker files terms (f_perr asker files)
@@ -397,12 +397,12 @@ module _ (asker : Asker) (files : Files) (terms : ℕ) where
       → Does (io_needs opened E_BPNUM (λ opened. io_done asker.caller.regs files.io)) asker.caller files.io it old new
       → DoesNothing Call.Seek asker files terms it old new
   seek-still None it old new (is, same) = record {
-    over = ap (λ (it : IoEffect). kept_in it.end) is;
+    over = ap (λ (it : IoEffect). pending_in it.end) is;
     io = ap (λ (it : IoEffect). it.io) is;
     terminals = same;
   }
   seek-still (Some opened) it old new (is, same) = record {
-    over = ap (λ (it : IoEffect). kept_in it.end) is;
+    over = ap (λ (it : IoEffect). pending_in it.end) is;
     io = ap (λ (it : IoEffect). it.io) is;
     terminals = same;
   }

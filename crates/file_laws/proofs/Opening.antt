@@ -14,13 +14,13 @@ use Rattle.io_rules.specs.Modes.{can_write, is_mode}
 use Rattle.io_rules.specs.Open.{i_open as opens, opened_regs}
 use Rattle.io_rules.specs.PathList.{PathList}
 use Rattle.io_rules.specs.Step.{answers}
-use Rattle.file_rules.specs.ChgDir.{goes_on_way, goes_to, i_chgdir, may_go_to}
+use Rattle.file_rules.specs.ChgDir.{goes_on_route, goes_to, i_chgdir, may_go_to}
 use Rattle.file_rules.specs.Files.{Files, Asker, directories_at, target_on, with_directories_of, with_directory, with_path_table}
 use Rattle.file_rules.specs.MakDir.{past_list}
-use Rattle.file_rules.specs.Open.{begins_on, i_open, is_for_execution, may_open, opens_found, opens_kind, opens_on_way, says_directory, tests_mode}
+use Rattle.file_rules.specs.Open.{begins_on, i_open, is_for_execution, may_open, opens_found, opens_kind, opens_on_route, says_directory, tests_mode}
 use Rattle.file_rules.specs.Sharing.{is_not_shared}
 use Rattle.file_rules.specs.Step.{FileStep, done, leaves, refuses}
-use Rattle.file_rules.specs.Way.{Found, Way, along, to_device, nowhere, list_of, way_of}
+use Rattle.file_rules.specs.Route.{Found, Route, along, to_device, nowhere, list_of, route_of}
 use Rattle.lock_model.specs.declared.place.FilePlace.{FilePlace}
 use Rattle.file_laws.specs.Kinds.{IsOfKind, IsOnTarget, IsOnItsKind, AreKinds}
 use Rattle.file_laws.proofs.Counts.{stands-directories, stands-io}
@@ -121,7 +121,7 @@ module _ (asker : Asker) (files : Files) (kinds : AreKinds files) where
         (of-not (may_go_to found.file asker.user asker.caller.regs.a) may)).0
         (is_for_execution asker.caller.regs.a))))
 
-  open-way : (terms : ℕ) (list : PathList) (way : Way) → Kept asker files (opens_on_way asker files terms list way)
+  open-way : (terms : ℕ) (list : PathList) (route : Route) → Kept asker files (opens_on_route asker files terms list route)
   open-way terms list (along place names) =
       walks-kept asker files kinds (is_for_execution asker.caller.regs.a) place names (opens_found asker files list) (λ found is. opens-kept list found is)
   open-way terms list to_device =
@@ -133,11 +133,11 @@ module _ (asker : Asker) (files : Files) (kinds : AreKinds files) where
   pub open-kept : (terms : ℕ) → Kept asker files (i_open asker files terms)
   open-kept terms =
       list-by (Kept asker files) (refused-kept asker files kinds) (list_of asker)
-      (tests_mode (is_mode asker.caller.regs.a)) (λ list. opens_on_way asker files terms list
-      (way_of asker files terms (is_for_execution asker.caller.regs.a) list))
-      (mode-kept (is_mode asker.caller.regs.a)) (λ list. open-way terms list (way_of asker files terms (is_for_execution asker.caller.regs.a) list))
+      (tests_mode (is_mode asker.caller.regs.a)) (λ list. opens_on_route asker files terms list
+      (route_of asker files terms (is_for_execution asker.caller.regs.a) list))
+      (mode-kept (is_mode asker.caller.regs.a)) (λ list. open-way terms list (route_of asker files terms (is_for_execution asker.caller.regs.a) list))
 
-  go-way : (list : PathList) (way : Way) → Kept asker files (goes_on_way asker files list way)
+  go-way : (list : PathList) (route : Route) → Kept asker files (goes_on_route asker files list route)
   go-way list (along place names) =
       walks-kept asker files kinds (is_for_execution asker.caller.regs.a) place names (goes_to asker files list) (λ found is. goes-kept list found is)
   go-way list to_device = refused-kept asker files kinds E_FNA
@@ -146,6 +146,6 @@ module _ (asker : Asker) (files : Files) (kinds : AreKinds files) where
   pub chgdir-kept : (terms : ℕ) → Kept asker files (i_chgdir asker files terms)
   chgdir-kept terms =
       list-by (Kept asker files) (refused-kept asker files kinds) (list_of asker)
-      (tests_mode (is_mode asker.caller.regs.a)) (λ list. goes_on_way asker files list
-      (way_of asker files terms (is_for_execution asker.caller.regs.a) list))
-      (mode-kept (is_mode asker.caller.regs.a)) (λ list. go-way list (way_of asker files terms (is_for_execution asker.caller.regs.a) list))
+      (tests_mode (is_mode asker.caller.regs.a)) (λ list. goes_on_route asker files list
+      (route_of asker files terms (is_for_execution asker.caller.regs.a) list))
+      (mode-kept (is_mode asker.caller.regs.a)) (λ list. go-way list (route_of asker files terms (is_for_execution asker.caller.regs.a) list))

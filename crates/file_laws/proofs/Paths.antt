@@ -14,7 +14,7 @@ use Rattle.user_names.specs.declared.name_fault.NameFault.TheVariants.{Unreadabl
 use Rattle.call_rules.specs.UserBytes.{user_bytes}
 use Rattle.io_model.specs.Path.{PathTable, closed_desc, desc_of, free_number, free_path, is_held, new_number, path_at, paths_after_begin, paths_after_close, paths_after_dup, slot_of, with_desc, with_path, with_slot}
 use Rattle.io_model.specs.Pipe.{free_pipe, pipes_after_begin}
-use Rattle.io_model.specs.declared.kept.Kept.{Kept}
+use Rattle.io_model.specs.declared.pending.PendingCall.{PendingCall}
 use Rattle.io_model.specs.declared.path.Desc.{Desc}
 use Rattle.io_model.specs.declared.path.SysPath.{SysPath}
 use Rattle.io_model.specs.declared.path.Target.{Target}
@@ -25,7 +25,7 @@ use Rattle.io_model.specs.declared.terminal.ReadKind.TheVariants.{Bytes, WholeLi
 use Rattle.io_rules.specs.Attempts.{Does}
 use Rattle.io_rules.specs.Close.{after_close, i_close, without_path, without_target}
 use Rattle.io_rules.specs.Dup.{i_dup}
-use Rattle.io_rules.specs.Io.{Io, OpenPath, kept_at, new_desc, open_path, with_paths, with_pipes}
+use Rattle.io_rules.specs.Io.{Io, OpenPath, pending_at, new_desc, open_path, with_paths, with_pipes}
 use Rattle.io_rules.specs.Lead.{Lead, Search, to_terminal, to_pipe, nowhere, lead_of}
 use Rattle.io_rules.specs.Modes.{can_read, can_write}
 use Rattle.io_rules.specs.Open.{begins, opened_regs, opens_lead, opens, reads_list}
@@ -198,7 +198,7 @@ module _ (files : Files) where
         needs-left (open_path io caller.process.0 number) E_BPNUM (λ opened. refuses (not (is_allowed opened.desc.mode)) E_BMODE (next opened))
         (λ opened. refuses-left (not (is_allowed opened.desc.mode)) E_BMODE (next opened) (left opened))
 
-    read-target : (kind : ReadKind) (now : Kept) (target : Target) → Left (reads_target kind caller io now target)
+    read-target : (kind : ReadKind) (now : PendingCall) (target : Target) → Left (reads_target kind caller io now target)
     read-target kind now (File drive sector) = tt
     read-target kind now (Folder drive sector) = tt
     read-target kind now (Term terminal) = tt
@@ -215,7 +215,7 @@ module _ (files : Files) where
         caller.regs.y) opened.desc.target) (read-target kind (call_now caller io code opened caller.regs.y)
         opened.desc.target))))
 
-    write-target : (sending : Sending) (now : Kept) (target : Target) → Left (writes_target sending caller io now target)
+    write-target : (sending : Sending) (now : PendingCall) (target : Target) → Left (writes_target sending caller io now target)
     write-target sending now (File drive sector) = tt
     write-target sending now (Folder drive sector) = tt
     write-target sending now (Term terminal) = tt
@@ -237,7 +237,7 @@ module _ (files : Files) where
 
     pub line-leaves : LeavesOn (i_writln caller io) caller io
     line-leaves =
-        leaves-on (i_writln caller io) (send-left (sent_line caller) I_WRITLN (line_bytes caller (kept_at io caller.process.0)))
+        leaves-on (i_writln caller io) (send-left (sent_line caller) I_WRITLN (line_bytes caller (pending_at io caller.process.0)))
 
     pub error-leaves : LeavesOn (f_perr caller io) caller io
     error-leaves = leaves-on (f_perr caller io)

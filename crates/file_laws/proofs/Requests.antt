@@ -10,7 +10,7 @@ use Rattle.lock_model.specs.Locks.{lock_of, request_of}
 use Rattle.lock_model.specs.Records.{Records, ends_lock, ends_locks_below, entered, with_waiting, without_lock, written_by}
 use Rattle.lock_model.specs.declared.lock.Held.{Held}
 use Rattle.lock_model.specs.declared.lock.Request.{Request}
-use Rattle.io_rules.specs.Attempts.{kept_in}
+use Rattle.io_rules.specs.Attempts.{pending_in}
 use Rattle.io_rules.specs.Step.{IoEnd, answers, fails, keeps}
 use Rattle.file_rules.specs.Files.{Files}
 use Rattle.file_rules.specs.Locking.{records_after}
@@ -90,16 +90,16 @@ freed-settled records path p = by_lock (lock_of records.locks path)
 pub device-settled : (end : IoEnd) (p : ℕ) (records : Records) → records_after end (with_waiting records p None) p ≡ with_waiting records p None
 device-settled (answers regs) p records = forgets-again p records
 device-settled (fails number) p records = forgets-again p records
-device-settled (keeps kept) p records = refl
+device-settled (keeps pending) p records = refl
 
 -- ---- after an attempt
 
-pub over-drops : (end : IoEnd) (records : Records) (p : ℕ) → kept_in end ≡ None → records_after end records p ≡ with_waiting records p None
+pub over-drops : (end : IoEnd) (records : Records) (p : ℕ) → pending_in end ≡ None → records_after end records p ≡ with_waiting records p None
 over-drops (answers regs) records p over = refl
 over-drops (fails number) records p over = refl
-over-drops (keeps kept) records p over = absurd (none-some kept (sym over))
+over-drops (keeps pending) records p over = absurd (none-some pending (sym over))
 
-pub over-requested : (end : IoEnd) (p : ℕ) (old new : Files) (records : Records) → kept_in end ≡ None
+pub over-requested : (end : IoEnd) (p : ℕ) (old new : Files) (records : Records) → pending_in end ≡ None
     → KeepsOthers p old.records records → new.records ≡ records_after end records p → NoneRequested p old new
 over-requested end p old new records over others is =
     none-requested p old new records others (is ∙ over-drops end records p over)
@@ -110,5 +110,5 @@ device-requested (answers regs) p old new is =
     none-requested p old new (with_waiting old.records p None) (keeps-forgotten p old.records) is
 device-requested (fails number) p old new is =
     none-requested p old new (with_waiting old.records p None) (keeps-forgotten p old.records) is
-device-requested (keeps kept) p old new is =
+device-requested (keeps pending) p old new is =
     none-requested p old new old.records (λ q differ. refl) is

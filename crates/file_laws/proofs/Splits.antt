@@ -12,7 +12,7 @@ use Rattle.lock_model.specs.declared.lock.Grant.{Grant}
 use Rattle.lock_model.specs.declared.lock.Grant.TheVariants.{Granted, Locked, Deadlock, Wait}
 use Rattle.rbf_model.specs.Volume.{DiskVolume}
 use Rattle.rbf_model.specs.Walk.{WalkEnd, arrives, not_allowed, not_found, walk}
-use Rattle.io_rules.specs.Attempts.{Does, io_step, kept_in}
+use Rattle.io_rules.specs.Attempts.{Does, io_step, pending_in}
 use Rattle.io_rules.specs.Io.{OpenPath, open_path, with_paths}
 use Rattle.io_rules.specs.PathList.{PathList}
 use Rattle.io_rules.specs.Step.{IoEffect, IoStep, answers, comes as io_comes, fails, keeps}
@@ -23,7 +23,7 @@ use Rattle.file_rules.specs.Locking.{answer_to, asks, asks_by, call_of, request_
 use Rattle.file_rules.specs.declared.claim.Claim.{Claim}
 use Rattle.file_rules.specs.OnFile.{by_kind, on_file}
 use Rattle.file_rules.specs.Step.{Step, refused, comes, reaches, needs, refuses, refuses_so, FileEffect, FileStep, Deed, leaves, leaves_so, as_io, changes, deed_of, drive_of, on_files, VolumeChange, done}
-use Rattle.file_rules.specs.Way.{Found, reads_list, walk_ends, walks}
+use Rattle.file_rules.specs.Route.{Found, reads_list, walk_ends, walks}
 use Rattle.file_rules.specs.declared.path_call.PathCall.{PathCall}
 use Rattle.file_rules.specs.declared.path_call.PathCall.TheVariants as Call
 use Rattle.file_rules.specs.declared.places.Directories.{Directories}
@@ -58,7 +58,7 @@ module _ {E : Type 0} (P : Step E → Type 0) (none : (number : ℕ) → P (refu
 
 -- of input and output the paths change alone; what is refused changes nothing
 pub record Leaves (call : PathCall) (asker : Asker) (files : Files) (effect : FileEffect) : Type 0 where
-  pub over : kept_in effect.end ≡ None
+  pub over : pending_in effect.end ≡ None
   pub paths : PathsMove call asker files effect.files.io.paths
   pub rest : effect.files.io ≡ with_paths files.io effect.files.io.paths
   pub directories : (q : ℕ) → q ≢ asker.caller.process.0 → directories_at effect.files q ≡ directories_at files q
@@ -138,7 +138,7 @@ module _ (call : PathCall) (asker : Asker) (files : Files) (terms : ℕ) where
 
   -- it does nothing, on any terminals
   pub record DoesNothing (it : IoEffect) (old new : List TerminalState) : Type 0 where
-    pub over : kept_in it.end ≡ None
+    pub over : pending_in it.end ≡ None
     pub io : it.io ≡ files.io
     pub terminals : new ≡ old
 
@@ -166,7 +166,7 @@ module _ (call : PathCall) (asker : Asker) (files : Files) (terms : ℕ) where
     pub device_is : device_call call ≡ Some device
     pub effect : IoEffect
     pub is : io_step device asker.caller files.io (length files.drives) terms ≡ io_comes effect
-    pub over : kept_in effect.end ≡ None
+    pub over : pending_in effect.end ≡ None
     pub records : Records
     pub requests : records.locks.requests ≡ files.records.locks.requests
     pub ends : (records ≡ files.records) ⊎ ClosesLock records

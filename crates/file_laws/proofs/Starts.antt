@@ -24,7 +24,7 @@ use Rattle.io_rules.specs.Processes.{io_ended, io_started}
 use Rattle.file_rules.specs.Files.{Files, DriveState, directories_at, directory_of, no_directories, volume_at, with_io, with_volume}
 use Rattle.file_rules.specs.Processes.{StartsOn, directory_in_root, files_ended, files_started, first_directories, first_files, io_left, without_locks_of}
 use Rattle.file_rules.specs.Locking.{files_interrupted}
-use Rattle.file_rules.specs.Way.{root_of}
+use Rattle.file_rules.specs.Route.{root_of}
 use Rattle.lock_model.specs.declared.place.FilePlace.{FilePlace}
 use Rattle.file_laws.specs.Kinds.{IsOfKind, AreKinds}
 use Rattle.file_laws.specs.Mounted.{AreAsMany}

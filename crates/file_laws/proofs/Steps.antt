@@ -14,7 +14,7 @@ use Rattle.io_rules.specs.Step.{IoStep}
 use Rattle.file_rules.specs.Change.{Makes, MayLeave}
 use Rattle.file_rules.specs.Files.{Files, Asker, DriveState, volume_at, with_drives, with_io, with_volume}
 use Rattle.file_rules.specs.Step.{Step, refused, comes, reaches, needs, refuses, drive_of, FileEffect, FileStep, VolumeChange, Deed, leaves_so, as_io, changes, deed_of, refuses_so, DoesDeed, MayBeLeft, FileDoes}
-use Rattle.file_rules.specs.Way.{Found, reads_list, walk_ends, walks}
+use Rattle.file_rules.specs.Route.{Found, reads_list, walk_ends, walks}
 use Rattle.lock_model.specs.declared.place.FilePlace.{FilePlace}
 use Rattle.file_laws.specs.Kinds.{AreKinds}
 use Rattle.file_laws.specs.Mounted.{AreAsMany}

@@ -10,7 +10,7 @@ use Rattle.std.proofs.lemmas.Option.{none-some, same_Some}
 use Rattle.os9_base.specs.declared.registers.TimePacket.{TimePacket}
 use Rattle.os9_outer.specs.TerminalState.{TerminalState}
 use Rattle.call_rules.specs.CallResult.{CallResult}
-use Rattle.call_rules.specs.Inner.{Inner}
+use Rattle.call_rules.specs.Processes.{Processes}
 use Rattle.io_model.specs.Path.{ArePaths, PathTable, desc_of, free_number, free_path, is_held, is_image, numbers_of, paths_after_begin, slot_of, with_desc, with_path}
 use Rattle.io_model.specs.declared.path.Desc.{Desc}
 use Rattle.io_model.specs.declared.path.SysPath.{SysPath}
@@ -244,8 +244,8 @@ table-kept call asker files paths (inr (inr (inl it))) =
 table-kept call asker files paths (inr (inr (inr it))) =
     subst (KeepsTable files.io.paths) (sym it.is) (table-path asker.caller.process.0 files.io.paths it.target asker.caller.regs.a it.place it.on)
 
-pub paths-kept : {call : PathCall} {now : TimePacket} (inner : Inner) (files : Files) (p : ℕ) (result : CallResult)
-    (new : Files) (old_terms new_terms : List TerminalState) → LeavesDevices call inner files now p result new
+pub paths-kept : {call : PathCall} {now : TimePacket} (processes : Processes) (files : Files) (p : ℕ) (result : CallResult)
+    (new : Files) (old_terms new_terms : List TerminalState) → LeavesDevices call processes files now p result new
     old_terms new_terms → KeepsTable files.io.paths new.io.paths
-paths-kept {call} {now} inner files p result new old_terms new_terms it =
-    table-kept call (asker_of inner p now) files new.io.paths it.paths
+paths-kept {call} {now} processes files p result new old_terms new_terms it =
+    table-kept call (asker_of processes p now) files new.io.paths it.paths

@@ -9,10 +9,10 @@ use Rattle.os9_base.specs.declared.registers.Regs.{Regs}
 use Rattle.os9_base.specs.declared.registers.TimePacket.{TimePacket}
 use Rattle.os9_outer.specs.TerminalState.{TerminalState}
 use Rattle.call_rules.specs.CallResult.{CallResult}
-use Rattle.call_rules.specs.Inner.{Inner}
+use Rattle.call_rules.specs.Processes.{Processes}
 use Rattle.lock_model.specs.Records.{Records, with_waiting}
 use Rattle.rbf_model.specs.Volume.{DiskVolume}
-use Rattle.io_rules.specs.Attempts.{Does, kept_in, result_by, result_of}
+use Rattle.io_rules.specs.Attempts.{Does, pending_in, result_by, result_of}
 use Rattle.io_rules.specs.Io.{Io, with_call, with_paths}
 use Rattle.io_rules.specs.Step.{IoEffect, IoEnd, IoStep, answers, fails, keeps}
 use Rattle.file_rules.specs.Locking.{records_after}
@@ -53,16 +53,16 @@ step-splits Call.PErr asker files terms = perr-split asker files terms
 
 -- ---- how it ends
 
-pub ends-refused : (end : IoEnd) (inner : Inner) (p : ℕ) (effect : IoEffect) (number : ℕ) → result_by end inner p effect ≡ CallResult.refused number → end ≡ fails number
-ends-refused (answers regs) inner p effect number is = absurd cc
-ends-refused (fails other) inner p effect number is = cc
-ends-refused (keeps kept) inner p effect number is = absurd cc
+pub ends-refused : (end : IoEnd) (processes : Processes) (p : ℕ) (effect : IoEffect) (number : ℕ) → result_by end processes p effect ≡ CallResult.refused number → end ≡ fails number
+ends-refused (answers regs) processes p effect number is = absurd cc
+ends-refused (fails other) processes p effect number is = cc
+ends-refused (keeps pending) processes p effect number is = absurd cc
 
-ends-over : (end : IoEnd) (inner : Inner) (p : ℕ) (effect : IoEffect) → kept_in end ≡ None → IsOver inner p (result_by end inner p effect)
-ends-over (answers regs) inner p effect over =
+ends-over : (end : IoEnd) (processes : Processes) (p : ℕ) (effect : IoEffect) → pending_in end ≡ None → IsOver processes p (result_by end processes p effect)
+ends-over (answers regs) processes p effect over =
     inl (record { regs = regs; at = effect.at; bytes = effect.bytes; is = refl })
-ends-over (fails number) inner p effect over = inr (number, refl)
-ends-over (keeps kept) inner p effect over = absurd (none-some kept (sym over))
+ends-over (fails number) processes p effect over = inr (number, refl)
+ends-over (keeps pending) processes p effect over = absurd (none-some pending (sym over))
 
 -- ---- what an effect leaves
 
@@ -90,7 +90,7 @@ module _ (call : PathCall) (asker : Asker) (files : Files) (reached : Option ℕ
     pub volumes : NoVolumeChanges files effect.files ⊎ FailsSo effect
 
   record Left (effect : FileEffect) : Type 0 where
-    pub over : kept_in effect.end ≡ None
+    pub over : pending_in effect.end ≡ None
     pub paths : PathsMove call asker files effect.files.io.paths
     pub rest : effect.files.io ≡ with_paths files.io effect.files.io.paths
     pub directories : (q : ℕ) → q ≢ asker.caller.process.0 → directories_at effect.files q ≡ directories_at files q
@@ -142,7 +142,7 @@ module _ (call : PathCall) (asker : Asker) (files : Files) (reached : Option ℕ
       refusal = λ number is. absurd (not-refused regs number (sym answered ∙ is));
     }
 
-    left-still : (it : IoEffect) → kept_in it.end ≡ None → it.io ≡ files.io → Left (with_drives_after (on_files asker.caller.process.0 files it) drives)
+    left-still : (it : IoEffect) → pending_in it.end ≡ None → it.io ≡ files.io → Left (with_drives_after (on_files asker.caller.process.0 files it) drives)
     left-still it over same = record {
       over = over;
       paths = inl (ap (λ (io : Io). io.paths) same);
@@ -196,9 +196,9 @@ module _ (call : PathCall) (asker : Asker) (files : Files) (reached : Option ℕ
 
 -- ---- an attempt
 
-module _ (call : PathCall) (inner : Inner) (files : Files) (now : TimePacket) (p : ℕ) (old new : List TerminalState) where
+module _ (call : PathCall) (processes : Processes) (files : Files) (now : TimePacket) (p : ℕ) (old new : List TerminalState) where
   abbrev asker : Asker
-  asker = asker_of inner p now
+  asker = asker_of processes p now
 
   abbrev step : FileStep
   step = file_step call asker files (length old)
@@ -211,15 +211,15 @@ module _ (call : PathCall) (inner : Inner) (files : Files) (now : TimePacket) (p
 
   -- what the attempt makes of the records
   abbrev Recorded : FileEffect → Type 0
-  Recorded effect = RecordsCome (made_by call inner files now p (length old)) (files_after p effect).records
+  Recorded effect = RecordsCome (made_by call processes files now p (length old)) (files_after p effect).records
 
   abbrev Touching : FileEffect → Type 0
-  Touching effect = Recorded effect → LeavesDevices call inner files now p (result_of inner p (io_effect effect)) (files_after p effect) old new
+  Touching effect = Recorded effect → LeavesDevices call processes files now p (result_of processes p (io_effect effect)) (files_after p effect) old new
 
   -- what is left by an attempt that ends with the effect
   left-devices : (effect : FileEffect) → Leaving effect → new ≡ old → Touching effect
   left-devices effect left same come = record {
-    over = ends-over effect.end inner p (io_effect effect) left.over;
+    over = ends-over effect.end processes p (io_effect effect) left.over;
     paths = left.paths;
     rest = call_gone left.rest;
     terminals = same;
@@ -230,23 +230,23 @@ module _ (call : PathCall) (inner : Inner) (files : Files) (now : TimePacket) (p
     own = left.own;
     still = left.still;
     volumes = by_volumes left.volumes;
-    refusal = λ number is. refused (left.refusal number (ends-refused effect.end inner p (io_effect effect) number is));
+    refusal = λ number is. refused (left.refusal number (ends-refused effect.end processes p (io_effect effect) number is));
   }
     where
-      call_gone : {io : Io} → effect.files.io ≡ io → with_call effect.files.io p (kept_in effect.end) ≡ with_call io p None
+      call_gone : {io : Io} → effect.files.io ≡ io → with_call effect.files.io p (pending_in effect.end) ≡ with_call io p None
       call_gone is =
-          ap (λ (io : Io). with_call io p (kept_in effect.end)) is ∙ ap (with_call _ p) left.over
+          ap (λ (io : Io). with_call io p (pending_in effect.end)) is ∙ ap (with_call _ p) left.over
 
       same_volumes : NoVolumeChanges files effect.files → NoVolumeChanges files (files_after p effect)
       same_volumes it = record { volumes = it.volumes; none_failed = it.none_failed }
 
-      one_fails : FailsSo call asker files reached effect → OneDriveFails reached files (result_of inner p (io_effect effect)) (files_after p effect)
+      one_fails : FailsSo call asker files reached effect → OneDriveFails reached files (result_of processes p (io_effect effect)) (files_after p effect)
       one_fails it = record {
         drive = it.drive;
         reaches = it.reaches;
         number = it.number;
         failed = it.failed;
-        answer = ap (λ (end : IoEnd). result_by end inner p (io_effect effect)) it.answer;
+        answer = ap (λ (end : IoEnd). result_by end processes p (io_effect effect)) it.answer;
         old = it.old;
         was = it.was;
         left = it.left;
@@ -255,7 +255,7 @@ module _ (call : PathCall) (inner : Inner) (files : Files) (now : TimePacket) (p
 
       by_volumes : NoVolumeChanges files effect.files ⊎ OneVolumeChanges reached files effect.files ⊎ FailsSo call
           asker files reached effect → NoVolumeChanges files (files_after p effect) ⊎ OneVolumeChanges reached files
-          (files_after p effect) ⊎ OneDriveFails reached files (result_of inner p (io_effect effect))
+          (files_after p effect) ⊎ OneDriveFails reached files (result_of processes p (io_effect effect))
           (files_after p effect)
       by_volumes (inl stay) = inl (same_volumes stay)
       by_volumes (inr (inl one)) =
@@ -264,11 +264,11 @@ module _ (call : PathCall) (inner : Inner) (files : Files) (now : TimePacket) (p
 
       by_refusal : NoVolumeChanges files effect.files ⊎ FailsSo call asker files reached effect
           → NoVolumeChanges files (files_after p effect) ⊎ OneDriveFails reached files
-          (result_of inner p (io_effect effect)) (files_after p effect)
+          (result_of processes p (io_effect effect)) (files_after p effect)
       by_refusal (inl stay) = inl (same_volumes stay)
       by_refusal (inr broken) = inr (one_fails broken)
 
-      refused : RefusedLeft call asker files reached effect → RefusalLeaves reached files p (result_of inner p (io_effect effect)) (files_after p effect)
+      refused : RefusedLeft call asker files reached effect → RefusalLeaves reached files p (result_of processes p (io_effect effect)) (files_after p effect)
       refused it = record {
         io = call_gone it.io;
         directories = it.directories;
@@ -279,11 +279,11 @@ module _ (call : PathCall) (inner : Inner) (files : Files) (now : TimePacket) (p
 
   -- it is on a terminal or a pipe, and on no file
   abbrev OnIt : FileEffect → Type 0
-  OnIt effect = IsOnDevice call inner files p (result_of inner p (io_effect effect)) (files_after p effect) old new × IsOnNoFile call asker files (length old)
+  OnIt effect = IsOnDevice call processes files p (result_of processes p (io_effect effect)) (files_after p effect) old new × IsOnNoFile call asker files (length old)
 
   -- it waits for a record
   abbrev Waiting : FileEffect → Type 0
-  Waiting effect = WaitsForRecord call inner files now p (result_of inner p (io_effect effect)) (files_after p effect) old new
+  Waiting effect = WaitsForRecord call processes files now p (result_of processes p (io_effect effect)) (files_after p effect) old new
 
   abbrev Comes : FileEffect → Type 0
   Comes effect = OnIt effect ⊎ Touching effect ⊎ Waiting effect
@@ -291,7 +291,7 @@ module _ (call : PathCall) (inner : Inner) (files : Files) (now : TimePacket) (p
   -- a call on a terminal or a pipe
   pub on-device : (io : IoStep) (it : IoEffect) (drives : List DriveState) → NoneFailed files.drives drives
       → IsDeviceStep call asker files (length old) io → Does io asker.caller files.io it old new
-      → IsOnDevice call inner files p (result_of inner p it) (files_after p (with_drives_after (on_files p files it)
+      → IsOnDevice call processes files p (result_of processes p it) (files_after p (with_drives_after (on_files p files it)
       drives)) old new
   on-device io it drives none on does = record {
     device = on.device;
@@ -311,7 +311,7 @@ module _ (call : PathCall) (inner : Inner) (files : Files) (now : TimePacket) (p
   }
 
   -- the lock of a path that is closed ends, or all stay
-  locks-so : (end : IoEnd) (records : Records) → kept_in end ≡ None → (records ≡ files.records) ⊎ ClosesLock call
+  locks-so : (end : IoEnd) (records : Records) → pending_in end ≡ None → (records ≡ files.records) ⊎ ClosesLock call
       asker files (length old) records → LocksStay call files p asker.caller.regs.a (records_after end records p)
   locks-so end records over (inl same) =
       LocksStay.stay (over-drops end records p over ∙ ap (λ (records : Records). with_waiting records p None) same)
@@ -397,39 +397,39 @@ module _ (call : PathCall) (inner : Inner) (files : Files) (now : TimePacket) (p
       (length old)) broken.old broken.left broken.may_be)) same))
 
   pub does-so : (effect : FileEffect) → FileDoes step asker files effect old new → OnIt effect ⊎ LeavesDevices call
-      inner files now p (result_of inner p (io_effect effect)) (files_after p effect) old new ⊎ Waiting effect
+      processes files now p (result_of processes p (io_effect effect)) (files_after p effect) old new ⊎ Waiting effect
   does-so effect does = by_case (does-comes effect does)
     where
-      by_case : Comes effect → OnIt effect ⊎ LeavesDevices call inner files now p (result_of inner p (io_effect effect)) (files_after p effect) old new ⊎ Waiting effect
+      by_case : Comes effect → OnIt effect ⊎ LeavesDevices call processes files now p (result_of processes p (io_effect effect)) (files_after p effect) old new ⊎ Waiting effect
       by_case (inl on) = inl on
       by_case (inr (inl left)) = inr (inl (left (effect-comes call asker files effect old new does)))
       by_case (inr (inr waits)) = inr (inr waits)
 
-module _ (call : PathCall) (inner : Inner) (files : Files) (now : TimePacket) (p : ℕ) (result : CallResult)
-    (new : Files) (before after : List TerminalState) (it : FileAttempts call inner files now p result new before
+module _ (call : PathCall) (processes : Processes) (files : Files) (now : TimePacket) (p : ℕ) (result : CallResult)
+    (new : Files) (before after : List TerminalState) (it : FileAttempts call processes files now p result new before
     after) where
   -- it is on a terminal or a pipe, on no file, or it touches none, or it waits for a record
-  pub attempt-splits : IsOnDevice call inner files p result new before after × IsOnNoFile call (asker_of inner p now)
-      files (length before) ⊎ LeavesDevices call inner files now p result new before after ⊎ WaitsForRecord call inner
+  pub attempt-splits : IsOnDevice call processes files p result new before after × IsOnNoFile call (asker_of processes p now)
+      files (length before) ⊎ LeavesDevices call processes files now p result new before after ⊎ WaitsForRecord call processes
       files now p result new before after
   attempt-splits =
-      subst (λ (result : CallResult). IsOnDevice call inner files p result new before after × IsOnNoFile call
-      (asker_of inner p now) files (length before) ⊎ LeavesDevices call inner files now p result new before after
-      ⊎ WaitsForRecord call inner files now p result new before after) (sym it.result_is)
-      (subst (λ (new : Files). IsOnDevice call inner files p (result_of inner p (io_effect it.effect)) new before
-      after × IsOnNoFile call (asker_of inner p now) files (length before) ⊎ LeavesDevices call inner files now p
-      (result_of inner p (io_effect it.effect)) new before after ⊎ WaitsForRecord call inner files now p
-      (result_of inner p (io_effect it.effect)) new before after) (sym it.state)
-      (does-so call inner files now p before after it.effect it.does))
+      subst (λ (result : CallResult). IsOnDevice call processes files p result new before after × IsOnNoFile call
+      (asker_of processes p now) files (length before) ⊎ LeavesDevices call processes files now p result new before after
+      ⊎ WaitsForRecord call processes files now p result new before after) (sym it.result_is)
+      (subst (λ (new : Files). IsOnDevice call processes files p (result_of processes p (io_effect it.effect)) new before
+      after × IsOnNoFile call (asker_of processes p now) files (length before) ⊎ LeavesDevices call processes files now p
+      (result_of processes p (io_effect it.effect)) new before after ⊎ WaitsForRecord call processes files now p
+      (result_of processes p (io_effect it.effect)) new before after) (sym it.state)
+      (does-so call processes files now p before after it.effect it.does))
 
-  pub attempt-comes : IsOnDevice call inner files p result new before after ⊎ LeavesDevices call inner files now p
-      result new before after ⊎ WaitsForRecord call inner files now p result new before after
+  pub attempt-comes : IsOnDevice call processes files p result new before after ⊎ LeavesDevices call processes files now p
+      result new before after ⊎ WaitsForRecord call processes files now p result new before after
   attempt-comes = by_case attempt-splits
     where
-      by_case : IsOnDevice call inner files p result new before after × IsOnNoFile call (asker_of inner p now) files
-          (length before) ⊎ LeavesDevices call inner files now p result new before after ⊎ WaitsForRecord call inner
-          files now p result new before after → IsOnDevice call inner files p result new before after ⊎ LeavesDevices
-          call inner files now p result new before after ⊎ WaitsForRecord call inner files now p result new before
+      by_case : IsOnDevice call processes files p result new before after × IsOnNoFile call (asker_of processes p now) files
+          (length before) ⊎ LeavesDevices call processes files now p result new before after ⊎ WaitsForRecord call processes
+          files now p result new before after → IsOnDevice call processes files p result new before after ⊎ LeavesDevices
+          call processes files now p result new before after ⊎ WaitsForRecord call processes files now p result new before
           after
       by_case (inl on) = inl on.0
       by_case (inr left) = inr left

@@ -15,7 +15,7 @@ use Rattle.io_rules.specs.declared.io_call.IoCall.{IoCall}
 use Rattle.io_rules.specs.declared.io_call.IoCall.TheVariants as Device
 use Rattle.file_rules.proofs.Ranges.{locked-covers, range-covers, resized-covers}
 use Rattle.file_rules.specs.Files.{Files, Asker, OpenFile}
-use Rattle.file_rules.specs.Locking.{request_kept}
+use Rattle.file_rules.specs.Locking.{pending_request}
 use Rattle.file_rules.specs.Read.{read_claim, read_start}
 use Rattle.file_rules.specs.Seek.{long_of}
 use Rattle.file_rules.specs.Status.{lock_claim, size_claim, status_claim}
@@ -103,7 +103,7 @@ module _ (asker : Asker) (files : Files) (found : OpenFile) where
       subst (λ (call : PathCall). ClaimsAs call asker claim) (sym call_is)
       (subst (ClaimsAs other asker) (sym is) claims)
 
-  pub claims-as : (call : PathCall) (claim : Claim) → request_kept asker files ≡ None → Claims call asker files found claim → ClaimsAs call asker claim
+  pub claims-as : (call : PathCall) (claim : Claim) → pending_request asker files ≡ None → Claims call asker files found claim → ClaimsAs call asker claim
   claims-as call claim none (Claims.reads kind call_is (there, may, some) update more is) =
       as-so call (read_call kind) claim (read_claim kind asker found (read_start asker files found)) call_is is (read-claims kind (read_start asker files found) some)
   claims-as call claim none (Claims.writes bytes call_is (may, some) bytes_are is) =

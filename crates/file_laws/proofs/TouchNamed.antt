@@ -8,7 +8,7 @@ use Rattle.os9_base.specs.declared.errors.TheConstants.{E_BPNAM}
 use Rattle.os9_base.specs.declared.registers.TimePacket.{TimePacket}
 use Rattle.os9_outer.specs.TerminalState.{TerminalState}
 use Rattle.call_rules.specs.CallResult.{CallResult}
-use Rattle.call_rules.specs.Inner.{Inner, regs_at}
+use Rattle.call_rules.specs.Processes.{Processes, regs_at}
 use Rattle.device_table.specs.Names.{device_of}
 use Rattle.device_table.specs.declared.devices.Dev.{Dev}
 use Rattle.device_table.specs.declared.devices.Dev.TheVariants.{Drive, Term, Pipe}
@@ -24,7 +24,7 @@ use Rattle.file_rules.specs.Attempts.{FileAttempts, asker_of, file_step, files_a
 use Rattle.file_rules.specs.Files.{Files, Asker, OpenFile, directory_of, open_file, open_file_at, place_of_target, volume_at}
 use Rattle.file_rules.specs.OnFile.{by_kind}
 use Rattle.file_rules.specs.Step.{FileEffect, FileStep, comes, as_io, FileDoes, with_drives_after}
-use Rattle.file_rules.specs.Way.{along, is_root, nowhere, to_device, way_by, way_from, way_of, way_of_device, way_on_drive, way_to_new}
+use Rattle.file_rules.specs.Route.{along, is_root, nowhere, to_device, route_by, route_from, route_of, route_of_device, route_on_drive, route_to_new}
 use Rattle.file_rules.specs.declared.path_call.PathCall.{PathCall}
 use Rattle.file_rules.specs.declared.path_call.PathCall.TheVariants as Call
 use Rattle.lock_model.specs.declared.place.FilePlace.{FilePlace}
@@ -94,34 +94,34 @@ module _ (asker : Asker) (files : Files) (terms : ℕ) where
       subst (λ (o : Option IoCall). MatchOption o (Unit {0}) (IsOnNone call)) is (on-none call)
 
 -- an attempt of a step that is one of terminals and pipes
-module _ (call : PathCall) (device : IoCall) (is : device_call call ≡ Some device) (inner : Inner) (files : Files) (now : TimePacket) (p : ℕ) (old new : List TerminalState) where
+module _ (call : PathCall) (device : IoCall) (is : device_call call ≡ Some device) (processes : Processes) (files : Files) (now : TimePacket) (p : ℕ) (old new : List TerminalState) where
   pub device-does : (effect : FileEffect)
-      → FileDoes (comes (as_io (io_step device (asker_of inner p now).caller files.io (length files.drives)
-      (length old)))) (asker_of inner p now) files effect old new → IsOnDevice call inner files p
-      (result_of inner p (io_effect effect)) (files_after p effect) old new
+      → FileDoes (comes (as_io (io_step device (asker_of processes p now).caller files.io (length files.drives)
+      (length old)))) (asker_of processes p now) files effect old new → IsOnDevice call processes files p
+      (result_of processes p (io_effect effect)) (files_after p effect) old new
   device-does effect (inl well) =
       let (it, does, left) = well.does in
-      subst (λ (effect : FileEffect). IsOnDevice call inner files p (result_of inner p (io_effect effect)) (files_after p effect) old new)
+      subst (λ (effect : FileEffect). IsOnDevice call processes files p (result_of processes p (io_effect effect)) (files_after p effect) old new)
       (sym (well.effect_is ∙ ap (λ (it : FileEffect). with_drives_after it well.drives) left))
-      (on-device call inner files now p old new (io_step device (asker_of inner p now).caller files.io
+      (on-device call processes files now p old new (io_step device (asker_of processes p now).caller files.io
       (length files.drives) (length old)) it well.drives well.none_failed
       (record { device = device; device_is = is; is = refl }) does)
   device-does effect (inr (broken, same)) = absurd (none-some broken.drive broken.reached)
 
-  pub step-on-device : (result : CallResult) (left : Files) → FileAttempts call inner files now p result left old new
-      → file_step call (asker_of inner p now) files (length old) ≡ comes
-      (as_io (io_step device (asker_of inner p now).caller files.io (length files.drives) (length old)))
-      → IsOnDevice call inner files p result left old new
+  pub step-on-device : (result : CallResult) (left : Files) → FileAttempts call processes files now p result left old new
+      → file_step call (asker_of processes p now) files (length old) ≡ comes
+      (as_io (io_step device (asker_of processes p now).caller files.io (length files.drives) (length old)))
+      → IsOnDevice call processes files p result left old new
   step-on-device result left it step_is =
-      subst (λ (result : CallResult). IsOnDevice call inner files p result left old new) (sym it.result_is)
-      (subst (λ (left : Files). IsOnDevice call inner files p (result_of inner p (io_effect it.effect)) left old new) (sym it.state)
-      (device-does it.effect (subst (λ (step : FileStep). FileDoes step (asker_of inner p now) files it.effect old new) step_is it.does)))
+      subst (λ (result : CallResult). IsOnDevice call processes files p result left old new) (sym it.result_is)
+      (subst (λ (left : Files). IsOnDevice call processes files p (result_of processes p (io_effect it.effect)) left old new) (sym it.state)
+      (device-does it.effect (subst (λ (step : FileStep). FileDoes step (asker_of processes p now) files it.effect old new) step_is it.does)))
 
-  pub number-on-device : (result : CallResult) (left : Files) → FileAttempts call inner files now p result left old
-      new → takes_number device ≡ true → open_file files p (path_number device (regs_at inner p)) ≡ None
-      → IsOnDevice call inner files p result left old new
+  pub number-on-device : (result : CallResult) (left : Files) → FileAttempts call processes files now p result left old
+      new → takes_number device ≡ true → open_file files p (path_number device (regs_at processes p)) ≡ None
+      → IsOnDevice call processes files p result left old new
   number-on-device result left it takes none =
-      step-on-device result left it (is-theirs (asker_of inner p now) files (length old) call device is takes none)
+      step-on-device result left it (is-theirs (asker_of processes p now) files (length old) call device is takes none)
 
 -- a path on a terminal or a pipe is on no file
 pub device-no-file : (files : Files) (p n : ℕ) (opened : OpenPath) → open_path files.io p n ≡ Some opened → IsDevice opened.desc.target → open_file files p n ≡ None
@@ -142,31 +142,31 @@ module _ (asker : Asker) (files : Files) (terms : ℕ) (execute : Bool) (list : 
   slash-leads true lead leads is = absurd (nowhere-device E_BPNAM is)
   slash-leads false lead leads is = leads
 
-  device-leads : (search : Search) (device : Option Dev) → way_of_device files list device ≡ to_device → LeadsToDevice (on_device search list device)
+  device-leads : (search : Search) (device : Option Dev) → route_of_device files list device ≡ to_device → LeadsToDevice (on_device search list device)
   device-leads search None is = absurd (nowhere-device _ is)
   device-leads search (Some (Drive drive)) is = absurd (on_drive (volume_at files drive) is)
     where
-      on_drive : (v : Option DiskVolume) → way_on_drive drive list.names v ≡ to_device → ⊥
+      on_drive : (v : Option DiskVolume) → route_on_drive drive list.names v ≡ to_device → ⊥
       on_drive None is = nowhere-device _ is
       on_drive (Some v) is = along-device _ list.names is
   device-leads search (Some (Term terminal)) is = slash-leads (has_slash_behind_device list) (to_terminal terminal) tt is
   device-leads search (Some Pipe) is = slash-leads (has_slash_behind_device list) to_pipe tt is
 
-  way-leads : (search : Search) (device : Option (List ℕ)) → way_by asker files terms execute list device ≡ to_device → LeadsToDevice (lead_by_device search (length files.drives) terms list device)
+  way-leads : (search : Search) (device : Option (List ℕ)) → route_by asker files terms execute list device ≡ to_device → LeadsToDevice (lead_by_device search (length files.drives) terms list device)
   way-leads search None is = absurd (from (directory_of files asker.caller.process.0 execute) is)
     where
-      from : (place : Option FilePlace) → way_from place list.names ≡ to_device → ⊥
+      from : (place : Option FilePlace) → route_from place list.names ≡ to_device → ⊥
       from None is = nowhere-device _ is
       from (Some place) is = along-device place list.names is
   way-leads search (Some device) is = device-leads search (device_of (length files.drives) terms device) is
 
-  pub open-leads : way_of asker files terms execute list ≡ to_device → LeadsToDevice (lead_of what_is_there (length files.drives) terms list)
+  pub open-leads : route_of asker files terms execute list ≡ to_device → LeadsToDevice (lead_of what_is_there (length files.drives) terms list)
   open-leads is = way-leads what_is_there list.device is
 
-  pub create-leads : way_to_new asker files terms execute list ≡ to_device → LeadsToDevice (lead_of a_new_place (length files.drives) terms list)
+  pub create-leads : route_to_new asker files terms execute list ≡ to_device → LeadsToDevice (lead_of a_new_place (length files.drives) terms list)
   create-leads is = by_dots (ends_in_dots list) (is_root files terms list) is
     where
-      by_dots : (dots root : Bool) → (if dots || root then nowhere E_BPNAM else way_of asker files terms execute list)
+      by_dots : (dots root : Bool) → (if dots || root then nowhere E_BPNAM else route_of asker files terms execute list)
           ≡ to_device → LeadsToDevice (if dots then leads_nowhere E_BPNAM else lead_by_device a_new_place
           (length files.drives) terms list list.device)
       by_dots true root is = absurd (nowhere-device E_BPNAM is)

@@ -12,11 +12,11 @@ use Rattle.os9_outer.specs.TerminalState.{TerminalState}
 use Rattle.user_names.specs.declared.name_fault.NameFault.{NameFault}
 use Rattle.user_names.specs.declared.name_fault.NameFault.TheVariants.{Unreadable, NoName}
 use Rattle.call_rules.specs.CallResult.{CallResult}
-use Rattle.call_rules.specs.Inner.{Inner, regs_at}
+use Rattle.call_rules.specs.Processes.{Processes, regs_at}
 use Rattle.call_rules.specs.UserBytes.{user_bytes}
 use Rattle.io_model.specs.Path.{free_number, new_number, slot_of}
 use Rattle.io_model.specs.Pipe.{free_pipe, pipes_after_begin}
-use Rattle.io_model.specs.declared.kept.Kept.{Kept}
+use Rattle.io_model.specs.declared.pending.PendingCall.{PendingCall}
 use Rattle.io_model.specs.declared.path.Desc.{Desc}
 use Rattle.io_model.specs.declared.path.Target.{Target}
 use Rattle.io_model.specs.declared.path.Target.TheVariants.{File, Folder, Term, Pipe}
@@ -25,8 +25,8 @@ use Rattle.io_model.specs.declared.terminal.Progress.TheVariants.{Done, Wait, En
 use Rattle.io_model.specs.declared.terminal.ReadKind.{ReadKind}
 use Rattle.io_model.specs.declared.terminal.ReadKind.TheVariants.{Bytes, WholeLine}
 use Rattle.io_rules.specs.Again.{path_number}
-use Rattle.io_rules.specs.Attempts.{Does, IoAttempts, caller_of, io_step, kept_in}
-use Rattle.io_rules.specs.Io.{Io, OpenPath, kept_at, new_desc, open_path, with_call, with_pipes}
+use Rattle.io_rules.specs.Attempts.{Does, IoAttempts, caller_of, io_step, pending_in}
+use Rattle.io_rules.specs.Io.{Io, OpenPath, pending_at, new_desc, open_path, with_call, with_pipes}
 use Rattle.io_rules.specs.Lead.{Lead, a_new_place, lead_of, nowhere, to_pipe, to_terminal, what_is_there}
 use Rattle.io_rules.specs.Modes.{can_read, can_write, is_mode}
 use Rattle.io_rules.specs.Open.{begins, opens_lead, reads_list}
@@ -61,7 +61,7 @@ module _ (device : IoCall) (number : ℕ) (caller : Caller) (io : Io) where
 
   -- it does not wait, or it waits on a terminal or a pipe
   abbrev EffectWaits : IoEffect → Type 0
-  EffectWaits effect = (kept_in effect.end ≡ None) ⊎ (NamesDevice × (effect.io.paths ≡ io.paths))
+  EffectWaits effect = (pending_in effect.end ≡ None) ⊎ (NamesDevice × (effect.io.paths ≡ io.paths))
 
   abbrev StepWaits : IoStep → Type 0
   StepWaits (refused number) = Unit {0}
@@ -115,7 +115,7 @@ module _ (device : IoCall) (number : ℕ) (caller : Caller) (io : Io) where
     names opened is target same on =
         record { takes = takes; opened = opened; is = is; on = subst IsDevice (sym same) on }
 
-    wait-read : (kind : ReadKind) (now : Kept) (opened : OpenPath) → open_path io caller.process.0 number ≡ Some
+    wait-read : (kind : ReadKind) (now : PendingCall) (opened : OpenPath) → open_path io caller.process.0 number ≡ Some
         opened → (target : Target) → opened.desc.target ≡ target → StepWaits (reads_target kind caller io now target)
     wait-read kind now opened is (File drive sector) same = tt
     wait-read kind now opened is (Folder drive sector) same = tt
@@ -123,7 +123,7 @@ module _ (device : IoCall) (number : ℕ) (caller : Caller) (io : Io) where
     wait-read Bytes now opened is (Pipe pipe) same = inr (names opened is (Pipe pipe) same refl, refl)
     wait-read WholeLine now opened is (Pipe pipe) same = inr (names opened is (Pipe pipe) same refl, refl)
 
-    wait-write : (sending : Sending) (now : Kept) (opened : OpenPath) → open_path io caller.process.0 number ≡ Some
+    wait-write : (sending : Sending) (now : PendingCall) (opened : OpenPath) → open_path io caller.process.0 number ≡ Some
         opened → (target : Target) → opened.desc.target ≡ target → StepWaits (writes_target sending caller io now
         target)
     wait-write sending now opened is (File drive sector) same = tt
@@ -183,7 +183,7 @@ module _ (caller : Caller) (io : Io) where
   step-waits Call.Write drives terms =
       wait-sends Call.Write refl (sent_bytes caller) I_WRITE (user_bytes caller.cells caller.regs.x caller.regs.y)
   step-waits Call.WritLn drives terms =
-      wait-sends Call.WritLn refl (sent_line caller) I_WRITLN (line_bytes caller (kept_at io caller.process.0))
+      wait-sends Call.WritLn refl (sent_line caller) I_WRITLN (line_bytes caller (pending_at io caller.process.0))
   step-waits Call.GetStt drives terms =
       wait-needs Call.GetStt caller.regs.a caller io (open_path io caller.process.0 caller.regs.a) E_BPNUM _
       (λ opened is. wait-status Call.GetStt caller.regs.a caller io opened.desc.target (caller.regs.b == SS_OPT) (caller.regs.b == SS_READY) (caller.regs.b == SS_EOF))
@@ -195,38 +195,39 @@ module _ (caller : Caller) (io : Io) where
 
 -- ---- an attempt
 
-write-over : (write : TerminalWrite) (answer : Progress) (end : IoEnd) → write_ends write answer ≡ Some end → kept_in end ≡ None
-write-over write (Done count) end is = ap kept_in (sym (same_Some (answers write.regs) end is))
+write-over : (write : TerminalWrite) (answer : Progress) (end : IoEnd) → write_ends write answer ≡ Some end → pending_in end ≡ None
+write-over write (Done count) end is = ap pending_in (sym (same_Some (answers write.regs) end is))
 write-over write Wait end is = absurd (none-some end is)
 write-over write End end is = absurd (none-some end is)
-write-over write Fault end is = ap kept_in (sym (same_Some (fails _) end is))
+write-over write Fault end is = ap pending_in (sym (same_Some (fails _) end is))
 write-over write NoMemory end is = absurd (none-some end is)
 
 module _ (device : IoCall) (number : ℕ) (caller : Caller) (io : Io) (before after : List TerminalState) where
   does-waits : (step : IoStep) (effect : IoEffect) → StepWaits device number caller io step → Does step caller io effect before after → EffectWaits device number caller io effect
-  does-waits (refused error) effect waits (is, same) = inl (ap (λ (effect : IoEffect). kept_in effect.end) is)
+  does-waits (refused error) effect waits (is, same) = inl (ap (λ (effect : IoEffect). pending_in effect.end) is)
   does-waits (comes it) effect waits (is, same) = subst (EffectWaits device number caller io) (sym is) waits
   does-waits (reads read) effect waits it = inr (waits, ap (λ (effect : IoEffect). effect.io.paths) it.effect_is)
   does-waits (writes write) effect waits it =
-      inl (ap (λ (effect : IoEffect). kept_in effect.end) it.effect_is ∙ write-over write it.answer it.end it.ends)
+      inl (ap (λ (effect : IoEffect). pending_in effect.end) it.effect_is ∙ write-over write it.answer it.end it.ends)
 
 -- what is kept of a call is what was put there
-kept-put : (io : Io) (p : ℕ) (put : Option Kept) (kept : Kept) → kept_at (with_call io p put) p ≡ Some kept → put ≡ None → ⊥
-kept-put io p put kept is none =
+kept-put : (io : Io) (p : ℕ) (put : Option PendingCall) (pending : PendingCall) → pending_at (with_call io p put) p ≡ Some pending → put ≡ None → ⊥
+kept-put io p put pending is none =
     elim (cases_lt p (length io.calls)) [
-      | inl within ↦ none-some kept (sym none ∙ sym (get_or-set_same io.calls p put None within) ∙ is)
-      | inr past ↦ none-some kept (sym (get_or_past (with_call io p put).calls p None (rw length-set past)) ∙ is)
+      | inl within ↦ none-some pending (sym none ∙ sym (get_or-set_same io.calls p put None within) ∙ is)
+      | inr past ↦ none-some pending (sym (get_or_past (with_call io p put).calls p None (rw length-set past)) ∙ is)
     ]
 
-device-waits : (call : PathCall) (device : IoCall) → device_call call ≡ Some device → (inner : Inner) (io new : Io)
-    (drives p : ℕ) (result : CallResult) (before after : List TerminalState) → IoAttempts device inner io drives p
-    result new before after → (kept : Kept) → kept_at new p ≡ Some kept → WaitsOnDevice call inner io p new
-device-waits call device device_is inner io new drives p result before after it kept is =
-    by_effect (does-waits device (path_number device (regs_at inner p)) (caller_of inner p) io before after _ it.effect (step-waits (caller_of inner p) io device drives (length before)) it.does)
+device-waits : (call : PathCall) (device : IoCall) → device_call call ≡ Some device → (processes : Processes) (io new : Io)
+    (drives p : ℕ) (result : CallResult) (before after : List TerminalState) → IoAttempts device processes io drives p
+    result new before after → (pending : PendingCall) → pending_at new p ≡ Some pending → WaitsOnDevice call processes io p new
+device-waits call device device_is processes io new drives p result before after it pending is =
+    by_effect (does-waits device (path_number device (regs_at processes p)) (caller_of processes p) io before after _ it.effect (step-waits (caller_of processes p) io device drives (length before))
+        it.does)
   where
-    by_effect : EffectWaits device (path_number device (regs_at inner p)) (caller_of inner p) io it.effect → WaitsOnDevice call inner io p new
+    by_effect : EffectWaits device (path_number device (regs_at processes p)) (caller_of processes p) io it.effect → WaitsOnDevice call processes io p new
     by_effect (inl over) =
-        absurd (kept-put it.effect.io p (kept_in it.effect.end) kept (sym (ap (λ (io : Io). kept_at io p) it.state) ∙ is) over)
+        absurd (kept-put it.effect.io p (pending_in it.effect.end) pending (sym (ap (λ (io : Io). pending_at io p) it.state) ∙ is) over)
     by_effect (inr (names, paths)) = record {
       device = device;
       device_is = device_is;
@@ -238,18 +239,18 @@ device-waits call device device_is inner io new drives p result before after it 
     }
 
 -- a call on files that waits
-pub file-waits : (call : PathCall) (inner : Inner) (files : Files) (now : TimePacket) (p : ℕ) (result : CallResult)
-    (new : Files) (before after : List TerminalState) → FileAttempts call inner files now p result new before after
-    → (kept : Kept) → kept_at new.io p ≡ Some kept → WaitsOnDevice call inner files.io p new.io ⊎ WaitsForRecord call
-    inner files now p result new before after
-file-waits call inner files now p result new before after it kept is =
-    by_case (attempt-comes call inner files now p result new before after it)
+pub file-waits : (call : PathCall) (processes : Processes) (files : Files) (now : TimePacket) (p : ℕ) (result : CallResult)
+    (new : Files) (before after : List TerminalState) → FileAttempts call processes files now p result new before after
+    → (pending : PendingCall) → pending_at new.io p ≡ Some pending → WaitsOnDevice call processes files.io p new.io ⊎ WaitsForRecord call
+    processes files now p result new before after
+file-waits call processes files now p result new before after it pending is =
+    by_case (attempt-comes call processes files now p result new before after it)
   where
-    by_case : IsOnDevice call inner files p result new before after ⊎ LeavesDevices call inner files now p result new
-        before after ⊎ WaitsForRecord call inner files now p result new before after → WaitsOnDevice call inner
-        files.io p new.io ⊎ WaitsForRecord call inner files now p result new before after
+    by_case : IsOnDevice call processes files p result new before after ⊎ LeavesDevices call processes files now p result new
+        before after ⊎ WaitsForRecord call processes files now p result new before after → WaitsOnDevice call processes
+        files.io p new.io ⊎ WaitsForRecord call processes files now p result new before after
     by_case (inl on) =
-        inl (device-waits call on.device on.device_is inner files.io new.io (length files.drives) p result before after on.attempted kept is)
+        inl (device-waits call on.device on.device_is processes files.io new.io (length files.drives) p result before after on.attempted pending is)
     by_case (inr (inl left)) =
-        absurd (none-some kept (sym (io-kept inner files p result new before after left).calls.none ∙ is))
+        absurd (none-some pending (sym (io-kept processes files p result new before after left).calls.none ∙ is))
     by_case (inr (inr waits)) = inr waits

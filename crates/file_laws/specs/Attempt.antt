@@ -5,14 +5,14 @@ use Rattle.os9_base.specs.declared.registers.Regs.{Regs}
 use Rattle.os9_base.specs.declared.registers.TimePacket.{TimePacket}
 use Rattle.os9_outer.specs.TerminalState.{TerminalState}
 use Rattle.call_rules.specs.CallResult.{CallResult}
-use Rattle.call_rules.specs.Inner.{Inner, regs_at}
+use Rattle.call_rules.specs.Processes.{Processes, regs_at}
 use Rattle.io_rules.specs.Again.{path_number}
 use Rattle.io_rules.specs.PathList.{PathList}
 use Rattle.io_rules.specs.declared.io_call.IoCall.{IoCall}
 use Rattle.file_rules.specs.Attempts.{FileAttempts, asker_of}
 use Rattle.file_rules.specs.Files.{Files, Asker}
 use Rattle.file_rules.specs.Open.{is_for_execution}
-use Rattle.file_rules.specs.Way.{Way, list_of, way_of, way_to_new}
+use Rattle.file_rules.specs.Route.{Route, list_of, route_of, route_to_new}
 use Rattle.file_rules.specs.declared.path_call.PathCall.{PathCall}
 use Rattle.file_laws.specs.Claims.{Made}
 use Rattle.file_laws.specs.Devices.{device_call, takes_number, HasNoFiles, IsOnDevice, IsOnNoFile, WaitsOnDevice}
@@ -20,7 +20,7 @@ use Rattle.file_laws.specs.Touch.{KeepsIo, KeepsTable, LeavesDevices, OneDriveFa
 
 pub record Attempt : Type 0 where
   pub call : PathCall
-  pub inner : Inner  -- the processes
+  pub processes : Processes
   pub files : Files
   pub now : TimePacket
   pub process : ℕ
@@ -28,18 +28,18 @@ pub record Attempt : Type 0 where
   pub new : Files  -- the state after it
   pub before : List TerminalState
   pub after : List TerminalState
-  pub attempted : FileAttempts call inner files now process result new before after
+  pub attempted : FileAttempts call processes files now process result new before after
 
 -- the calling process, and its registers
 abbrev pub asker_in : Attempt → Asker
-asker_in it = asker_of it.inner it.process it.now
+asker_in it = asker_of it.processes it.process it.now
 
 abbrev pub regs_in : Attempt → Regs
-regs_in it = regs_at it.inner it.process
+regs_in it = regs_at it.processes it.process
 
 -- it has the result of an attempt of the device call
 abbrev pub IsAsOnDevice : Attempt → Type 0
-IsAsOnDevice it = IsOnDevice it.call it.inner it.files it.process it.result it.new it.before it.after
+IsAsOnDevice it = IsOnDevice it.call it.processes it.files it.process it.result it.new it.before it.after
 
 -- it is an attempt on a device: it is on no file
 abbrev pub OnDevice : Attempt → Type 0
@@ -47,11 +47,11 @@ OnDevice it = IsAsOnDevice it × IsOnNoFile it.call (asker_in it) it.files (leng
 
 -- it touches no terminal and no pipe
 abbrev pub TouchesNone : Attempt → Type 0
-TouchesNone it = LeavesDevices it.call it.inner it.files it.now it.process it.result it.new it.before it.after
+TouchesNone it = LeavesDevices it.call it.processes it.files it.now it.process it.result it.new it.before it.after
 
 -- it waits for a record of a file
 abbrev pub WaitsOnRecord : Attempt → Type 0
-WaitsOnRecord it = WaitsForRecord it.call it.inner it.files it.now it.process it.result it.new it.before it.after
+WaitsOnRecord it = WaitsForRecord it.call it.processes it.files it.now it.process it.result it.new it.before it.after
 
 -- it leaves input and output unchanged, except for the position of a path and a new path of the process
 abbrev pub KeepsDevices : Attempt → Type 0
@@ -70,17 +70,17 @@ pub record IsOnNumber (it : Attempt) (number : ℕ) : Type 0 where
 
 -- it waits, on a terminal or a pipe
 abbrev pub Waits : Attempt → Type 0
-Waits it = WaitsOnDevice it.call it.inner it.files.io it.process it.new.io
+Waits it = WaitsOnDevice it.call it.processes it.files.io it.process it.new.io
 
--- it has a path list, from which I$Open and I$Create find this way
+-- it has a path list, from which I$Open and I$Create find this route
 abbrev pub HasList : Attempt → PathList → Type 0
 HasList it list = list_of (asker_in it) ≡ Ok list
 
-abbrev pub way_to_open : Attempt → PathList → Way
-way_to_open it list = way_of (asker_in it) it.files (length it.before) (is_for_execution (regs_in it).a) list
+abbrev pub route_to_open : Attempt → PathList → Route
+route_to_open it list = route_of (asker_in it) it.files (length it.before) (is_for_execution (regs_in it).a) list
 
-abbrev pub way_to_create : Attempt → PathList → Way
-way_to_create it list = way_to_new (asker_in it) it.files (length it.before) (is_for_execution (regs_in it).a) list
+abbrev pub route_to_create : Attempt → PathList → Route
+route_to_create it list = route_to_new (asker_in it) it.files (length it.before) (is_for_execution (regs_in it).a) list
 
 -- no volume is mounted, and its process has no directory
 abbrev pub IsWithoutFiles : Attempt → Type 0

@@ -26,7 +26,7 @@ use Rattle.file_rules.specs.Change.{MayBeTooLong}
 use Rattle.file_rules.specs.ChgDir.{may_go_to}
 use Rattle.file_rules.specs.Create.{clusters_for}
 use Rattle.file_rules.specs.Files.{Asker, Files, OpenFile, directory_of, volume_at}
-use Rattle.file_rules.specs.Locking.{is_for_update, position_of, request_kept}
+use Rattle.file_rules.specs.Locking.{is_for_update, position_of, pending_request}
 use Rattle.file_rules.specs.MakDir.{new_directory_size}
 use Rattle.file_rules.specs.Open.{is_for_execution, may_open, says_directory}
 use Rattle.file_rules.specs.Read.{read_start}
@@ -34,7 +34,7 @@ use Rattle.file_rules.specs.Seek.{long_of}
 use Rattle.file_rules.specs.Sharing.{is_not_shared, is_open}
 use Rattle.file_rules.specs.Status.{asked_bytes}
 use Rattle.file_rules.specs.Step.{VolumeChange, changes, deed_of}
-use Rattle.file_rules.specs.Way.{Found, Way, along, before_last, is_root, last_of, list_of, to_device, way_of, way_to_new}
+use Rattle.file_rules.specs.Route.{Found, Route, along, before_last, is_root, last_of, list_of, to_device, route_of, route_to_new}
 use Rattle.file_rules.specs.Write.{line_moved}
 use Rattle.file_rules.specs.declared.path_call.PathCall.{PathCall}
 use Rattle.file_rules.specs.declared.path_call.PathCall.TheVariants as Call
@@ -42,7 +42,7 @@ use Rattle.lock_model.specs.declared.place.FilePlace.{FilePlace}
 use Rattle.file_rules.specs.declared.status.TheConstants.{SS_ATTR, SS_FD, SS_LOCK, SS_POS, SS_SIZE, SS_TICKS}
 use Rattle.file_laws.specs.Claims.{ClosesCycle, IsLockedOut, Made, Names}
 
--- ---- the list that it reads, and the way of the list
+-- ---- the list that it reads, and the route of the list
 
 -- a call reads a path list
 abbrev pub reads_list : PathCall → Bool
@@ -78,17 +78,17 @@ walked Call.Open names = names
 walked Call.ChgDir names = names
 walked call names = before_last names
 
-abbrev pub way_in : Made → PathList → Way
-way_in m list =
-    if makes_new m.call then way_to_new m.asker m.files m.terms (executes m.call m.asker.caller.regs.a) list
-    else way_of m.asker m.files m.terms (executes m.call m.asker.caller.regs.a) list
+abbrev pub route_in : Made → PathList → Route
+route_in m list =
+    if makes_new m.call then route_to_new m.asker m.files m.terms (executes m.call m.asker.caller.regs.a) list
+    else route_of m.asker m.files m.terms (executes m.call m.asker.caller.regs.a) list
 
--- its list has this way
-pub record Leads (m : Made) (way : Way) : Type 0 where
+-- its list has this route
+pub record Leads (m : Made) (route : Route) : Type 0 where
   pub reads : reads_list m.call ≡ true
   pub list : PathList
   pub read : list_of m.asker ≡ Ok list
-  pub is : way_in m list ≡ way
+  pub is : route_in m list ≡ route
 
 -- the device at which a list starts, if the list names an existing one
 abbrev pub device_in : Made → PathList → Option Dev
@@ -142,7 +142,7 @@ abbrev pub IsUnreadable : PathCall → Asker → Files → Type 0
 IsUnreadable Call.Read asker files = user_bytes asker.caller.cells asker.caller.regs.x asker.caller.regs.y ≡ None
 IsUnreadable Call.ReadLn asker files = user_bytes asker.caller.cells asker.caller.regs.x asker.caller.regs.y ≡ None
 IsUnreadable Call.Write asker files = user_bytes asker.caller.cells asker.caller.regs.x asker.caller.regs.y ≡ None
-IsUnreadable Call.WritLn asker files = line_moved asker (request_kept asker files) ≡ None
+IsUnreadable Call.WritLn asker files = line_moved asker (pending_request asker files) ≡ None
 IsUnreadable Call.GetStt asker files =
     (asker.caller.regs.b ≡ SS_OPT) × (user_bytes asker.caller.cells asker.caller.regs.x OPTION_BYTES ≡ None)
     ⊎ (asker.caller.regs.b ≡ SS_FD) × (user_bytes asker.caller.cells asker.caller.regs.x (asked_bytes asker) ≡ None)
@@ -214,7 +214,7 @@ Sizes Call.Write asker files found size =
     (bytes : List ℕ) × (user_bytes asker.caller.cells asker.caller.regs.x asker.caller.regs.y ≡ Some bytes)
     × (0 < asker.caller.regs.y) × (size ≡ size_written asker files found bytes)
 Sizes Call.WritLn asker files found size =
-    (bytes : List ℕ) × (line_moved asker (request_kept asker files) ≡ Some bytes) × (0 < asker.caller.regs.y)
+    (bytes : List ℕ) × (line_moved asker (pending_request asker files) ≡ Some bytes) × (0 < asker.caller.regs.y)
     × (size ≡ size_written asker files found bytes)
 Sizes Call.PErr asker files found size = size ≡ size_written asker files found (error_line asker.caller.regs.b)
 Sizes Call.SetStt asker files found size = (asker.caller.regs.b ≡ SS_SIZE) × (size ≡ long_of asker.caller.regs)

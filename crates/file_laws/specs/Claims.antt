@@ -12,7 +12,7 @@ use Rattle.lock_model.specs.declared.lock.Request.{Request}
 use Rattle.io_rules.specs.Modes.{can_read, can_write}
 use Rattle.io_rules.specs.Write.{error_line}
 use Rattle.file_rules.specs.Files.{Asker, Files, OpenFile, open_file}
-use Rattle.file_rules.specs.Locking.{is_for_update, request_kept, request_now}
+use Rattle.file_rules.specs.Locking.{is_for_update, pending_request, request_now}
 use Rattle.file_rules.specs.Read.{read_claim, read_start}
 use Rattle.file_rules.specs.Seek.{long_of}
 use Rattle.file_rules.specs.Status.{lock_claim, size_claim}
@@ -62,7 +62,7 @@ pub data Claims (call : PathCall) (asker : Asker) (files : Files) (found : OpenF
       → user_bytes asker.caller.cells asker.caller.regs.x asker.caller.regs.y ≡ Some bytes
       → claim ≡ write_claim found I_WRITE (length bytes) → Claims call asker files found claim
   writes_line : (bytes : List ℕ) → call ≡ Call.WritLn → CanWrite asker found
-      → line_moved asker (request_kept asker files) ≡ Some bytes
+      → line_moved asker (pending_request asker files) ≡ Some bytes
       → claim ≡ write_claim found I_WRITLN (length bytes) → Claims call asker files found claim
   tells_error : call ≡ Call.PErr → can_write found.opened.desc.mode ≡ true
       → claim ≡ write_claim found F_PERR (length (error_line asker.caller.regs.b)) → Claims call asker files found claim

@@ -3,7 +3,7 @@
 use Rattle.std.specs.Prelude.{◌≡◌, ◌≢◌, ℕ, ⊤, Bool, true, false, Option, Some, None, Ok, List, length}
 use Rattle.os9_outer.specs.TerminalState.{TerminalState}
 use Rattle.call_rules.specs.CallResult.{CallResult}
-use Rattle.call_rules.specs.Inner.{Inner, regs_at}
+use Rattle.call_rules.specs.Processes.{Processes, regs_at}
 use Rattle.io_model.specs.declared.path.Target.{Target}
 use Rattle.lock_model.specs.Locks.{request_of}
 use Rattle.lock_model.specs.Records.{Records, with_waiting, without_lock}
@@ -17,7 +17,7 @@ use Rattle.io_rules.specs.declared.io_call.IoCall.TheVariants as Device
 use Rattle.io_rules.specs.declared.modes.TheConstants.{STANDARD_ERROR}
 use Rattle.file_rules.specs.Files.{Asker, Files, NoneFailed, directory_of, open_file, place_of_target, volume_at}
 use Rattle.file_rules.specs.Open.{is_for_execution}
-use Rattle.file_rules.specs.Way.{list_of, to_device, way_of, way_to_new}
+use Rattle.file_rules.specs.Route.{list_of, to_device, route_of, route_to_new}
 use Rattle.file_rules.specs.declared.path_call.PathCall.{PathCall}
 use Rattle.file_rules.specs.declared.path_call.PathCall.TheVariants as Call
 
@@ -63,10 +63,10 @@ IsOnNoFile Call.Dup asker files terms = ⊤
 IsOnNoFile Call.Close asker files terms = ⊤
 IsOnNoFile Call.Open asker files terms =
     (list : PathList) × (list_of asker ≡ Ok list)
-    × (way_of asker files terms (is_for_execution asker.caller.regs.a) list ≡ to_device)
+    × (route_of asker files terms (is_for_execution asker.caller.regs.a) list ≡ to_device)
 IsOnNoFile Call.Create asker files terms =
     (list : PathList) × (list_of asker ≡ Ok list)
-    × (way_to_new asker files terms (is_for_execution asker.caller.regs.a) list ≡ to_device)
+    × (route_to_new asker files terms (is_for_execution asker.caller.regs.a) list ≡ to_device)
 IsOnNoFile Call.MakDir asker files terms = ⊥
 IsOnNoFile Call.ChgDir asker files terms = ⊥
 IsOnNoFile Call.Delete asker files terms = ⊥
@@ -88,25 +88,26 @@ pub data LocksStay (call : PathCall) (files : Files) (p n : ℕ) (now : Records)
 -- An attempt has the result of an attempt of the call on terminals and pipes; the directories of processes and the
 -- volumes are unchanged, and no drive fails. This does not say that the call is on no file, since a file may give that
 -- result too.
-pub record IsOnDevice (call : PathCall) (inner : Inner) (files : Files) (p : ℕ) (result : CallResult) (new : Files)
+pub record IsOnDevice (call : PathCall) (processes : Processes) (files : Files) (p : ℕ) (result : CallResult)
+    (new : Files)
     (before after : List TerminalState) : Type 0 where
   pub device : IoCall
   pub device_is : device_call call ≡ Some device
-  pub attempted : IoAttempts device inner files.io (length files.drives) p result new.io before after
+  pub attempted : IoAttempts device processes files.io (length files.drives) p result new.io before after
   pub directories : new.directories ≡ files.directories
   pub volumes : new.volumes ≡ files.volumes
   pub none_failed : NoneFailed files.drives new.drives
   pub requests : NoneRequested p files new
-  pub locks : LocksStay call files p (regs_at inner p).a new.records
+  pub locks : LocksStay call files p (regs_at processes p).a new.records
 
 -- a call of a process waits: it is a call on terminals and pipes, on the number of a path on a terminal or a pipe, and
 -- the paths are unchanged
-pub record WaitsOnDevice (call : PathCall) (inner : Inner) (io : Io) (p : ℕ) (new : Io) : Type 0 where
+pub record WaitsOnDevice (call : PathCall) (processes : Processes) (io : Io) (p : ℕ) (new : Io) : Type 0 where
   pub device : IoCall
   pub device_is : device_call call ≡ Some device
   pub takes : takes_number device ≡ true
   pub opened : OpenPath
-  pub is : open_path io p (path_number device (regs_at inner p)) ≡ Some opened
+  pub is : open_path io p (path_number device (regs_at processes p)) ≡ Some opened
   pub on : IsDevice opened.desc.target
   pub paths : new.paths ≡ io.paths
 

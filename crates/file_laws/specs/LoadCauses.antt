@@ -10,7 +10,7 @@ use Rattle.proc_model.specs.ModuleList.{ModuleEntry}
 use Rattle.proc_model.specs.Objects.{file_blocks}
 use Rattle.proc_model.specs.declared.memory.TheConstants.{MOST_LINKS}
 use Rattle.proc_rules.specs.Records.{free_process}
-use Rattle.call_rules.specs.Inner.{Inner, own_at, regs_at}
+use Rattle.call_rules.specs.Processes.{Processes, own_at, regs_at}
 use Rattle.call_rules.specs.Link.{Mapped, links_at, mapped_group}
 use Rattle.call_rules.specs.Program.{asks_for_program, blocks_of_pages, most_pages, program_kind}
 use Rattle.io_rules.specs.declared.modes.TheConstants.{MODE_EXECUTE}
@@ -19,7 +19,7 @@ use Rattle.file_rules.specs.Load.{Loaded, Loads, first_entered}
 use Rattle.file_rules.specs.Open.{may_open}
 use Rattle.file_rules.specs.Program.{loaded_program, parameters_of}
 use Rattle.file_rules.specs.ProgramFile.{ProgramFile}
-use Rattle.file_rules.specs.Way.{Found, to_device}
+use Rattle.file_rules.specs.Route.{Found, to_device}
 use Rattle.file_rules.specs.declared.path_call.PathCall.TheVariants as Call
 use Rattle.file_laws.specs.Causes.{FileCause, Finds, Leads}
 use Rattle.file_laws.specs.Claims.{Made}
@@ -58,12 +58,12 @@ pub record IsRead (asker : Asker) (files : Files) (terms : ℕ) (file : ProgramF
 -- ---- its modules
 
 -- its modules are tried one after another, with this outcome
-abbrev pub Enters : Inner → List ℕ → Result (List (Option ModuleEntry)) (ℕ × ℕ) → Type 0
+abbrev pub Enters : Processes → List ℕ → Result (List (Option ModuleEntry)) (ℕ × ℕ) → Type 0
 Enters m file outcome = EntersModules file (new_numbers m.memory (file_blocks file)) false 0 m.memory.modules outcome
 
 -- why it is not in memory: the number is that of its first refused module, or it has no module, or it needs more blocks
 -- than are free
-pub data GroupCause (m : Inner) (file : List ℕ) (number : ℕ) : Type 0 where
+pub data GroupCause (m : Processes) (file : List ℕ) (number : ℕ) : Type 0 where
   a_module : (at : ℕ) → Enters m file (Err (at, number)) → GroupCause m file number
   no_module : (entries : List (Option ModuleEntry)) → number ≡ E_BMID → Enters m file (Ok entries)
       → first_entered m.memory entries ≡ None → GroupCause m file number
@@ -72,7 +72,7 @@ pub data GroupCause (m : Inner) (file : List ℕ) (number : ℕ) : Type 0 where
 -- ---- the use of the file by the call
 
 -- why F$Load does not link its first module
-pub data LinkCause (m : Inner) (p : ℕ) (loaded : Loaded) (number : ℕ) : Type 0 where
+pub data LinkCause (m : Processes) (p : ℕ) (loaded : Loaded) (number : ℕ) : Type 0 where
   no_slots : number ≡ E_MEMFUL → mapped_group loaded.memory p loaded.first.entry.group ≡ None
       → LinkCause m p loaded number
   most_links : (mapped : Mapped) → number ≡ E_MEMFUL
@@ -80,14 +80,14 @@ pub data LinkCause (m : Inner) (p : ℕ) (loaded : Loaded) (number : ℕ) : Type
       → MOST_LINKS ≤ links_at (own_at m p) mapped.slot → LinkCause m p loaded number
 
 -- the numbers of pages and blocks in the data area of the program of a file
-abbrev pub pages_for : Inner → ℕ → ProgramFile → Loaded → ℕ
+abbrev pub pages_for : Processes → ℕ → ProgramFile → Loaded → ℕ
 pages_for m p file loaded = (loaded_program m p file loaded.first).pages
 
-abbrev pub blocks_for : Inner → ℕ → ProgramFile → Loaded → ℕ
+abbrev pub blocks_for : Processes → ℕ → ProgramFile → Loaded → ℕ
 blocks_for m p file loaded = blocks_of_pages (pages_for m p file loaded)
 
 -- why F$Fork and F$Chain do not start it in the process that begins, if there is one
-pub data StartCause (m : Inner) (p : ℕ) (begins : Option ℕ) (file : ProgramFile) (loaded : Loaded) (number : ℕ)
+pub data StartCause (m : Processes) (p : ℕ) (begins : Option ℕ) (file : ProgramFile) (loaded : Loaded) (number : ℕ)
     : Type 0 where
   no_program : number ≡ E_NEMOD → loaded.first.entry.info.kind ≢ program_kind
       → StartCause m p begins file loaded number
@@ -104,14 +104,14 @@ pub data StartCause (m : Inner) (p : ℕ) (begins : Option ℕ) (file : ProgramF
       → StartCause m p begins file loaded number
 
 -- the tests of F$Fork and F$Chain on their registers after the list was read
-pub data TestCause (m : Inner) (p number : ℕ) : Type 0 where
+pub data TestCause (m : Processes) (p number : ℕ) : Type 0 where
   no_parameters : number ≡ E_BPADDR → parameters_of m p ≡ None → TestCause m p number
   other_type : number ≡ E_NEMOD → asks_for_program (regs_at m p).a ≡ false → TestCause m p number
 
 -- ---- the cause of a refusal, by its number
 
 -- for a call with these tests, and with these causes of refusal after the file is in memory
-pub data CauseOfLoad (m : Inner) (asker : Asker) (files : Files) (terms : ℕ) (Tested : ℕ → Type 0)
+pub data CauseOfLoad (m : Processes) (asker : Asker) (files : Files) (terms : ℕ) (Tested : ℕ → Type 0)
     (Ends : ProgramFile → Loaded → ℕ → Type 0) (number : ℕ) : Type 0 where
   tested : Tested number → CauseOfLoad m asker files terms Tested Ends number
   not_read : ReadCause asker files terms number → CauseOfLoad m asker files terms Tested Ends number
@@ -121,14 +121,14 @@ pub data CauseOfLoad (m : Inner) (asker : Asker) (files : Files) (terms : ℕ) (
       → Loads m.memory file.bytes (Ok loaded) → Ends file loaded number
       → CauseOfLoad m asker files terms Tested Ends number
 
-abbrev pub LoadCause : Inner → Asker → Files → ℕ → ℕ → ℕ → Type 0
+abbrev pub LoadCause : Processes → Asker → Files → ℕ → ℕ → ℕ → Type 0
 LoadCause m asker files terms p number =
     CauseOfLoad m asker files terms (λ number. ⊥) (λ file. LinkCause m p) number
 
-abbrev pub ForkCause : Inner → Asker → Files → ℕ → ℕ → ℕ → Type 0
+abbrev pub ForkCause : Processes → Asker → Files → ℕ → ℕ → ℕ → Type 0
 ForkCause m asker files terms p number =
     CauseOfLoad m asker files terms (TestCause m p) (StartCause m p (free_process m.records)) number
 
-abbrev pub ChainCause : Inner → Asker → Files → ℕ → ℕ → ℕ → Type 0
+abbrev pub ChainCause : Processes → Asker → Files → ℕ → ℕ → ℕ → Type 0
 ChainCause m asker files terms p number =
     CauseOfLoad m asker files terms (TestCause m p) (StartCause m p (Some p)) number

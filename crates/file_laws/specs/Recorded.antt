@@ -10,7 +10,7 @@ use Rattle.lock_model.specs.Records.{Records, holding, with_waiting, without_loc
 use Rattle.lock_model.specs.declared.lock.Grant.TheVariants.{Granted, Wait}
 use Rattle.lock_model.specs.declared.lock.Request.{Request}
 use Rattle.file_rules.specs.Files.{OpenFile}
-use Rattle.file_rules.specs.Locking.{answer_to, is_for_update, request_kept}
+use Rattle.file_rules.specs.Locking.{answer_to, is_for_update, pending_request}
 use Rattle.file_rules.specs.Read.{bytes_at, lock_by}
 use Rattle.file_rules.specs.Seek.{long_of}
 use Rattle.file_rules.specs.Write.{line_moved}
@@ -43,7 +43,7 @@ pub data IsTaken (m : Made) (found : OpenFile) (request : Request) (kind : ReadK
 pub data IsSent (m : Made) (found : OpenFile) (bytes : List ℕ) : Type 0 where
   by_write : m.call ≡ Call.Write
       → user_bytes m.asker.caller.cells m.asker.caller.regs.x m.asker.caller.regs.y ≡ Some bytes → IsSent m found bytes
-  by_line : m.call ≡ Call.WritLn → line_moved m.asker (request_kept m.asker m.files) ≡ Some bytes
+  by_line : m.call ≡ Call.WritLn → line_moved m.asker (pending_request m.asker m.files) ≡ Some bytes
       → IsSent m found bytes
   by_error : m.call ≡ Call.PErr → bytes ≡ error_line m.asker.caller.regs.b → IsSent m found bytes
   by_size : m.call ≡ Call.SetStt → m.asker.caller.regs.b ≡ SS_SIZE

@@ -7,7 +7,7 @@ use Rattle.os9_base.specs.declared.registers.TimePacket.{TimePacket}
 use Rattle.os9_outer.specs.TerminalState.{TerminalState}
 use Rattle.proc_model.specs.MemoryChanges.{stored}
 use Rattle.call_rules.specs.CallResult.{CallResult, done, refused, waits}
-use Rattle.call_rules.specs.Inner.{Inner, with_memory, with_regs_of}
+use Rattle.call_rules.specs.Processes.{Processes, with_memory, with_regs_of}
 use Rattle.lock_model.specs.declared.lock.Grant.TheVariants.{Wait}
 use Rattle.lock_model.specs.declared.lock.Request.{Request}
 use Rattle.lock_model.specs.Records.{with_waiting}
@@ -15,7 +15,7 @@ use Rattle.rbf_model.specs.Volume.{DiskVolume}
 use Rattle.io_model.specs.Path.{ArePaths, PathTable, desc_of, is_held, new_number, numbers_of, paths_after_begin, with_desc}
 use Rattle.io_model.specs.declared.path.Desc.{Desc}
 use Rattle.io_model.specs.declared.path.Target.{Target}
-use Rattle.io_rules.specs.Io.{Io, OpenPath, kept_at, new_desc, open_path, with_call, with_paths}
+use Rattle.io_rules.specs.Io.{Io, OpenPath, pending_at, new_desc, open_path, with_call, with_paths}
 use Rattle.file_rules.specs.Attempts.{asker_of, file_step}
 use Rattle.file_rules.specs.Files.{Asker, Files, NoneFailed, OneFailed, OpenFile, directories_at, open_file, place_of_target, volume_at}
 use Rattle.file_rules.specs.Locking.{answer_to, call_of, waiting_in}
@@ -71,22 +71,22 @@ abbrev pub drive_reached : PathCall → Asker → Files → ℕ → Option ℕ
 drive_reached call asker files terms = drive_of (file_step call asker files terms)
 
 -- the call that a process makes at a time
-abbrev pub made_by : PathCall → Inner → Files → TimePacket → ℕ → ℕ → Made
-made_by call inner files now p terms =
-    record { call = call; asker = asker_of inner p now; files = files; terms = terms }
+abbrev pub made_by : PathCall → Processes → Files → TimePacket → ℕ → ℕ → Made
+made_by call processes files now p terms =
+    record { call = call; asker = asker_of processes p now; files = files; terms = terms }
 
 -- ---- its end
 
 -- the call is done: the process has these registers, and these bytes were stored at its addresses
-pub record IsDone (inner : Inner) (p : ℕ) (result : CallResult) : Type 0 where
+pub record IsDone (processes : Processes) (p : ℕ) (result : CallResult) : Type 0 where
   pub regs : Regs
   pub at : ℕ
   pub bytes : List ℕ
-  pub is : result ≡ done (with_regs_of (with_memory inner (stored inner.memory p at bytes)) p regs)
+  pub is : result ≡ done (with_regs_of (with_memory processes (stored processes.memory p at bytes)) p regs)
 
 -- the call is done or refused: it does not wait, and the process goes on
-abbrev pub IsOver : Inner → ℕ → CallResult → Type 0
-IsOver inner p result = IsDone inner p result ⊎ ((number : ℕ) × (result ≡ refused number))
+abbrev pub IsOver : Processes → ℕ → CallResult → Type 0
+IsOver processes p result = IsDone processes p result ⊎ ((number : ℕ) × (result ≡ refused number))
 
 -- ---- its effect on the paths
 
@@ -164,33 +164,33 @@ pub record RefusalLeaves (reached : Option ℕ) (files : Files) (p : ℕ) (resul
 -- an attempt touches no terminal and no pipe: only the paths of input and output change, and the process has no pending
 -- call then. The other processes keep their directories, and the process keeps its own except in I$ChgDir. The volumes
 -- are unchanged, or that of the reached drive changes, in a call that changes one
-pub record LeavesDevices (call : PathCall) (inner : Inner) (files : Files) (now : TimePacket) (p : ℕ)
+pub record LeavesDevices (call : PathCall) (processes : Processes) (files : Files) (now : TimePacket) (p : ℕ)
     (result : CallResult) (new : Files) (before after : List TerminalState) : Type 0 where
-  pub over : IsOver inner p result
-  pub paths : PathsMove call (asker_of inner p now) files new.io.paths
+  pub over : IsOver processes p result
+  pub paths : PathsMove call (asker_of processes p now) files new.io.paths
   pub rest : new.io ≡ with_call (with_paths files.io new.io.paths) p None
   pub terminals : after ≡ before
   pub requests : NoneRequested p files new
-  pub records : RecordsCome (made_by call inner files now p (length before)) new.records
+  pub records : RecordsCome (made_by call processes files now p (length before)) new.records
   pub directories : (q : ℕ) → q ≢ p → directories_at new q ≡ directories_at files q
   pub own : call ≢ Call.ChgDir → new.directories ≡ files.directories
   pub still : may_change_volume call ≡ false → new.volumes ≡ files.volumes
   pub volumes : NoVolumeChanges files new
-      ⊎ OneVolumeChanges (drive_reached call (asker_of inner p now) files (length before)) files new
-      ⊎ OneDriveFails (drive_reached call (asker_of inner p now) files (length before)) files result new
+      ⊎ OneVolumeChanges (drive_reached call (asker_of processes p now) files (length before)) files new
+      ⊎ OneDriveFails (drive_reached call (asker_of processes p now) files (length before)) files result new
   pub refusal : (number : ℕ) → result ≡ refused number
-      → RefusalLeaves (drive_reached call (asker_of inner p now) files (length before)) files p result new
+      → RefusalLeaves (drive_reached call (asker_of processes p now) files (length before)) files p result new
 
 -- ---- what a call leaves that waits for a record
 
 -- an attempt waits for a record of the file that the number of its call names: its request and the call are kept, and
 -- all else stays
-pub record WaitsForRecord (call : PathCall) (inner : Inner) (files : Files) (now : TimePacket) (p : ℕ)
+pub record WaitsForRecord (call : PathCall) (processes : Processes) (files : Files) (now : TimePacket) (p : ℕ)
     (result : CallResult) (new : Files) (before after : List TerminalState) : Type 0 where
   pub request : Request
-  pub requests : Requests (made_by call inner files now p (length before)) request
-  pub answer : answer_to (asker_of inner p now) files request ≡ Wait
-  pub result_is : result ≡ waits inner
+  pub requests : Requests (made_by call processes files now p (length before)) request
+  pub answer : answer_to (asker_of processes p now) files request ≡ Wait
+  pub result_is : result ≡ waits processes
   pub io : new.io ≡ with_call files.io p (Some (call_of request))
   pub records : new.records ≡ (waiting_in files request).records
   pub directories : new.directories ≡ files.directories
@@ -236,8 +236,8 @@ pub record KeepsPaths (p : ℕ) (old new : Io) : Type 0 where
 
 -- the process has no pending call; those of the others are unchanged, and the number of places for calls is the same
 pub record KeepsCalls (p : ℕ) (old new : Io) : Type 0 where
-  pub none : kept_at new p ≡ None
-  pub others : (q : ℕ) → q ≢ p → kept_at new q ≡ kept_at old q
+  pub none : pending_at new p ≡ None
+  pub others : (q : ℕ) → q ≢ p → pending_at new q ≡ pending_at old q
   pub places : length new.calls ≡ length old.calls
 
 -- the same, and the terminals and pipes are unchanged

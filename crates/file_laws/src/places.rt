@@ -10,7 +10,7 @@ ghost use Rattle.os9_outer.specs.TerminalState.{TerminalState};
 ghost use Rattle.rbf_model.specs.File.{is_directory};
 ghost use Rattle.rbf_model.specs.Volume.{DiskVolume, Vol};
 ghost use Rattle.call_rules.specs.CallResult.{CallResult};
-ghost use Rattle.call_rules.specs.Inner.{Inner};
+ghost use Rattle.call_rules.specs.Processes.{Processes};
 ghost use Rattle.io_rules.specs.Io.{Io};
 ghost use Rattle.io_rules.specs.Modes.{can_write};
 ghost use Rattle.file_rules.specs.Attempts.{AskerAttempts, FileAttempts};
@@ -67,7 +67,7 @@ pub fn paths_that_may_be_written_are_on_no_directory()
 /// kind (System Programmer's Manual, "I/O service requests"). By the state of the processes, and by
 /// the caller's registers and bytes.
 pub fn attempts_stay_on_what_is_there()
-    ensures attempt { (call : PathCall) (m : Inner) (files : Files) (now : TimePacket) (p : ℕ)
+    ensures attempt { (call : PathCall) (m : Processes) (files : Files) (now : TimePacket) (p : ℕ)
         (result : CallResult) (new : Files) (before after : List TerminalState)
         → FileAttempts call m files now p result new before after → AreKinds files
         → AreKinds new }
@@ -80,13 +80,14 @@ pub fn attempts_stay_on_what_is_there()
 /// After F$Load, and F$Fork and F$Chain of a program in a file, the targets of paths and the
 /// directories still exist (System Programmer's Manual, F$Load, F$Fork and F$Chain).
 pub fn loads_stay_on_what_is_there()
-    ensures load { (m : Inner) (asker : Asker) (old : Files) (terms p : ℕ) (result : CallResult)
+    ensures load { (m : Processes) (asker : Asker) (old : Files) (terms p : ℕ) (result : CallResult)
         (new : Files) → LoadAttempts m asker old terms p result new → AreKinds old
         → AreKinds new }
-    ensures fork { (m : Inner) (asker : Asker) (old : Files) (terms p : ℕ) (result : CallResult)
+    ensures fork { (m : Processes) (asker : Asker) (old : Files) (terms p : ℕ) (result : CallResult)
         (new : Files) → ForkAttempts m asker old terms p result new → AreKinds old
         → AreKinds new }
-    ensures chain { (m : Inner) (asker : Asker) (old : Files) (terms p : ℕ) (result : CallResult)
+    ensures chain { (m : Processes) (asker : Asker) (old : Files) (terms p : ℕ)
+        (result : CallResult)
         (new : Files) → ChainAttempts m asker old terms p result new → AreKinds old
         → AreKinds new }
 {}
@@ -94,7 +95,7 @@ pub fn loads_stay_on_what_is_there()
 /// No attempt loses or mounts a volume, or changes the number of drives or the number of processes
 /// that have a place for their directories.
 pub fn attempts_lose_no_volume()
-    ensures attempt { (call : PathCall) (m : Inner) (files : Files) (now : TimePacket) (p : ℕ)
+    ensures attempt { (call : PathCall) (m : Processes) (files : Files) (now : TimePacket) (p : ℕ)
         (result : CallResult) (new : Files) (before after : List TerminalState)
         → FileAttempts call m files now p result new before after → AreKinds files
         → AreAsMany files new }
@@ -106,10 +107,11 @@ pub fn attempts_lose_no_volume()
 
 /// The same for F$Load, and for F$Fork and F$Chain of a program in a file.
 pub fn loads_lose_no_volume()
-    ensures load { (m : Inner) (asker : Asker) (old : Files) (terms p : ℕ) (result : CallResult)
+    ensures load { (m : Processes) (asker : Asker) (old : Files) (terms p : ℕ) (result : CallResult)
         (new : Files) → LoadAttempts m asker old terms p result new → AreAsMany old new }
-    ensures fork { (m : Inner) (asker : Asker) (old : Files) (terms p : ℕ) (result : CallResult)
+    ensures fork { (m : Processes) (asker : Asker) (old : Files) (terms p : ℕ) (result : CallResult)
         (new : Files) → ForkAttempts m asker old terms p result new → AreAsMany old new }
-    ensures chain { (m : Inner) (asker : Asker) (old : Files) (terms p : ℕ) (result : CallResult)
+    ensures chain { (m : Processes) (asker : Asker) (old : Files) (terms p : ℕ)
+        (result : CallResult)
         (new : Files) → ChainAttempts m asker old terms p result new → AreAsMany old new }
 {}

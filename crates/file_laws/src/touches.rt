@@ -5,10 +5,10 @@ ghost use Rattle.std.specs.Prelude.{◌≡◌, ◌⊎◌, ℕ, Bool, false, Some
 ghost use Rattle.os9_base.specs.declared.registers.TimePacket.{TimePacket};
 ghost use Rattle.os9_outer.specs.TerminalState.{TerminalState};
 ghost use Rattle.call_rules.specs.CallResult.{CallResult, refused};
-ghost use Rattle.call_rules.specs.Inner.{Inner};
+ghost use Rattle.call_rules.specs.Processes.{Processes};
 ghost use Rattle.io_rules.specs.Attempts.{IoAttempts};
 ghost use Rattle.io_rules.specs.Codes.{io_call_of};
-ghost use Rattle.io_rules.specs.Io.{Io, OpenPath, kept_at, open_path};
+ghost use Rattle.io_rules.specs.Io.{Io, OpenPath, pending_at, open_path};
 ghost use Rattle.io_rules.specs.Lead.{a_new_place, lead_of, what_is_there};
 ghost use Rattle.io_rules.specs.PathList.{PathList};
 ghost use Rattle.io_rules.specs.declared.io_call.IoCall.{IoCall};
@@ -19,10 +19,10 @@ ghost use Rattle.file_rules.specs.Load.{LoadAttempts};
 ghost use Rattle.file_rules.specs.Program.{ChainAttempts, ForkAttempts, named_program, tests_program};
 ghost use Rattle.file_rules.specs.ProgramFile.{program_file};
 ghost use Rattle.file_rules.specs.Step.{drive_of};
-ghost use Rattle.file_rules.specs.Way.{to_device, way_of, way_to_new};
+ghost use Rattle.file_rules.specs.Route.{to_device, route_of, route_to_new};
 ghost use Rattle.file_rules.specs.declared.path_call.PathCall.{PathCall};
 ghost use Rattle.file_rules.specs.declared.path_call.PathCall.TheVariants as Call;
-ghost use Rattle.file_laws.specs.Attempt.{Attempt, HasFault, HasList, IsAsOnDevice, IsOnNumber, IsWithoutFiles, KeepsDevices, KeepsPathTable, OnDevice, TouchesNone, Waits, WaitsOnRecord, asker_in, made_in, way_to_create, way_to_open};
+ghost use Rattle.file_laws.specs.Attempt.{Attempt, HasFault, HasList, IsAsOnDevice, IsOnNumber, IsWithoutFiles, KeepsDevices, KeepsPathTable, OnDevice, TouchesNone, Waits, WaitsOnRecord, asker_in, made_in, route_to_create, route_to_open};
 ghost use Rattle.file_laws.specs.Causes.{FileCause};
 ghost use Rattle.file_laws.specs.LoadCauses.{ChainCause, ForkCause, LoadCause};
 ghost use Rattle.file_laws.specs.Touch.{FaultAnswers, LeavesFiles};
@@ -88,7 +88,7 @@ pub fn numbers_of_devices_are_theirs()
 /// on a terminal or a pipe, for example a pending call that is attempted again, is a call on
 /// terminals and pipes (Level Two manual, "I/O system").
 pub fn calls_that_wait_are_on_devices()
-    ensures waits { (it : Attempt) → IsSome (kept_at it.new.io it.process)
+    ensures waits { (it : Attempt) → IsSome (pending_at it.new.io it.process)
         → Waits it ⊎ WaitsOnRecord it }
     ensures again { (it : Attempt) (n : ℕ) (opened : OpenPath) → IsOnNumber it n
         → open_path it.files.io it.process n ≡ Some opened → IsDevice opened.desc.target
@@ -99,19 +99,19 @@ pub fn calls_that_wait_are_on_devices()
 /// even if their mode is refused (System Programmer's Manual, I$Open and I$Create).
 pub fn lists_to_devices_are_theirs()
     ensures opened { (it : Attempt) (list : PathList) → it.call ≡ Call.Open → HasList it list
-        → way_to_open it list ≡ to_device → OnDevice it }
+        → route_to_open it list ≡ to_device → OnDevice it }
     ensures created { (it : Attempt) (list : PathList) → it.call ≡ Call.Create → HasList it list
-        → way_to_create it list ≡ to_device → OnDevice it }
+        → route_to_create it list ≡ to_device → OnDevice it }
 {}
 
 /// If a path list names a terminal or a pipe, it also does so for I$Open and I$Create of terminals
 /// and pipes, and is not refused (System Programmer's Manual, I$Open and I$Create).
 pub fn lists_lead_to_the_same_devices()
     ensures opened { (asker : Asker) (files : Files) (terms : ℕ) (execute : Bool) (list : PathList)
-        → way_of asker files terms execute list ≡ to_device
+        → route_of asker files terms execute list ≡ to_device
         → LeadsToDevice (lead_of what_is_there (length files.drives) terms list) }
     ensures created { (asker : Asker) (files : Files) (terms : ℕ) (execute : Bool) (list : PathList)
-        → way_to_new asker files terms execute list ≡ to_device
+        → route_to_new asker files terms execute list ≡ to_device
         → LeadsToDevice (lead_of a_new_place (length files.drives) terms list) }
 {}
 
@@ -130,13 +130,14 @@ pub fn refusals_on_files_have_their_causes()
 /// of their path list, and they return its fault. The paths of a child are given to it separately
 /// (System Programmer's Manual, F$Load, F$Fork and F$Chain).
 pub fn loads_touch_no_device()
-    ensures load { (m : Inner) (asker : Asker) (old : Files) (terms p : ℕ) (result : CallResult)
+    ensures load { (m : Processes) (asker : Asker) (old : Files) (terms p : ℕ) (result : CallResult)
         (new : Files) → LoadAttempts m asker old terms p result new
         → LeavesFiles (drive_of (program_file asker old terms (λ step. step))) old result new }
-    ensures fork { (m : Inner) (asker : Asker) (old : Files) (terms p : ℕ) (result : CallResult)
+    ensures fork { (m : Processes) (asker : Asker) (old : Files) (terms p : ℕ) (result : CallResult)
         (new : Files) → ForkAttempts m asker old terms p result new
         → LeavesFiles (drive_of (program_file asker old terms (tests_program m p))) old result new }
-    ensures chain { (m : Inner) (asker : Asker) (old : Files) (terms p : ℕ) (result : CallResult)
+    ensures chain { (m : Processes) (asker : Asker) (old : Files) (terms p : ℕ)
+        (result : CallResult)
         (new : Files) → ChainAttempts m asker old terms p result new
         → LeavesFiles (drive_of (program_file asker old terms (tests_program m p))) old result new }
 {}
@@ -147,15 +148,15 @@ pub fn loads_touch_no_device()
 /// of the file, in the tests of the call, or in its use of the first module (System Programmer's
 /// Manual, F$Load, F$Fork and F$Chain).
 pub fn refusals_of_loads_have_their_causes()
-    ensures load { (m : Inner) (asker : Asker) (old : Files) (terms p number : ℕ) (new : Files)
+    ensures load { (m : Processes) (asker : Asker) (old : Files) (terms p number : ℕ) (new : Files)
         → LoadAttempts m asker old terms p (refused number) new
         → FaultAnswers (drive_of (program_file asker old terms (λ step. step))) old
         (refused number) new ⊎ LoadCause m asker old terms p number }
-    ensures fork { (m : Inner) (asker : Asker) (old : Files) (terms p number : ℕ) (new : Files)
+    ensures fork { (m : Processes) (asker : Asker) (old : Files) (terms p number : ℕ) (new : Files)
         → ForkAttempts m asker old terms p (refused number) new → named_program m p ≡ None
         → FaultAnswers (drive_of (program_file asker old terms (tests_program m p))) old
         (refused number) new ⊎ ForkCause m asker old terms p number }
-    ensures chain { (m : Inner) (asker : Asker) (old : Files) (terms p number : ℕ) (new : Files)
+    ensures chain { (m : Processes) (asker : Asker) (old : Files) (terms p number : ℕ) (new : Files)
         → ChainAttempts m asker old terms p (refused number) new → named_program m p ≡ None
         → FaultAnswers (drive_of (program_file asker old terms (tests_program m p))) old
         (refused number) new ⊎ ChainCause m asker old terms p number }
@@ -176,7 +177,7 @@ pub fn codes_are_the_same_on_devices()
 pub fn without_files_calls_are_those_of_devices()
     ensures attempt { (it : Attempt) → IsWithoutFiles it → IsSome (device_call it.call)
         → IsAsOnDevice it }
-    ensures back { (call : PathCall) (device : IoCall) (m : Inner) (files : Files)
+    ensures back { (call : PathCall) (device : IoCall) (m : Processes) (files : Files)
         (now : TimePacket) (p : ℕ) (result : CallResult) (io : Io)
         (before after : List TerminalState) → HasNoFiles files p
         → device_call call ≡ Some device

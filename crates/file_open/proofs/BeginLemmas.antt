@@ -5,7 +5,7 @@ use Rattle.os9_base.specs.declared.call.CallEnd.TheVariants.{Done, Error}
 use Rattle.os9_base.specs.declared.errors.TheConstants.{E_PTHFUL}
 use Rattle.os9_base.specs.declared.registers.Regs.{Regs}
 use Rattle.os9_base.specs.declared.registers.TimePacket.{TimePacket}
-use Rattle.call_rules.specs.Inner.{Inner, regs_at, with_regs_of}
+use Rattle.call_rules.specs.Processes.{Processes, regs_at, with_regs_of}
 use Rattle.std.specs.Option.{option_map_or}
 use Rattle.io_model.specs.Path.{PathTable, free_number, free_path, new_number, paths_after_begin, with_path}
 use Rattle.io_model.specs.declared.path.Desc.{Desc}
@@ -54,7 +54,7 @@ paths-full paths p desc none = by (free_number paths p) (free_path paths) none
 
 -- ---- as it was answered
 
-module _ (m : Inner) (was : Files) (now : TimePacket) (p : ℕ) (list : PathList) (target : Target) (state : FileState)
+module _ (m : Processes) (was : Files) (now : TimePacket) (p : ℕ) (list : PathList) (target : Target) (state : FileState)
     (views : List DriveView) (stands : StandsFor state views was) (end : CallEnd) (processes : ProcState)
     (mid io : Io) (io_is : io ≡ with_call mid p None) where
   pub full-quietly : mid ≡ state.io → None ≡ new_number state.io.paths p → end ≡ Error E_PTHFUL → Represents processes

@@ -16,8 +16,8 @@ use Rattle.rbf_walk.specs.declared.error.DirError.TheVariants.{NotAllowed, BadPa
 use Rattle.file_rules.specs.Files.{Asker, Files}
 use Rattle.file_rules.specs.Open.{is_for_execution}
 use Rattle.file_rules.specs.Step.{FileStep, Step, comes, drive_of, reaches, refused}
-use Rattle.file_rules.specs.Way.{along, nowhere, reads_list, to_device, way_of, way_to_new}
-use Rattle.file_rules.specs.Way as Rule
+use Rattle.file_rules.specs.Route.{along, nowhere, reads_list, to_device, route_of, route_to_new}
+use Rattle.file_rules.specs.Route as Rule
 use Rattle.lock_model.specs.declared.place.FilePlace.{FilePlace}
 use Rattle.file_state.specs.Counted.{calls_of}
 use Rattle.file_routes.specs.Ways.{IsRoute, Led, leads, led_by, refuses_by, way_for, way_to}
@@ -85,18 +85,18 @@ entering-within v dir (Err (File TooManyRuns)) = no-less (calls_at_place v dir)
 -- ---- by the list
 
 -- the way of a list that was led
-abbrev way_led : Step Led → Rule.Way
+abbrev way_led : Step Led → Rule.Route
 way_led (refused number) = nowhere number
 way_led (comes led) = led.way
 way_led (reaches drive step) = nowhere 0
 
-led-way : (refusal : Option ℕ) (list : PathList) (led way : Rule.Way) → refuses_by refusal (led_by list led) ≡ comes (record { list = list; way = way }) → led ≡ way
+led-way : (refusal : Option ℕ) (list : PathList) (led way : Rule.Route) → refuses_by refusal (led_by list led) ≡ comes (record { list = list; way = way }) → led ≡ way
 led-way None list (along from names) way is = ap way_led is
 led-way None list to_device way is = ap way_led is
 led-way None list (nowhere number) way is = ap way_led is
 led-way (Some number) list led way is = cc
 
-led-along : (cells : Cells) (asker : Asker) (refusal : Option ℕ) (way : PathList → Rule.Way) (route : Route)
+led-along : (cells : Cells) (asker : Asker) (refusal : Option ℕ) (way : PathList → Rule.Route) (route : Route)
     (from : FilePlace) (first : Option ℕ) (it : IsRoute cells asker (leads asker refusal way) route)
     → route.way ≡ Along from first → way it.list ≡ along from it.list.names
 led-along cells asker refusal way route from first it is =
@@ -112,14 +112,14 @@ module _ (cells : Cells) (asker : Asker) (files : Files) (terms : ℕ) (refusal 
       → route.way ≡ Along from first → opening_calls asker files (along from it.list.names) ≡ i_open_calls asker files
       terms
   open-calls it is = sym
-      (ap (λ (read : Result PathList NameFault). listed_calls read (λ list. opening_calls asker files (way_of asker files terms (is_for_execution asker.caller.regs.a) list))) it.read
-      ∙ ap (λ (execute : Bool). opening_calls asker files (way_of asker files terms execute it.list)) (sym execute_is)
+      (ap (λ (read : Result PathList NameFault). listed_calls read (λ list. opening_calls asker files (route_of asker files terms (is_for_execution asker.caller.regs.a) list))) it.read
+      ∙ ap (λ (execute : Bool). opening_calls asker files (route_of asker files terms execute it.list)) (sym execute_is)
       ∙ ap (opening_calls asker files) (led-along cells asker refusal (way_for Existing asker files terms execute) route from first it is))
 
   pub create-calls : (it : IsRoute cells asker (leads asker refusal (way_for New asker files terms execute)) route)
       → route.way ≡ Along from first → creating_calls asker files (along from it.list.names) ≡ i_create_calls asker
       files terms
   create-calls it is = sym
-      (ap (λ (read : Result PathList NameFault). listed_calls read (λ list. creating_calls asker files (way_to_new asker files terms (is_for_execution asker.caller.regs.a) list))) it.read
-      ∙ ap (λ (execute : Bool). creating_calls asker files (way_to_new asker files terms execute it.list)) (sym execute_is)
+      (ap (λ (read : Result PathList NameFault). listed_calls read (λ list. creating_calls asker files (route_to_new asker files terms (is_for_execution asker.caller.regs.a) list))) it.read
+      ∙ ap (λ (execute : Bool). creating_calls asker files (route_to_new asker files terms execute it.list)) (sym execute_is)
       ∙ ap (creating_calls asker files) (led-along cells asker refusal (way_for New asker files terms execute) route from first it is))

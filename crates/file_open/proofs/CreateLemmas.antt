@@ -6,7 +6,7 @@ use Rattle.os9_base.specs.Cells.{Cells}
 use Rattle.os9_base.specs.declared.call.CallEnd.{CallEnd}
 use Rattle.os9_base.specs.declared.registers.TimePacket.{TimePacket}
 use Rattle.os9_outer.specs.TerminalState.{TerminalState}
-use Rattle.call_rules.specs.Inner.{Inner}
+use Rattle.call_rules.specs.Processes.{Processes}
 use Rattle.user_names.specs.declared.name_fault.NameFault.{NameFault}
 use Rattle.io_model.specs.Path.{new_number}
 use Rattle.io_rules.specs.Modes.{can_write}
@@ -21,11 +21,11 @@ use Rattle.rbf_change.specs.NewFiles.{Refusal, bad_path, exists, no_cluster, not
 use Rattle.rbf_create.specs.Places.{IsRefused}
 use Rattle.file_rules.specs.Attempts.{asker_of}
 use Rattle.file_rules.specs.Change.{MayLeave, creates}
-use Rattle.file_rules.specs.Create.{clusters_for, creates_in, creates_on_way, creates_with_path, has_room_for, i_create, opens_new}
+use Rattle.file_rules.specs.Create.{clusters_for, creates_in, creates_on_route, creates_with_path, has_room_for, i_create, opens_new}
 use Rattle.file_rules.specs.Files.{Asker, Files, volume_at}
 use Rattle.file_rules.specs.Open.{is_for_execution, says_directory}
 use Rattle.file_rules.specs.Step.{FileStep, MayBeLeft, Step, VolumeChange, changes, comes, deed_of, leaves_so, needs, reaches, refused, refuses, refuses_so}
-use Rattle.file_rules.specs.Way.{Found, along, before_last, is_root, last_of, list_of, nowhere, reads_list, walks, way_of, way_to_new}
+use Rattle.file_rules.specs.Route.{Found, along, before_last, is_root, last_of, list_of, nowhere, reads_list, walks, route_of, route_to_new}
 use Rattle.lock_model.specs.declared.place.FilePlace.{FilePlace}
 use Rattle.file_drives.specs.Changed.{has_no_segment, is_full_for}
 use Rattle.file_drives.specs.Drives.{DriveView}
@@ -214,24 +214,25 @@ module _ (asker : Asker) (files : Files) (terms : ℕ) (refusal : Option ℕ) (e
   new-proper list led read is =
       by refusal (ends_in_dots list) (is_root files terms list)
       (ap (λ (read : Result PathList NameFault). reads_list read (refuses_by refusal)
-      (λ list. led_by list (way_to_new asker files terms execute list))) (sym read) ∙ is)
+      (λ list. led_by list (route_to_new asker files terms execute list))) (sym read) ∙ is)
     where
-      by : (refusal : Option ℕ) (dots root : Bool) → refuses_by refusal (led_by list (if dots || root then nowhere E_BPNAM else way_of asker files terms execute list)) ≡ comes led → dots ≡ false
+      by : (refusal : Option ℕ) (dots root : Bool) → refuses_by refusal (led_by list (if dots || root then nowhere E_BPNAM else route_of asker files terms execute list)) ≡ comes led → dots ≡ false
       by None true root is = cc
       by None false root is = refl
       by (Some number) dots root is = cc
 
   module _ (refusal_is : refusal ≡ mode_refusal (can_write asker.caller.regs.a)) (execute_is : execute ≡ is_for_execution asker.caller.regs.a) where
     abbrev creates_led : Step Led → FileStep
-    creates_led step = next_step step (λ led. creates_on_way asker files terms led.list led.way)
+    creates_led step = next_step step (λ led. creates_on_route asker files terms led.list led.way)
 
     by-leads : i_create asker files terms ≡ creates_led leads_new
     by-leads =
         (λ i. reads_list (list_of asker) (λ (step : FileStep). mode-tested (can_write asker.caller.regs.a) step i)
-        (λ list. creates_on_way asker files terms list (way_to_new asker files terms
+        (λ list. creates_on_route asker files terms list (route_to_new asker files terms
         (is_for_execution asker.caller.regs.a) list)))
-        ∙ leads-on asker (mode_refusal (can_write asker.caller.regs.a)) (way_to_new asker files terms (is_for_execution asker.caller.regs.a)) (creates_on_way asker files terms) (λ list number. refl)
-        ∙ ap (λ (refusal : Option ℕ). creates_led (leads asker refusal (way_to_new asker files terms (is_for_execution asker.caller.regs.a)))) (sym refusal_is)
+        ∙ leads-on asker (mode_refusal (can_write asker.caller.regs.a)) (route_to_new asker files terms (is_for_execution asker.caller.regs.a)) (creates_on_route asker files terms)
+        (λ list number. refl)
+        ∙ ap (λ (refusal : Option ℕ). creates_led (leads asker refusal (route_to_new asker files terms (is_for_execution asker.caller.regs.a)))) (sym refusal_is)
         ∙ ap (λ (execute : Bool). creates_led (leads asker refusal (way_for New asker files terms execute))) (sym execute_is)
 
     -- it is refused
@@ -240,10 +241,10 @@ module _ (asker : Asker) (files : Files) (terms : ℕ) (refusal : Option ℕ) (e
 
     -- or goes on along the way that was found
     pub creates-routed : (cells : Cells) (route : Route) (way : Routed) (it : IsRoute cells asker leads_new route)
-        → route.way ≡ way → i_create asker files terms ≡ creates_on_way asker files terms it.list
+        → route.way ≡ way → i_create asker files terms ≡ creates_on_route asker files terms it.list
         (way_to (Ok way) it.list.names)
     creates-routed cells route way it is =
-        by-leads ∙ ap creates_led it.comes_to ∙ ap (creates_on_way asker files terms it.list) (it.route_is.way_is ∙ ap (λ (way : Routed). way_to (Ok way) it.list.names) is)
+        by-leads ∙ ap creates_led it.comes_to ∙ ap (creates_on_route asker files terms it.list) (it.route_is.way_is ∙ ap (λ (way : Routed). way_to (Ok way) it.list.names) is)
 
 -- ---- the names
 
@@ -253,7 +254,7 @@ along-nameless asker files list from none =
     ap (λ (names : List (List ℕ)). needs (last_of names) E_BPNAM (λ name. walks asker files (is_for_execution asker.caller.regs.a) from (before_last names) (creates_in asker files list name))) none
 
 -- with one it walks along those before it
-module _ (m : Inner) (was : Files) (now : TimePacket) (p : ℕ) (list : PathList) (from : FilePlace) (name : List ℕ) (last : last_of list.names ≡ Some name) where
+module _ (m : Processes) (was : Files) (now : TimePacket) (p : ℕ) (list : PathList) (from : FilePlace) (name : List ℕ) (last : last_of list.names ≡ Some name) where
   abbrev asked : Asker
   asked = asker_of m p now
 

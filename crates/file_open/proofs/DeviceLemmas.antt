@@ -8,7 +8,7 @@ use Rattle.os9_base.specs.declared.call.CallEnd.{CallEnd}
 use Rattle.os9_base.specs.declared.registers.TimePacket.{TimePacket}
 use Rattle.os9_outer.specs.TerminalState.{TerminalState}
 use Rattle.call_rules.specs.CallResult.{CallResult}
-use Rattle.call_rules.specs.Inner.{Inner}
+use Rattle.call_rules.specs.Processes.{Processes}
 use Rattle.io_rules.specs.Attempts.{Does, caller_of, io_after, io_step}
 use Rattle.io_rules.specs.Io.{Io}
 use Rattle.io_rules.specs.Step.{IoEffect, IoStep}
@@ -39,7 +39,7 @@ pub views-many : {Table : Type 0} {Driver : Table → Type 0} (members : (drive 
 views-many members drives = length-map drives (boxed_seen members)
 
 -- what the call on a terminal or a pipe does is done in the state of files
-pub device-ends : (most : ℕ) (call : IoCall) (m : Inner) (was : Files) (now : TimePacket) (p : ℕ) (state : FileState)
+pub device-ends : (most : ℕ) (call : IoCall) (m : Processes) (was : Files) (now : TimePacket) (p : ℕ) (state : FileState)
     (views : List DriveView) (drives : ℕ) (end : CallEnd) (processes : ProcState) (io : Io) (records : Records)
     (terms : List TerminalState) → StandsFor state views was → records ≡ with_waiting state.records p None
     → length was.drives ≡ drives → io_attempt.Attempts call m state.io drives p end processes io terms terms

@@ -5,7 +5,7 @@ use Rattle.os9_base.specs.declared.call.CallEnd.TheVariants.{Done, Error}
 use Rattle.os9_base.specs.declared.registers.Regs.{Regs}
 use Rattle.os9_base.specs.declared.registers.TimePacket.{TimePacket}
 use Rattle.os9_outer.specs.TerminalState.{TerminalState}
-use Rattle.call_rules.specs.Inner.{Inner, user_at, with_regs_of}
+use Rattle.call_rules.specs.Processes.{Processes, user_at, with_regs_of}
 use Rattle.rbf_model.specs.Volume.{DiskVolume}
 use Rattle.io_rules.specs.Io.{Io, with_call}
 use Rattle.io_rules.specs.Step.{answers}
@@ -33,11 +33,11 @@ use Rattle.file_open.proofs.CallLemmas.{calls-reached}
 use Rattle.file_open.specs.Ends.{EndsQuietly, HasReadIn}
 
 -- who calls, as the kernel has it
-pub regs-tied : (s : ProcState) (m : Inner) (p : ℕ) → Represents s m → (record_at m.records p).regs ≡ (record_at s.table p).regs
-regs-tied s m p tied = ap (λ (it : Inner). (record_at it.records p).regs) tied.is
+pub regs-tied : (s : ProcState) (m : Processes) (p : ℕ) → Represents s m → (record_at m.records p).regs ≡ (record_at s.table p).regs
+regs-tied s m p tied = ap (λ (it : Processes). (record_at it.records p).regs) tied.is
 
-pub user-tied : (s : ProcState) (m : Inner) (p : ℕ) → Represents s m → user_at m p ≡ (record_at s.table p).user
-user-tied s m p tied = ap (λ (it : Inner). user_at it p) tied.is
+pub user-tied : (s : ProcState) (m : Processes) (p : ℕ) → Represents s m → user_at m p ≡ (record_at s.table p).user
+user-tied s m p tied = ap (λ (it : Processes). user_at it p) tied.is
 
 -- more calls may be allowed
 pub read-more : (few most : ℕ) (fault : Option ℕ) (drive : ℕ) (files : Files) (new : FileState)
@@ -51,7 +51,7 @@ read-more few most fault drive files new before now more it = record {
 
 -- ---- its drive was read
 
-module _ (m : Inner) (was : Files) (now : TimePacket) (p : ℕ) (terms : List TerminalState) (step : FileStep) (drive : ℕ) (new : FileState) (before views : List DriveView) where
+module _ (m : Processes) (was : Files) (now : TimePacket) (p : ℕ) (terms : List TerminalState) (step : FileStep) (drive : ℕ) (new : FileState) (before views : List DriveView) where
   -- and it is refused
   pub well-refused : (number : ℕ) → deed_of step was ≡ leaves_so (refuses_so number was) → HasRead None drive was new
       before views → FileDoes step (asker_of m p now) was (refuses_so number (with_drives was (drive_states views)))
@@ -69,7 +69,7 @@ module _ (m : Inner) (was : Files) (now : TimePacket) (p : ℕ) (terms : List Te
 
 -- ---- the call ends
 
-module _ (m : Inner) (p : ℕ) (state : FileState) (views : List DriveView) (end : CallEnd) (processes : ProcState) (io : Io) (io_is : io ≡ with_call state.io p None) where
+module _ (m : Processes) (p : ℕ) (state : FileState) (views : List DriveView) (end : CallEnd) (processes : ProcState) (io : Io) (io_is : io ≡ with_call state.io p None) where
   abbrev left : FileState
   left = record state { io = io }
 
@@ -136,7 +136,7 @@ module _ (m : Inner) (p : ℕ) (state : FileState) (views : List DriveView) (end
 
 -- ---- the rest of it ended so
 
-module _ (m : Inner) (was : Files) (now : TimePacket) (p : ℕ) (end : CallEnd) (processes : ProcState) (new : FileState) (before views : List DriveView) (terms : List TerminalState) where
+module _ (m : Processes) (was : Files) (now : TimePacket) (p : ℕ) (end : CallEnd) (processes : ProcState) (new : FileState) (before views : List DriveView) (terms : List TerminalState) where
   -- a step that is the same where no drive failed
   pub late-ends : (most : ℕ) (step later : FileStep) (files : Files) (drive : ℕ) (mid : FileState)
       → ((effect : FileEffect) → deed_of later files ≡ leaves_so effect → (it : FileEffect) ×
@@ -164,7 +164,7 @@ module _ (m : Inner) (was : Files) (now : TimePacket) (p : ℕ) (end : CallEnd) 
       subst (λ (step : FileStep). EndsBy step most) same (subst (λ (n : ℕ). EndsBy step n) as_many it)
 
 -- the attempt is that step
-pub attempts-by : (most : ℕ) (call : PathCall) (m : Inner) (was : Files) (now : TimePacket) (p : ℕ) (end : CallEnd)
+pub attempts-by : (most : ℕ) (call : PathCall) (m : Processes) (was : Files) (now : TimePacket) (p : ℕ) (end : CallEnd)
     (terms : List TerminalState) (before after : Standing) (step : FileStep) (few : ℕ)
     → file_step call (asker_of m p now) was (length terms) ≡ step → few ≡ most → Ends step few m was now p end
     after.processes after.files before.views after.views terms → AttemptsIn most call m was now p end terms terms

@@ -6,7 +6,7 @@ use Rattle.os9_base.specs.declared.call.CallEnd.TheVariants.{Done, Error}
 use Rattle.os9_base.specs.declared.errors.TheConstants.{E_CEF, E_FNA, E_FULL, E_SLF}
 use Rattle.os9_base.specs.declared.registers.TimePacket.{TimePacket}
 use Rattle.os9_outer.specs.TerminalState.{TerminalState}
-use Rattle.call_rules.specs.Inner.{Inner, regs_at, user_at}
+use Rattle.call_rules.specs.Processes.{Processes, regs_at, user_at}
 use Rattle.io_rules.specs.Attempts.{result_of}
 use Rattle.io_model.specs.Path.{new_number, paths_after_begin}
 use Rattle.io_model.specs.declared.path.Target.TheVariants.{File as FileTarget}
@@ -33,7 +33,7 @@ use Rattle.file_rules.specs.Change.{creates}
 use Rattle.file_rules.specs.Files.{Asker, Files, volume_at, with_drives, with_path_table, with_volume}
 use Rattle.file_rules.specs.Open.{is_for_execution, says_directory}
 use Rattle.file_rules.specs.Step.{FileDoes, FileEffect, FileStep, MayBeLeft, VolumeChange, changes, deed_of, leaves, leaves_so, refuses_so}
-use Rattle.file_rules.specs.Way.{Found, last_of}
+use Rattle.file_rules.specs.Route.{Found, last_of}
 use Rattle.lock_model.specs.declared.place.FilePlace.{FilePlace}
 use Rattle.file_drives.specs.Changed.{Asked, ChangesVolume, IsRefused, has_no_segment, is_full_for, is_refused}
 use Rattle.file_drives.specs.Drives.{DriveView, drive_states}
@@ -58,7 +58,8 @@ use Rattle.file_open.specs.Steps.{IsFoundAt, begins, creates_there, makes_there}
 pub last-there : (names : List (List ℕ)) → 1 ≤ length names → (name : List ℕ) × (last_of names ≡ Some name)
 last-there names some = (_, slice_get-get_or names (length names - 1) [] (omega (arith, some)))
 
-module _ (m : Inner) (was : Files) (now : TimePacket) (p : ℕ) (terms : List TerminalState) (list : PathList) (name : List ℕ) (dir : Found) (place : FilePlace) (found : IsFoundAt was place dir) where
+module _ (m : Processes) (was : Files) (now : TimePacket) (p : ℕ) (terms : List TerminalState) (list : PathList) (name : List ℕ) (dir : Found) (place : FilePlace)
+    (found : IsFoundAt was place dir) where
   abbrev asker : Asker
   asker = asker_of m p now
 
@@ -242,7 +243,7 @@ module _ (m : Inner) (was : Files) (now : TimePacket) (p : ℕ) (terms : List Te
         }
 
 -- what was answered to the one who walks was answered to the one who asks
-pub answered-to : (m : Inner) (p : ℕ) (file : DiskFile) (name : List ℕ) (user : ℕ) (execute : Bool)
+pub answered-to : (m : Processes) (p : ℕ) (file : DiskFile) (name : List ℕ) (user : ℕ) (execute : Bool)
     (result : Result ℕ DirError) → user_at m p ≡ user → execute ≡ is_for_execution (regs_at m p).a → AnswersPlace file
     name user execute result → AnswersPlace file name (user_at m p) (is_for_execution (regs_at m p).a) result
 answered-to m p file name user execute result user_is execute_is answer =
@@ -250,7 +251,7 @@ answered-to m p file name user execute result user_is execute_is answer =
     (subst (λ (user : ℕ). AnswersPlace file name user execute result) (sym user_is) answer)
 
 -- and the calls that found it are those of the one who asks
-module _ (m : Inner) (now : TimePacket) (p : ℕ) (v : DiskVolume) (file : DiskFile) (name : List ℕ) (user : ℕ)
+module _ (m : Processes) (now : TimePacket) (p : ℕ) (v : DiskVolume) (file : DiskFile) (name : List ℕ) (user : ℕ)
     (execute : Bool) (user_is : user_at m p ≡ user) (execute_is : execute ≡ is_for_execution (regs_at m p).a) where
   pub place-same : place_calls file name user execute ≡ place_calls file name (user_at m p) (is_for_execution (regs_at m p).a)
   place-same =

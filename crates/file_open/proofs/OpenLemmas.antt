@@ -13,15 +13,16 @@ use Rattle.io_rules.specs.Step.{answers}
 use Rattle.rbf_model.specs.File.{DiskFile}
 use Rattle.rbf_model.specs.Volume.{DiskVolume}
 use Rattle.rbf_model.specs.Walk.{WalkEnd, arrives, not_allowed, not_found, walk}
-use Rattle.call_rules.specs.Inner.{Inner, regs_at, user_at}
+use Rattle.call_rules.specs.Processes.{Processes, regs_at, user_at}
 use Rattle.proc_rules.specs.Records.{record_at}
 use Rattle.proc_state.specs.Tie.{Represents}
 use Rattle.proc_state.specs.declared.state.ProcState.{ProcState}
 use Rattle.file_rules.specs.Files.{Asker, DriveState, Files, target_on, volume_at, with_drives, with_path_table}
-use Rattle.file_rules.specs.Open.{begins_on, i_open, is_for_execution, may_open, opens_found, opens_on_way}
+use Rattle.file_rules.specs.Open.{begins_on, i_open, is_for_execution, may_open, opens_found, opens_on_route}
 use Rattle.file_rules.specs.Sharing.{is_not_shared}
 use Rattle.file_rules.specs.Step.{Deed, FileEffect, FileStep, MayBeLeft, Step, comes, refused, deed_of, done, leaves, leaves_so, needs, reaches, refuses, refuses_so, with_drives_after}
-use Rattle.file_rules.specs.Way.{Found, Way, list_of, reads_list, walk_ends, walks, way_of}
+use Rattle.file_rules.specs.Route.{Found, list_of, reads_list, walk_ends, walks, route_of}
+use Rattle.file_rules.specs.Route as Rule
 use Rattle.lock_model.specs.declared.place.FilePlace.{FilePlace}
 use Rattle.file_routes.proofs.WayLemmas.{leads-on, mode-tested}
 use Rattle.file_routes.specs.Ways.{IsRoute, Led, leads, mode_refusal, next_step, way_for, way_to}
@@ -138,7 +139,7 @@ module _ (asker : Asker) (files : Files) (list : PathList) (found : Found) where
 
 -- ---- by the user and the registers that were read
 
-module _ (s : ProcState) (m : Inner) (p : ℕ) (tied : Represents s m) (regs : Regs) (regs_are : regs ≡ (record_at s.table p).regs) where
+module _ (s : ProcState) (m : Processes) (p : ℕ) (tied : Represents s m) (regs : Regs) (regs_are : regs ≡ (record_at s.table p).regs) where
   pub mode-tied : (regs_at m p).a ≡ regs.a
   mode-tied = ap (λ (regs : Regs). regs.a) (regs-tied s m p tied ∙ sym regs_are)
 
@@ -152,20 +153,20 @@ module _ (asker : Asker) (files : Files) (terms : ℕ) (refusal : Option ℕ) (e
     (refusal_is : refusal ≡ mode_refusal (is_mode asker.caller.regs.a)) (execute_is : execute ≡ is_for_execution
     asker.caller.regs.a) where
   abbrev opens_led : Step Led → FileStep
-  opens_led step = next_step step (λ led. opens_on_way asker files terms led.list led.way)
+  opens_led step = next_step step (λ led. opens_on_route asker files terms led.list led.way)
 
   by-leads : i_open asker files terms ≡ opens_led (leads asker refusal (way_for Existing asker files terms execute))
   by-leads =
       (λ i. reads_list (list_of asker) (λ (step : FileStep). mode-tested (is_mode asker.caller.regs.a) step i)
-      (λ list. opens_on_way asker files terms list
-      (way_of asker files terms (is_for_execution asker.caller.regs.a) list)))
-      ∙ leads-on asker (mode_refusal (is_mode asker.caller.regs.a)) (way_of asker files terms (is_for_execution asker.caller.regs.a)) (opens_on_way asker files terms) (λ list number. refl)
-      ∙ ap (λ (refusal : Option ℕ). opens_led (leads asker refusal (way_of asker files terms (is_for_execution asker.caller.regs.a)))) (sym refusal_is)
+      (λ list. opens_on_route asker files terms list
+      (route_of asker files terms (is_for_execution asker.caller.regs.a) list)))
+      ∙ leads-on asker (mode_refusal (is_mode asker.caller.regs.a)) (route_of asker files terms (is_for_execution asker.caller.regs.a)) (opens_on_route asker files terms) (λ list number. refl)
+      ∙ ap (λ (refusal : Option ℕ). opens_led (leads asker refusal (route_of asker files terms (is_for_execution asker.caller.regs.a)))) (sym refusal_is)
       ∙ ap (λ (execute : Bool). opens_led (leads asker refusal (way_for Existing asker files terms execute))) (sym execute_is)
 
   -- along the way that was found
-  pub opens-way : (list : PathList) (way : Way) → leads asker refusal (way_for Existing asker files terms execute) ≡
-      comes (record { list = list; way = way }) → i_open asker files terms ≡ opens_on_way asker files terms list way
+  pub opens-way : (list : PathList) (way : Rule.Route) → leads asker refusal (way_for Existing asker files terms execute) ≡
+      comes (record { list = list; way = way }) → i_open asker files terms ≡ opens_on_route asker files terms list way
   opens-way list way is = by-leads ∙ ap opens_led is
 
   -- or it is refused
@@ -174,7 +175,7 @@ module _ (asker : Asker) (files : Files) (terms : ℕ) (refusal : Option ℕ) (e
 
   pub opens-routed : (cells : Cells) (route : Route) (way : Routed)
       (it : IsRoute cells asker (leads asker refusal (way_for Existing asker files terms execute)) route)
-      → route.way ≡ way → i_open asker files terms ≡ opens_on_way asker files terms it.list
+      → route.way ≡ way → i_open asker files terms ≡ opens_on_route asker files terms it.list
       (way_to (Ok way) it.list.names)
   opens-routed cells route way it is =
-      opens-way it.list it.way it.comes_to ∙ ap (opens_on_way asker files terms it.list) (it.route_is.way_is ∙ ap (λ (way : Routed). way_to (Ok way) it.list.names) is)
+      opens-way it.list it.way it.comes_to ∙ ap (opens_on_route asker files terms it.list) (it.route_is.way_is ∙ ap (λ (way : Routed). way_to (Ok way) it.list.names) is)

@@ -3,7 +3,7 @@ use Rattle.std.proofs.Common.{◌≡◌, ℕ, ◌+◌, Option, Some, None, IsSom
 use Rattle.std.proofs.lemmas.Bool.{false≢true}
 use Rattle.os9_base.specs.declared.registers.TimePacket.{TimePacket}
 use Rattle.os9_outer.specs.TerminalState.{TerminalState}
-use Rattle.call_rules.specs.Inner.{Inner}
+use Rattle.call_rules.specs.Processes.{Processes}
 use Rattle.rbf_model.specs.File.{DiskFile}
 use Rattle.rbf_model.specs.Volume.{DiskVolume}
 use Rattle.rbf_access.specs.Faults.{file_error, file_fault}
@@ -12,7 +12,7 @@ use Rattle.rbf_access.specs.declared.faults.FileFault.TheVariants.{Device, NoClu
 use Rattle.file_rules.specs.Attempts.{asker_of}
 use Rattle.file_rules.specs.Files.{Files, with_drives}
 use Rattle.file_rules.specs.Step.{FileDoes, FileStep, MayBeLeft, deed_of, drive_of, refuses_so}
-use Rattle.file_rules.specs.Way.{Found}
+use Rattle.file_rules.specs.Route.{Found}
 use Rattle.lock_model.specs.declared.place.FilePlace.{FilePlace}
 use Rattle.file_drives.specs.Drives.{DriveView, drive_states}
 use Rattle.file_drives.specs.Mounted.{OnDisks, ReadsFile}
@@ -43,7 +43,7 @@ module _ (was : Files) (place : FilePlace) (found : Found) (it : IsFoundAt was p
   }
 
   -- or the drive has failed
-  module _ (m : Inner) (time : TimePacket) (p : ℕ) (terms : List TerminalState) (step : FileStep)
+  module _ (m : Processes) (time : TimePacket) (p : ℕ) (terms : List TerminalState) (step : FileStep)
       (at : drive_of step ≡ Some place.drive) (stays : (v : DiskVolume) → MayBeLeft (deed_of step was)
       (asker_of m p time) v v) where
     pub fault-does : (A : Type 0) (fault : FileFault) (most : DiskVolume → DiskFile → ℕ)

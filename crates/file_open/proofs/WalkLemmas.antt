@@ -13,7 +13,7 @@ use Rattle.guest_memory.proofs.Seen.{cells_of-seen}
 use Rattle.device_paths.specs.Standing.{NamesFrom, NamesStand}
 use Rattle.proc_state.specs.Tie.{Represents}
 use Rattle.proc_state.specs.declared.state.ProcState.{ProcState}
-use Rattle.call_rules.specs.Inner.{Inner, cells_at, regs_at, user_at}
+use Rattle.call_rules.specs.Processes.{Processes, cells_at, regs_at, user_at}
 use Rattle.io_rules.specs.Io.{Io, with_call}
 use Rattle.rbf_model.specs.File.{DiskFile}
 use Rattle.rbf_model.specs.Volume.{DiskVolume}
@@ -25,7 +25,7 @@ use Rattle.file_rules.specs.Attempts.{asker_of}
 use Rattle.file_rules.specs.Open.{is_for_execution}
 use Rattle.file_rules.specs.Files.{Files, volume_at, with_drives}
 use Rattle.file_rules.specs.Step.{FileDoes, FileStep, MayBeLeft, deed_of, drive_of, reaches, refuses_so}
-use Rattle.file_rules.specs.Way.{Found, walks}
+use Rattle.file_rules.specs.Route.{Found, walks}
 use Rattle.lock_model.specs.declared.place.FilePlace.{FilePlace}
 use Rattle.file_drives.specs.Drives.{DriveView, drive_states}
 use Rattle.file_drives.specs.Mounted.{HasFileAt}
@@ -45,7 +45,7 @@ use Rattle.file_routes.specs.Calls.{walk_and}
 use Rattle.file_open.specs.Ends.{HasReadIn}
 use Rattle.file_open.specs.Steps.{IsFoundAt, walker_at}
 
-module _ (m : Inner) (was : Files) (now : TimePacket) (p : ℕ) (terms : List TerminalState) (walker : Walker)
+module _ (m : Processes) (was : Files) (now : TimePacket) (p : ℕ) (terms : List TerminalState) (walker : Walker)
     (from : FilePlace) (names : List (List ℕ)) (state new : FileState) (before after : List DriveView)
     (user : (asker_of m p now).user ≡ walker.user) (stands : StandsFor state before was) (has : HasFileAt state.disks
     before from) (io : new.io ≡ state.io) (directories : new.directories ≡ state.directories)
@@ -181,13 +181,13 @@ module _ (m : Inner) (was : Files) (now : TimePacket) (p : ℕ) (terms : List Te
 
 -- ---- who walks
 
-pub record IsWalkerOf (s : ProcState) (m : Inner) (p : ℕ) (walker : Walker) : Type 0 where
+pub record IsWalkerOf (s : ProcState) (m : Processes) (p : ℕ) (walker : Walker) : Type 0 where
   pub user : user_at m p ≡ walker.user
   pub execute : walker.execute ≡ is_for_execution (regs_at m p).a
   pub stand : (first : ℕ) (names : List (List ℕ)) → NamesStand (cells_at m p) first names → NamesStand (cells_of s.memory walker.process.0) first names
   pub names : (first : Option ℕ) (names : List (List ℕ)) → NamesFrom (cells_at m p) first names → NamesFrom (cells_of s.memory walker.process.0) first names
 
-pub walker-tied : (s : ProcState) (m : Inner) (p : Pid) (walker : Walker) → p.0 < 33 → Represents s m → walker ≡ walker_at s p → IsWalkerOf s m p.0 walker
+pub walker-tied : (s : ProcState) (m : Processes) (p : Pid) (walker : Walker) → p.0 < 33 → Represents s m → walker ≡ walker_at s p → IsWalkerOf s m p.0 walker
 walker-tied s m p walker within tied is = subst (IsWalkerOf s m p.0) (sym is) (record {
   user = user-tied s m p.0 tied;
   execute = ap (λ (regs : Regs). is_for_execution regs.a) (sym (regs-tied s m p.0 tied));

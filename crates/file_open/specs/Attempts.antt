@@ -4,7 +4,7 @@ use Rattle.std.specs.Prelude.{◌≡◌, ℕ, ◌+◌, false, Option, None, List
 use Rattle.os9_base.specs.declared.call.CallEnd.{CallEnd}
 use Rattle.os9_base.specs.declared.registers.TimePacket.{TimePacket}
 use Rattle.os9_outer.specs.TerminalState.{TerminalState}
-use Rattle.call_rules.specs.Inner.{Inner, cells_at}
+use Rattle.call_rules.specs.Processes.{Processes, cells_at}
 use Rattle.io_rules.specs.PathList.{PathList, ends_in_dots}
 use Rattle.device_paths.specs.Standing.{NamesFrom}
 use Rattle.proc_rules.specs.Records.{record_at}
@@ -14,7 +14,7 @@ use Rattle.rbf_create.specs.declared.place.NewPlace.{NewPlace}
 use Rattle.file_rules.specs.Attempts.{asker_of}
 use Rattle.file_rules.specs.Files.{Files}
 use Rattle.file_rules.specs.Step.{FileStep}
-use Rattle.file_rules.specs.Way.{Found, along}
+use Rattle.file_rules.specs.Route.{Found, along}
 use Rattle.lock_model.specs.declared.place.FilePlace.{FilePlace}
 use Rattle.file_drives.specs.Drives.{DriveView}
 use Rattle.file_drives.specs.Entries.{IsPlaceAt}
@@ -29,7 +29,7 @@ use Rattle.file_open.specs.Steps.{IsFoundAt, creates_along, creates_there, makes
 
 -- an attempt of a process, at a time, does what the step says, for any terminals: it ends so, and leaves this state;
 -- since the drives were `drives`, it called them at most `most` times
-abbrev pub EndsIn : FileStep → ℕ → Inner → Files → TimePacket → ℕ → CallEnd → List DriveView → Standing → Type 0
+abbrev pub EndsIn : FileStep → ℕ → Processes → Files → TimePacket → ℕ → CallEnd → List DriveView → Standing → Type 0
 EndsIn step most m was now p end drives after =
     (terms : List TerminalState)
     → Ends step most m was now p end after.processes after.files drives after.views terms
@@ -38,9 +38,9 @@ EndsIn step most m was now p end drives after =
 
 -- a fact of each path list of a process, in each such state: the first of its names is at this address, or it has no
 -- names, and it ends before `next`
-abbrev pub OnEachList : Standing → ℕ → Option ℕ → ℕ → (Inner → Files → PathList → Type 0) → Type 0
+abbrev pub OnEachList : Standing → ℕ → Option ℕ → ℕ → (Processes → Files → PathList → Type 0) → Type 0
 OnEachList before p first next fact =
-    (m : Inner) (was : Files) (list : PathList) → Represents before.processes m
+    (m : Processes) (was : Files) (list : PathList) → Represents before.processes m
     → StandsFor before.files before.views was → NamesFrom (cells_at m p) first list.names → list.next ≡ next
     → fact m was list
 
@@ -66,9 +66,9 @@ CreatesAlong from first next now p end before after =
 -- a fact of each path list that ends before `next`, and of the file found at a place, in each such state before the
 -- walk read the drive: the drives were these then, and the walk has called its drive at most `most` times
 abbrev pub OnEachFound : Standing → FilePlace → ℕ
-    → (Inner → Files → PathList → Found → ℕ → List DriveView → Type 0) → Type 0
+    → (Processes → Files → PathList → Found → ℕ → List DriveView → Type 0) → Type 0
 OnEachFound before place next fact =
-    (m : Inner) (was : Files) (list : PathList) (found : Found) (most : ℕ) (drives : List DriveView)
+    (m : Processes) (was : Files) (list : PathList) (found : Found) (most : ℕ) (drives : List DriveView)
     → Represents before.processes m → HasReadIn most None place.drive was before.files drives before.views
     → IsFoundAt was place found → list.next ≡ next → fact m was list found most drives
 

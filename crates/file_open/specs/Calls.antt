@@ -8,13 +8,13 @@ use Rattle.rbf_create.specs.Entering.{entry_calls}
 use Rattle.rbf_create.specs.Places.{place_calls}
 use Rattle.file_rules.specs.Files.{Asker, Files, volume_at}
 use Rattle.file_rules.specs.Open.{is_for_execution}
-use Rattle.file_rules.specs.Way.{Way, along, to_device, nowhere, before_last, last_of, list_of, way_of, way_to_new}
+use Rattle.file_rules.specs.Route.{Route, along, to_device, nowhere, before_last, last_of, list_of, route_of, route_to_new}
 use Rattle.file_routes.specs.Calls.{listed_calls, walk_and}
 
 -- ---- I$Open
 
 -- the descriptor of the file
-abbrev pub opening_calls : Asker → Files → Way → ℕ
+abbrev pub opening_calls : Asker → Files → Route → ℕ
 opening_calls asker files (along from names) =
     walk_and asker.user (is_for_execution asker.caller.regs.a) from.number names (λ v file. 1)
     (volume_at files from.drive)
@@ -24,7 +24,7 @@ opening_calls asker files (nowhere number) = 0
 abbrev pub i_open_calls : Asker → Files → ℕ → ℕ
 i_open_calls asker files terms =
     listed_calls (list_of asker)
-    (λ list. opening_calls asker files (way_of asker files terms (is_for_execution asker.caller.regs.a) list))
+    (λ list. opening_calls asker files (route_of asker files terms (is_for_execution asker.caller.regs.a) list))
 
 -- ---- I$Create
 
@@ -38,7 +38,7 @@ new_file_calls asker name v dir =
     place_calls dir name asker.user (is_for_execution asker.caller.regs.a) + calls_at_place v dir
 
 -- with the last of the names
-abbrev pub creating_calls : Asker → Files → Way → ℕ
+abbrev pub creating_calls : Asker → Files → Route → ℕ
 creating_calls asker files (along from names) =
     option_map_or (λ name. walk_and asker.user (is_for_execution asker.caller.regs.a) from.number (before_last names)
     (new_file_calls asker name) (volume_at files from.drive)) (last_of names) 0
@@ -48,4 +48,4 @@ creating_calls asker files (nowhere number) = 0
 abbrev pub i_create_calls : Asker → Files → ℕ → ℕ
 i_create_calls asker files terms =
     listed_calls (list_of asker)
-    (λ list. creating_calls asker files (way_to_new asker files terms (is_for_execution asker.caller.regs.a) list))
+    (λ list. creating_calls asker files (route_to_new asker files terms (is_for_execution asker.caller.regs.a) list))

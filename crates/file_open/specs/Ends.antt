@@ -1,7 +1,7 @@
 -- How attempts go on after reads of a drive, and how attempts that change no volume end.
 use Rattle.std.specs.Prelude.{◌≡◌, ℕ, Option, List}
 use Rattle.os9_base.specs.declared.call.CallEnd.{CallEnd}
-use Rattle.call_rules.specs.Inner.{Inner}
+use Rattle.call_rules.specs.Processes.{Processes}
 use Rattle.io_rules.specs.Attempts.{result_of}
 use Rattle.proc_state.specs.Tie.{Comes}
 use Rattle.proc_state.specs.declared.state.ProcState.{ProcState}
@@ -23,7 +23,7 @@ pub record HasReadIn (most : ℕ) (fault : Option ℕ) (drive : ℕ) (files : Fi
 
 -- the attempt of a process that is this step from here on has this end, and leaves these processes and files; it
 -- changes no volume, and calls no drive from here on
-pub record EndsQuietly (step : FileStep) (m : Inner) (files : Files) (p : ℕ) (end : CallEnd) (processes : ProcState)
+pub record EndsQuietly (step : FileStep) (m : Processes) (files : Files) (p : ℕ) (end : CallEnd) (processes : ProcState)
     (new : FileState) (views : List DriveView) : Type 0 where
   pub effect : FileEffect
   pub is : deed_of step files ≡ leaves_so effect

@@ -13,7 +13,7 @@ use Rattle.file_rules.specs.Create.{creates_in, creates_with_path}
 use Rattle.file_rules.specs.Files.{Asker, Files, volume_at, with_path_table}
 use Rattle.file_rules.specs.Open.{is_for_execution, opens_found}
 use Rattle.file_rules.specs.Step.{FileStep, done, needs, reaches}
-use Rattle.file_rules.specs.Way.{Found, before_last, last_of, walks}
+use Rattle.file_rules.specs.Route.{Found, before_last, last_of, walks}
 use Rattle.lock_model.specs.declared.place.FilePlace.{FilePlace}
 use Rattle.file_routes.specs.declared.walk.Walker.{Walker}
 

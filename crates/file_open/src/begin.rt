@@ -1,14 +1,14 @@
 //! New paths on files.
 
 ghost use Rattle.std.specs.Prelude.{◌≡◌, List, None};
-ghost use Rattle.call_rules.specs.Inner.{Inner};
+ghost use Rattle.call_rules.specs.Processes.{Processes};
 ghost use Rattle.file_drives.specs.Drives.{DriveView};
 ghost use Rattle.file_open.specs.Ends.{EndsQuietly};
 ghost use Rattle.file_open.specs.Steps.{begins};
 ghost use Rattle.file_rules.specs.Attempts.{asker_of};
 ghost use Rattle.file_rules.specs.Files.{Files};
 ghost use Rattle.file_state.specs.Tie.{StandsFor};
-ghost use Rattle.io_rules.specs.Io.{kept_at};
+ghost use Rattle.io_rules.specs.Io.{pending_at};
 ghost use Rattle.io_rules.specs.PathList.{PathList};
 ghost use Rattle.io_state.specs.Files.{IsOnDisk};
 ghost use Rattle.os9_base.specs.declared.registers.TimePacket.{TimePacket};
@@ -34,9 +34,9 @@ pub(crate) fn begin_on(
     next: u32,
 ) -> CallEnd
     requires lives { IsLiving s.old.table p.0 }
-    requires first { kept_at files.old.io p.0 ≡ None }
+    requires first { pending_at files.old.io p.0 ≡ None }
     requires disk { IsOnDisk target }
-    ensures begins { (m : Inner) (was : Files) (now : TimePacket) (list : PathList)
+    ensures begins { (m : Processes) (was : Files) (now : TimePacket) (list : PathList)
         (views : List DriveView) → Represents s.old m → StandsFor files.old views was
         → list.next ≡ next → EndsQuietly (begins (asker_of m p.0 now) was list target)
         m was p.0 result s.new files.new views }

@@ -11,7 +11,7 @@ ghost use Rattle.file_state.specs.Counted.{AttemptsWithin};
 ghost use Rattle.file_state.specs.Tie.{IsSound};
 ghost use Rattle.file_routes.specs.Walks.{SomeFrom, SomeStand};
 ghost use Rattle.guest_memory.specs.Tie.{cells_of};
-ghost use Rattle.io_rules.specs.Io.{kept_at};
+ghost use Rattle.io_rules.specs.Io.{pending_at};
 ghost use Rattle.os9_outer.specs.TerminalState.{TerminalState};
 ghost use Rattle.proc_rules.specs.Records.{IsLiving, record_at};
 
@@ -59,7 +59,7 @@ pub fn i_create(
     now: TimePacket,
 ) -> CallEnd
     requires lives { IsLiving s.old.table p.0 }
-    requires first { kept_at files.old.io p.0 ≡ None }
+    requires first { pending_at files.old.io p.0 ≡ None }
     requires sound { IsSound files.old (drives_seen BlockDriver-box devices.old) }
     ensures call { (terms : List TerminalState) → length terms ≡ vec_len devices.old.terms
         → AttemptsWithin i_create_calls Call.Create now p.0 result terms terms
@@ -96,7 +96,7 @@ fn create_along(
     now: TimePacket,
 ) -> CallEnd
     requires lives { IsLiving s.old.table p.0 }
-    requires quiet { kept_at files.old.io p.0 ≡ None }
+    requires quiet { pending_at files.old.io p.0 ≡ None }
     requires names { SomeFrom (cells_of s.old.memory p.0) first }
     requires file { HasFileAt files.old.disks (drives_seen BlockDriver-box devices.old) from }
     ensures creates { CreatesAlong from first next now p.0 result
@@ -123,7 +123,7 @@ fn create_from(
     now: TimePacket,
 ) -> CallEnd
     requires lives { IsLiving s.old.table p.0 }
-    requires quiet { kept_at files.old.io p.0 ≡ None }
+    requires quiet { pending_at files.old.io p.0 ≡ None }
     requires names { SomeStand (cells_of s.old.memory p.0) first }
     requires file { HasFileAt files.old.disks (drives_seen BlockDriver-box devices.old) from }
     ensures creates { CreatesAlong from (Some first) next now p.0 result
@@ -150,7 +150,7 @@ fn create_in(
     now: TimePacket,
 ) -> CallEnd
     requires lives { IsLiving s.old.table p.0 }
-    requires quiet { kept_at files.old.io p.0 ≡ None }
+    requires quiet { pending_at files.old.io p.0 ≡ None }
     requires file { HasFileAt files.old.disks
         (drives_seen BlockDriver-box devices.old) last.directory }
     ensures creates { CreatesThere last next now p.0 result
@@ -186,7 +186,7 @@ fn create_at(
     now: TimePacket,
 ) -> CallEnd
     requires lives { IsLiving s.old.table p.0 }
-    requires quiet { kept_at files.old.io p.0 ≡ None }
+    requires quiet { pending_at files.old.io p.0 ≡ None }
     requires place { IsPlaceForLast last found.now p.0
         (standing BlockDriver-box s.old files.old devices.old) }
     requires attributes { (record_at s.old.table p.0).regs.b < 128 }

@@ -1,7 +1,7 @@
 //! I$Open (System Programmer's Manual, I$Open).
 
 ghost use Rattle.std.specs.Prelude.{◌≡◌, List, None, length, vec_len};
-ghost use Rattle.call_rules.specs.Inner.{Inner};
+ghost use Rattle.call_rules.specs.Processes.{Processes};
 ghost use Rattle.file_drives.specs.Drives.{DriveView, drives_seen};
 ghost use Rattle.file_drives.specs.Mounted.{HasFileAt};
 ghost use Rattle.file_open.specs.Attempts.{OpensAlong, OpensThere};
@@ -10,14 +10,14 @@ ghost use Rattle.file_open.specs.Ends.{EndsQuietly};
 ghost use Rattle.file_rules.specs.Attempts.{asker_of};
 ghost use Rattle.file_rules.specs.Files.{Files};
 ghost use Rattle.file_rules.specs.Open.{opens_found};
-ghost use Rattle.file_rules.specs.Way.{Found};
+ghost use Rattle.file_rules.specs.Route.{Found};
 ghost use Rattle.file_rules.specs.declared.path_call.PathCall.TheVariants as Call;
 ghost use Rattle.file_state.specs.Attempt.{standing};
 ghost use Rattle.file_state.specs.Counted.{AttemptsWithin};
 ghost use Rattle.file_state.specs.Tie.{IsSound, StandsFor};
 ghost use Rattle.file_routes.specs.Walks.{SomeFrom};
 ghost use Rattle.guest_memory.specs.Tie.{cells_of};
-ghost use Rattle.io_rules.specs.Io.{kept_at};
+ghost use Rattle.io_rules.specs.Io.{pending_at};
 ghost use Rattle.io_rules.specs.PathList.{PathList};
 ghost use Rattle.os9_base.specs.declared.registers.TimePacket.{TimePacket};
 ghost use Rattle.os9_outer.specs.TerminalState.{TerminalState};
@@ -59,7 +59,7 @@ use rbf_sector::Fd;
 /// `i_open_calls` times. It is only read, and the other drives are not called.
 pub fn i_open(s: &mut ProcState, files: &mut FileState, devices: &mut Devices, p: Pid) -> CallEnd
     requires lives { IsLiving s.old.table p.0 }
-    requires first { kept_at files.old.io p.0 ≡ None }
+    requires first { pending_at files.old.io p.0 ≡ None }
     requires sound { IsSound files.old (drives_seen BlockDriver-box devices.old) }
     ensures call { (now : TimePacket) (terms : List TerminalState)
         → length terms ≡ vec_len devices.old.terms
@@ -96,7 +96,7 @@ fn open_along(
     next: u32,
 ) -> CallEnd
     requires lives { IsLiving s.old.table p.0 }
-    requires quiet { kept_at files.old.io p.0 ≡ None }
+    requires quiet { pending_at files.old.io p.0 ≡ None }
     requires names { SomeFrom (cells_of s.old.memory p.0) first }
     requires file { HasFileAt files.old.disks (drives_seen BlockDriver-box devices.old) from }
     ensures opens { (now : TimePacket) → OpensAlong from first next now p.0 result
@@ -122,7 +122,7 @@ fn open_place(
     next: u32,
 ) -> CallEnd
     requires lives { IsLiving s.old.table p.0 }
-    requires quiet { kept_at files.old.io p.0 ≡ None }
+    requires quiet { pending_at files.old.io p.0 ≡ None }
     requires file { HasFileAt files.old.disks (drives_seen BlockDriver-box devices.old) place }
     ensures opens { (now : TimePacket) → OpensThere place next now p.0 result
         (standing BlockDriver-box s.old files.old devices.old)
@@ -146,8 +146,9 @@ fn open_found(
     next: u32,
 ) -> CallEnd
     requires lives { IsLiving s.old.table p.0 }
-    requires quiet { kept_at files.old.io p.0 ≡ None }
-    ensures opens { (m : Inner) (was : Files) (now : TimePacket) (list : PathList) (found : Found)
+    requires quiet { pending_at files.old.io p.0 ≡ None }
+    ensures opens { (m : Processes) (was : Files) (now : TimePacket) (list : PathList)
+        (found : Found)
         (views : List DriveView) → Represents s.old m → StandsFor files.old views was
         → found.place ≡ place → IsFdOf found.file fd.now → list.next ≡ next
         → EndsQuietly (opens_found (asker_of m p.0 now) was list found)

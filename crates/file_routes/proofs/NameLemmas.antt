@@ -5,7 +5,7 @@ use Rattle.std.specs.List.{slice_get}
 use Rattle.rbf_model.specs.File.{DiskFile}
 use Rattle.rbf_model.specs.Walk.{WalkEnd, arrives, not_allowed, not_found, go_on, step, walk}
 use Rattle.rbf_walk.specs.Walk.{calls_on, step_calls, walk_calls}
-use Rattle.file_rules.specs.Way.{before_last, last_of}
+use Rattle.file_rules.specs.Route.{before_last, last_of}
 
 -- a name before others
 pub before-first : (name : List ℕ) (rest : List (List ℕ)) → 1 ≤ length rest → before_last (name ∷ rest) ≡ name ∷ before_last rest

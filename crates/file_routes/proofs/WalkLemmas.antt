@@ -10,7 +10,7 @@ use Rattle.rbf_access.specs.declared.volume.Volume.{Volume}
 use Rattle.rbf_walk.specs.Walk.{AnswersWalk, calls_on, directory_fault, step_calls, walk_calls}
 use Rattle.rbf_walk.specs.declared.error.DirError.{DirError}
 use Rattle.rbf_walk.specs.declared.error.DirError.TheVariants.{NotAllowed, BadPath, NotFound, Exists, File}
-use Rattle.file_rules.specs.Way.{before_last, last_of}
+use Rattle.file_rules.specs.Route.{before_last, last_of}
 use Rattle.lock_model.specs.declared.place.FilePlace.{FilePlace}
 use Rattle.file_drives.specs.Drives.{DriveView, ReadsDrive}
 use Rattle.file_drives.specs.Mounted.{AreMounted, ArrivesOn, HasFileAt, OnDisks, StayMounted, mounted_at, number_arrived}

@@ -13,8 +13,8 @@ use Rattle.rbf_access.specs.declared.volume.Volume.{Volume}
 use Rattle.file_rules.specs.Files.{Asker, Files, directory_of}
 use Rattle.file_rules.specs.Open.{tests_mode}
 use Rattle.file_rules.specs.Step.{Step, refused, comes}
-use Rattle.file_rules.specs.Way.{along, to_device, nowhere, is_drive, is_root, list_of, reads_list, root_of, to_device_of, way_by, way_from, way_of, way_of_device, way_on_drive, way_to_new}
-use Rattle.file_rules.specs.Way as Rule
+use Rattle.file_rules.specs.Route.{along, to_device, nowhere, is_drive, is_root, list_of, reads_list, root_of, to_device_of, route_by, route_from, route_of, route_of_device, route_on_drive, route_to_new}
+use Rattle.file_rules.specs.Route as Rule
 use Rattle.lock_model.specs.declared.place.FilePlace.{FilePlace}
 use Rattle.file_drives.specs.Drives.{DriveView}
 use Rattle.file_drives.specs.Mounted.{HasFileAt}
@@ -30,17 +30,17 @@ use Rattle.file_routes.specs.Ways.{HasNames, IsRouteOf, NamesOn, RouteIs, Starts
 
 -- ---- by where it starts
 
-from-directory : (directory : Option FilePlace) (first : Option ℕ) (names : List (List ℕ)) → way_to (along_from directory first E_PNNF) names ≡ way_from directory names
+from-directory : (directory : Option FilePlace) (first : Option ℕ) (names : List (List ℕ)) → way_to (along_from directory first E_PNNF) names ≡ route_from directory names
 from-directory None first names = refl
 from-directory (Some place) first names = refl
 
-on-drive : (n : ℕ) (volume : Option DiskVolume) (first : Option ℕ) (names : List (List ℕ)) → way_to (along_from (option_map (root_of n) volume) first E_MNF) names ≡ way_on_drive n names volume
+on-drive : (n : ℕ) (volume : Option DiskVolume) (first : Option ℕ) (names : List (List ℕ)) → way_to (along_from (option_map (root_of n) volume) first E_MNF) names ≡ route_on_drive n names volume
 on-drive n None first names = refl
 on-drive n (Some v) first names = refl
 
 pub drive-way : (n : ℕ) (volume : Option DiskVolume) (root : Option FilePlace) (first : Option ℕ)
     (names : List (List ℕ)) (result : Result Way ℕ) → result ≡ along_from root first E_MNF → root ≡ option_map
-    (root_of n) volume → way_to result names ≡ way_on_drive n names volume
+    (root_of n) volume → way_to result names ≡ route_on_drive n names volume
 drive-way n volume root first names result is root_is =
     ap (λ (result : Result Way ℕ). way_to result names) is ∙ ap (λ (root : Option FilePlace). way_to (along_from root first E_MNF) names) root_is ∙ on-drive n volume first names
 
@@ -101,10 +101,10 @@ module _ (asker : Asker) (files : Files) (drives terms : ℕ) (execute : Bool) (
       ap (λ (n : ℕ). not (not (length named.names == 0)) && option_map_or (λ device. is_drive (device_of n terms device)) named.device false) (sym as_many)
       ∙ ap (λ (b : Bool). b && option_map_or (λ device. is_drive (device_of (length files.drives) terms device)) named.device false) (not-not (length named.names == 0))
 
-  nothing-same : (made : Bool) → makes_nothing New drives terms (listed named) ≡ made → way_to_new asker files terms
-      execute named ≡ (if made then nowhere E_BPNAM else way_of asker files terms execute named)
+  nothing-same : (made : Bool) → makes_nothing New drives terms (listed named) ≡ made → route_to_new asker files terms
+      execute named ≡ (if made then nowhere E_BPNAM else route_of asker files terms execute named)
   nothing-same made is =
-      ap (λ (made : Bool). if made then nowhere E_BPNAM else way_of asker files terms execute named)
+      ap (λ (made : Bool). if made then nowhere E_BPNAM else route_of asker files terms execute named)
       (ap (λ (root : Bool). ends_in_dots named || root) (sym root-same) ∙ is)
 
   pub makes-none : (purpose : Purpose) (list : Listed) → list ≡ listed named → makes_nothing purpose drives terms list ≡ true → nowhere E_BPNAM ≡ way_for purpose asker files terms execute named
@@ -112,28 +112,28 @@ module _ (asker : Asker) (files : Files) (drives terms : ℕ) (execute : Bool) (
   makes-none New list is none = sym (nothing-same true (ap (makes_nothing New drives terms) (sym is) ∙ none))
 
   pub makes-some : (purpose : Purpose) (list : Listed) → list ≡ listed named → makes_nothing purpose drives terms list
-      ≡ false → way_for purpose asker files terms execute named ≡ way_of asker files terms execute named
+      ≡ false → way_for purpose asker files terms execute named ≡ route_of asker files terms execute named
   makes-some Existing list is some = refl
   makes-some New list is some = nothing-same false (ap (makes_nothing New drives terms) (sym is) ∙ some)
 
   -- a list without a device
   pub directory-way : (list : Listed) (directory : Option FilePlace) (first : Option ℕ) (result : Result Way ℕ)
       → list ≡ listed named → list.device ≡ None → directory_of files asker.caller.process.0 execute ≡ directory
-      → result ≡ along_from directory first E_PNNF → way_to result named.names ≡ way_of asker files terms execute
+      → result ≡ along_from directory first E_PNNF → way_to result named.names ≡ route_of asker files terms execute
       named
   directory-way list directory first result is none directory_is result_is =
       ap (λ (result : Result Way ℕ). way_to result named.names) result_is
       ∙ from-directory directory first named.names
-      ∙ ap (λ (start : Option FilePlace). way_from start named.names) (sym directory_is)
-      ∙ ap (way_by asker files terms execute named) (sym none ∙ ap (λ (list : Listed). list.device) is)
+      ∙ ap (λ (start : Option FilePlace). route_from start named.names) (sym directory_is)
+      ∙ ap (route_by asker files terms execute named) (sym none ∙ ap (λ (list : Listed). list.device) is)
 
   -- a list with one
   pub named-way : (list : Listed) (name : List ℕ) (device : Option Dev) → list ≡ listed named → list.device ≡ Some
-      name → device ≡ device_of drives terms name → way_of_device files named device ≡ way_of asker files terms
+      name → device ≡ device_of drives terms name → route_of_device files named device ≡ route_of asker files terms
       execute named
   named-way list name device is some device_is =
-      ap (way_of_device files named) (device_is ∙ ap (λ (n : ℕ). device_of n terms name) (sym as_many))
-      ∙ ap (way_by asker files terms execute named) (sym some ∙ ap (λ (list : Listed). list.device) is)
+      ap (route_of_device files named) (device_is ∙ ap (λ (n : ℕ). device_of n terms name) (sym as_many))
+      ∙ ap (route_by asker files terms execute named) (sym some ∙ ap (λ (list : Listed). list.device) is)
 
 -- ---- the list that was read
 
@@ -147,7 +147,7 @@ pub read-list : (read : Result PathList NameFault) (found : Listed) → listed_o
 read-list (Ok list) found is = (list, refl, let e : Ok (listed list) ≡ Ok found = is in cc)
 read-list (Err fault) found is = absurd (let e : Err fault ≡ Ok found = is in cc)
 
-module _ (cells : Cells) (asker : Asker) (way : PathList → Rule.Way) where
+module _ (cells : Cells) (asker : Asker) (way : PathList → Rule.Route) where
   -- it breaks off
   pub unreadable-route : (refusal : Option ℕ) → listed_of (list_of asker) ≡ Err Unreadable → leads asker refusal way ≡ refused E_BPADDR
   unreadable-route refusal is =
@@ -158,9 +158,9 @@ module _ (cells : Cells) (asker : Asker) (way : PathList → Rule.Way) where
   nameless-route None is = ap (λ (read : Result PathList NameFault). reads_list read (refuses_by None) (λ list. led_by list (way list))) (read-fault (list_of asker) NoName is)
   nameless-route (Some number) is = ap (λ (read : Result PathList NameFault). reads_list read (refuses_by (Some number)) (λ list. led_by list (way list))) (read-fault (list_of asker) NoName is)
 
-  led-to : (list : PathList) (to : Way) (w : Rule.Way) → w ≡ way_to (Ok to) list.names → led_by list w ≡ comes (record { list = list; way = w })
+  led-to : (list : PathList) (to : Way) (w : Rule.Route) → w ≡ way_to (Ok to) list.names → led_by list w ≡ comes (record { list = list; way = w })
   led-to list to w is =
-      subst (λ (w : Rule.Way). led_by list w ≡ comes (record { list = list; way = w })) (sym is) (by to)
+      subst (λ (w : Rule.Route). led_by list w ≡ comes (record { list = list; way = w })) (sym is) (by to)
     where
       by : (to : Way) → led_by list (way_to (Ok to) list.names) ≡ comes (record { list = list; way = way_to (Ok to) list.names })
       by (Along from first) = refl
@@ -190,15 +190,15 @@ pub mode-tested : {E : Type 0} (allowed : Bool) (step : Step E) → tests_mode a
 mode-tested true step = refl
 mode-tested false step = refl
 
-on-led : {E : Type 0} (on : PathList → Rule.Way → Step E) → ((list : PathList) (number : ℕ) → on list (nowhere number)
-    ≡ refused number) → (list : PathList) (w : Rule.Way) → on list w ≡ next_step (led_by list w)
+on-led : {E : Type 0} (on : PathList → Rule.Route → Step E) → ((list : PathList) (number : ℕ) → on list (nowhere number)
+    ≡ refused number) → (list : PathList) (w : Rule.Route) → on list w ≡ next_step (led_by list w)
     (λ led. on led.list led.way)
 on-led on refuses list (along from names) = refl
 on-led on refuses list to_device = refl
 on-led on refuses list (nowhere number) = refuses list number
 
 -- what a call makes of its path list, which is refused where that leads nowhere
-pub leads-on : {E : Type 0} (asker : Asker) (refusal : Option ℕ) (way : PathList → Rule.Way) (on : PathList → Rule.Way
+pub leads-on : {E : Type 0} (asker : Asker) (refusal : Option ℕ) (way : PathList → Rule.Route) (on : PathList → Rule.Route
     → Step E) → ((list : PathList) (number : ℕ) → on list (nowhere number) ≡ refused number)
     → reads_list (list_of asker) (refuses_by refusal) (λ list. on list (way list)) ≡ next_step
     (leads asker refusal way) (λ led. on led.list led.way)

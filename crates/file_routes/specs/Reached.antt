@@ -6,7 +6,7 @@ use Rattle.rbf_access.specs.declared.faults.FileFault.TheVariants.{Device, NoClu
 use Rattle.rbf_walk.specs.declared.error.DirError.{DirError}
 use Rattle.rbf_walk.specs.declared.error.DirError.TheVariants.{NotAllowed, BadPath, NotFound, Exists, File}
 use Rattle.file_rules.specs.Files.{Files, volume_at}
-use Rattle.file_rules.specs.Way.{Found}
+use Rattle.file_rules.specs.Route.{Found}
 use Rattle.lock_model.specs.declared.place.FilePlace.{FilePlace}
 use Rattle.file_routes.specs.declared.walk.Walker.{Walker}
 

@@ -5,7 +5,7 @@ use Rattle.rbf_model.specs.Walk.{step, walk}
 use Rattle.rbf_access.specs.declared.volume.Volume.{Volume}
 use Rattle.rbf_walk.specs.Walk.{AnswersWalk, directory_fault, step_calls, walk_calls}
 use Rattle.rbf_walk.specs.declared.error.DirError.{DirError}
-use Rattle.file_rules.specs.Way.{before_last, last_of}
+use Rattle.file_rules.specs.Route.{before_last, last_of}
 use Rattle.lock_model.specs.declared.place.FilePlace.{FilePlace}
 use Rattle.file_drives.specs.Drives.{DriveView}
 use Rattle.file_drives.specs.Mounted.{ArrivesOn, OnDisks, ReadsFile, number_arrived}

@@ -10,8 +10,8 @@ use Rattle.io_rules.specs.PathList.{PathList}
 use Rattle.rbf_access.specs.declared.volume.Volume.{Volume}
 use Rattle.file_rules.specs.Files.{Asker, Files, directory_of}
 use Rattle.file_rules.specs.Step.{Step, refused, comes, reaches}
-use Rattle.file_rules.specs.Way.{along, to_device, nowhere, is_drive, list_of, reads_list, way_of, way_to_new}
-use Rattle.file_rules.specs.Way as Rule
+use Rattle.file_rules.specs.Route.{along, to_device, nowhere, is_drive, list_of, reads_list, route_of, route_to_new}
+use Rattle.file_rules.specs.Route as Rule
 use Rattle.lock_model.specs.declared.place.FilePlace.{FilePlace}
 use Rattle.file_drives.specs.Drives.{DriveView}
 use Rattle.file_drives.specs.Mounted.{AreMounted, HasFileAt}
@@ -28,7 +28,7 @@ use Rattle.file_routes.specs.declared.way.Way.TheVariants.{Along, Device}
 -- ---- ways
 
 -- the way, or none, in the form of the calls' rules, for these names
-abbrev pub way_to : Result Way ℕ → List (List ℕ) → Rule.Way
+abbrev pub way_to : Result Way ℕ → List (List ℕ) → Rule.Route
 way_to (Ok (Along from first)) names = along from names
 way_to (Ok Device) names = to_device
 way_to (Err number) names = nowhere number
@@ -54,9 +54,9 @@ HasNames cells (Along from first) = SomeFrom cells first
 HasNames cells Device = ⊤
 
 -- the way of a list, by the purpose of the call
-abbrev pub way_for : Purpose → Asker → Files → ℕ → Bool → PathList → Rule.Way
-way_for Existing asker files terms execute list = way_of asker files terms execute list
-way_for New asker files terms execute list = way_to_new asker files terms execute list
+abbrev pub way_for : Purpose → Asker → Files → ℕ → Bool → PathList → Rule.Route
+way_for Existing asker files terms execute list = route_of asker files terms execute list
+way_for New asker files terms execute list = route_to_new asker files terms execute list
 
 -- ---- devices
 
@@ -81,10 +81,10 @@ makes_nothing New drives terms list = list.dots || names_root drives terms list
 -- a list that was read, and its way
 pub record Led : Type 0 where
   pub list : PathList
-  pub way : Rule.Way
+  pub way : Rule.Route
 
 -- a list without a way is refused
-abbrev pub led_by : PathList → Rule.Way → Step Led
+abbrev pub led_by : PathList → Rule.Route → Step Led
 led_by list (along from names) = comes (record { list = list; way = along from names })
 led_by list to_device = comes (record { list = list; way = to_device })
 led_by list (nowhere number) = refused number
@@ -100,7 +100,7 @@ mode_refusal true = None
 mode_refusal false = Some E_BMODE
 
 -- the list of a call with this refusal, if any
-abbrev pub leads : Asker → Option ℕ → (PathList → Rule.Way) → Step Led
+abbrev pub leads : Asker → Option ℕ → (PathList → Rule.Route) → Step Led
 leads asker refusal way = reads_list (list_of asker) (refuses_by refusal) (λ list. led_by list (way list))
 
 -- the result, if the call has no refusal
@@ -124,12 +124,12 @@ pub record Asks (query : Query) (cells : Cells) (disks : List (Option Volume)) (
   pub as_many : length files.drives ≡ drives
 
 -- this is the route of a list that was read, with this way
-pub record IsRouteTo (cells : Cells) (list : PathList) (way : Rule.Way) (route : Route) : Type 0 where
+pub record IsRouteTo (cells : Cells) (list : PathList) (way : Rule.Route) (route : Route) : Type 0 where
   pub way_is : way ≡ way_to (Ok route.way) list.names
   pub next_is : route.next ≡ list.next
   pub names : NamesOn cells route.way list.names
 
-abbrev pub IsRouteOf : Cells → PathList → Rule.Way → Result Route ℕ → Type 0
+abbrev pub IsRouteOf : Cells → PathList → Rule.Route → Result Route ℕ → Type 0
 IsRouteOf cells list way (Ok route) = IsRouteTo cells list way route
 IsRouteOf cells list way (Err number) = way ≡ nowhere number
 
@@ -137,7 +137,7 @@ IsRouteOf cells list way (Err number) = way ≡ nowhere number
 pub record IsRoute (cells : Cells) (asker : Asker) (step : Step Led) (route : Route) : Type 0 where
   pub list : PathList
   pub read : list_of asker ≡ Ok list
-  pub way : Rule.Way
+  pub way : Rule.Route
   pub comes_to : step ≡ comes (record { list = list; way = way })
   pub route_is : IsRouteTo cells list way route
 

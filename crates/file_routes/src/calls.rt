@@ -1,7 +1,7 @@
 //! The path lists of calls of processes.
 
 ghost use Rattle.std.specs.Prelude.{◌≡◌, ◌<◌, ℕ, Bool, Ok, IfSome, Option, List, vec_len};
-ghost use Rattle.call_rules.specs.Inner.{Inner, cells_at};
+ghost use Rattle.call_rules.specs.Processes.{Processes, cells_at};
 ghost use Rattle.guest_memory.specs.Tie.{cells_of};
 ghost use Rattle.os9_base.specs.declared.registers.TimePacket.{TimePacket};
 ghost use Rattle.proc_state.specs.Tie.{IsSame, Represents};
@@ -35,7 +35,7 @@ pub fn call_route(
     query: Query,
 ) -> Result<Route, u8>
     requires { query.process.0 < 33 }
-    ensures route { (m : Inner) (now : TimePacket) (files : Files) (execute : Bool)
+    ensures route { (m : Processes) (now : TimePacket) (files : Files) (execute : Bool)
         (views : List DriveView) → Represents s.old m
         → Asks query (cells_at m query.process.0) disks.now views (vec_len devices.now.drives)
         (asker_of m query.process.0 now) files execute
@@ -66,7 +66,7 @@ pub fn call_walk(
     requires process { walker.process.0 < 33 }
     requires names { SomeFrom (cells_of s.old.memory walker.process.0) first }
     requires file { HasFileAt disks.old (drives_seen BlockDriver-box devices.old) from }
-    ensures walks { (m : Inner) (names : List (List ℕ)) → Represents s.old m
+    ensures walks { (m : Processes) (names : List (List ℕ)) → Represents s.old m
         → NamesFrom (cells_at m walker.process.0) first names → Walks walker from names result
         disks.old (drives_seen BlockDriver-box devices.old)
         disks.new (drives_seen BlockDriver-box devices.new) }
@@ -93,7 +93,7 @@ pub fn call_walk_to_last(
     requires process { walker.process.0 < 33 }
     requires names { SomeStand (cells_of s.old.memory walker.process.0) first }
     requires file { HasFileAt disks.old (drives_seen BlockDriver-box devices.old) from }
-    ensures walks { (m : Inner) (names : List (List ℕ)) → Represents s.old m
+    ensures walks { (m : Processes) (names : List (List ℕ)) → Represents s.old m
         → NamesStand (cells_at m walker.process.0) first names
         → WalksToLast walker from names result disks.old (drives_seen BlockDriver-box devices.old)
         disks.new (drives_seen BlockDriver-box devices.new) }

@@ -6,12 +6,13 @@ ghost use Rattle.os9_base.specs.Cells.{Cells};
 ghost use Rattle.io_rules.specs.PathList.{PathList, path_list};
 ghost use Rattle.rbf_model.specs.Volume.{DiskVolume};
 ghost use Rattle.file_rules.specs.Files.{Asker, Files};
-ghost use Rattle.file_rules.specs.Way.{way_of_device};
+ghost use Rattle.file_rules.specs.Route.{route_of_device};
 ghost use Rattle.file_drives.specs.Drives.{DriveView};
 ghost use Rattle.file_drives.specs.Mounted.{AreMounted, HasFileAt};
 ghost use Rattle.device_paths.specs.Listed.{listed};
 ghost use Rattle.device_paths.specs.Standing.{NamesFrom};
-ghost use Rattle.file_routes.specs.Ways.{Asks, IsDevice, IsRouteFor, IsRouteOf, NamesOn, RouteHasNames, RouteStarts, StartsOn, along_from, makes_nothing as makes_nothing_lem, mode_refusal as mode_refusal_lem, unless_refused as unless_refused_lem, names_root, way_for, way_to};
+ghost use Rattle.file_routes.specs.Ways as model;
+ghost use Rattle.file_routes.specs.Ways.{Asks, IsDevice, IsRouteFor, IsRouteOf, NamesOn, RouteHasNames, RouteStarts, StartsOn, along_from, names_root, way_for, way_to};
 
 use device_paths::list::{Listed, read_path_list};
 use device_table::devices::{Dev, Devices};
@@ -103,7 +104,7 @@ pub fn find_route(
 /// The refusal of a call by its mode (System Programmer's Manual, E$BMode): E$BMode, if the mode is
 /// not allowed.
 pub fn mode_refusal(allowed: bool) -> Option<u8>
-    ensures { result ≡ mode_refusal_lem allowed }
+    ensures { result ≡ model.mode_refusal allowed }
 {
     if allowed { None } else { Some(E_BMODE) }
 }
@@ -114,7 +115,7 @@ pub fn mode_refusal(allowed: bool) -> Option<u8>
 ///
 /// The number of the call's refusal if it has one, else that of the list's.
 fn unless_refused(refusal: Option<u8>, route: Result<Route, u8>) -> Result<Route, u8>
-    ensures { result ≡ unless_refused_lem refusal route }
+    ensures { result ≡ model.unless_refused refusal route }
 {
     match refusal {
         None => route,
@@ -189,7 +190,7 @@ fn way_on(disks: &Disks, device: Dev, list: &Listed, first: Option<u16>) -> Resu
     requires { IsDevice device }
     ensures way { (files : Files) (views : List DriveView) (named : PathList)
         → AreMounted disks.now views files.volumes → list.now ≡ listed named
-        → way_to result named.names ≡ way_of_device files named (Some device) }
+        → way_to result named.names ≡ route_of_device files named (Some device) }
     ensures names { (cells : Cells) (names : List (List ℕ)) → NamesFrom cells first names
         → IfOk result (λ way. NamesOn cells way names) }
     ensures start { (views : List DriveView) (volumes : List (Option DiskVolume))
@@ -234,7 +235,7 @@ fn unless_slash(list: &Listed) -> Result<Way, u8>
 /// Does this call make something where nothing may be made: at the root of a drive, or with the
 /// name of a directory itself or of the one above it?
 fn makes_nothing(purpose: Purpose, devices: &Devices, list: &Listed) -> bool
-    ensures { result ≡ makes_nothing_lem purpose (vec_len devices.now.drives)
+    ensures { result ≡ model.makes_nothing purpose (vec_len devices.now.drives)
         (vec_len devices.now.terms) list.now }
 {
     match purpose {

@@ -7,8 +7,8 @@ use Rattle.os9_base.specs.declared.registers.Regs.{Regs}
 use Rattle.os9_base.specs.declared.registers.TimePacket.{TimePacket}
 use Rattle.os9_outer.specs.TerminalState.{TerminalState}
 use Rattle.call_rules.specs.CallResult.{CallResult}
-use Rattle.call_rules.specs.Inner.{Inner, user_at}
-use Rattle.io_rules.specs.Attempts.{caller_of, end_of, kept_in, regs_after, result_of}
+use Rattle.call_rules.specs.Processes.{Processes, user_at}
+use Rattle.io_rules.specs.Attempts.{caller_of, end_of, pending_in, regs_after, result_of}
 use Rattle.io_rules.specs.Dup.{i_dup}
 use Rattle.io_rules.specs.Io.{with_call}
 use Rattle.io_rules.specs.Step.{IoEffect}
@@ -49,7 +49,7 @@ file_step Call.PErr asker files terms = f_perr asker files
 
 -- the state after an attempt of a process, with the state kept of its call
 abbrev pub files_kept : ℕ → FileEffect → Files
-files_kept p effect = with_io effect.files (with_call effect.files.io p (kept_in effect.end))
+files_kept p effect = with_io effect.files (with_call effect.files.io p (pending_in effect.end))
 
 -- and with its request for a record only if it waits
 abbrev pub files_after : ℕ → FileEffect → Files
@@ -72,19 +72,20 @@ pub record AskerAttempts (call : PathCall) (asker : Asker) (files : Files) (end 
 -- ---- by the state of the processes
 
 -- the calling process, at a time
-abbrev pub asker_of : Inner → ℕ → TimePacket → Asker
-asker_of inner p now =
-    record { caller = caller_of inner p; user = user_at inner p; now = now; tick = inner.tick }
+abbrev pub asker_of : Processes → ℕ → TimePacket → Asker
+asker_of processes p now =
+    record { caller = caller_of processes p; user = user_at processes p; now = now; tick = processes.tick }
 
 -- the effect on the paths, terminals and pipes
 abbrev pub io_effect : FileEffect → IoEffect
 io_effect effect = record { end = effect.end; at = effect.at; bytes = effect.bytes; io = effect.files.io }
 
 -- an attempt of a call by a process, at a time: its result, and the state and the terminals after it
-pub record FileAttempts (call : PathCall) (inner : Inner) (files : Files) (now : TimePacket) (p : ℕ)
+pub record FileAttempts (call : PathCall) (processes : Processes) (files : Files) (now : TimePacket) (p : ℕ)
     (result : CallResult) (new : Files) (before after : List TerminalState) : Type 0 where
   pub effect : FileEffect
-  pub does : FileDoes (file_step call (asker_of inner p now) files (length before)) (asker_of inner p now) files effect
+  pub does : FileDoes (file_step call (asker_of processes p now) files (length before)) (asker_of processes p now) files
+      effect
       before after
-  pub result_is : result ≡ result_of inner p (io_effect effect)
+  pub result_is : result ≡ result_of processes p (io_effect effect)
   pub state : new ≡ files_after p effect

@@ -13,7 +13,7 @@ use Rattle.file_rules.specs.Files.{Files, Asker, directories_at, with_directory,
 use Rattle.file_rules.specs.MakDir.{past_list}
 use Rattle.file_rules.specs.Open.{is_for_execution, tests_mode}
 use Rattle.file_rules.specs.Step.{FileStep, refused, refuses, done}
-use Rattle.file_rules.specs.Way.{Way, along, to_device, nowhere, Found, way_of, reads_list, list_of, walks}
+use Rattle.file_rules.specs.Route.{Route, along, to_device, nowhere, Found, route_of, reads_list, list_of, walks}
 
 -- a user may make a file a directory of one of the user's processes
 abbrev pub may_go_to : DiskFile → ℕ → ℕ → Bool
@@ -25,14 +25,14 @@ goes_to asker files list found =
     (done (past_list asker.caller.regs list) (with_directories_of files asker.caller.process.0
     (with_directory (directories_at files asker.caller.process.0) (is_for_execution asker.caller.regs.a) found.place)))
 
-abbrev pub goes_on_way : Asker → Files → PathList → Way → FileStep
-goes_on_way asker files list (along from names) =
+abbrev pub goes_on_route : Asker → Files → PathList → Route → FileStep
+goes_on_route asker files list (along from names) =
     walks asker files (is_for_execution asker.caller.regs.a) from names (goes_to asker files list)
-goes_on_way asker files list to_device = refused E_FNA
-goes_on_way asker files list (nowhere number) = refused number
+goes_on_route asker files list to_device = refused E_FNA
+goes_on_route asker files list (nowhere number) = refused number
 
 abbrev pub i_chgdir : Asker → Files → ℕ → FileStep
 i_chgdir asker files terms =
     reads_list (list_of asker) (tests_mode (is_mode asker.caller.regs.a))
-    (λ list. goes_on_way asker files list
-    (way_of asker files terms (is_for_execution asker.caller.regs.a) list))
+    (λ list. goes_on_route asker files list
+    (route_of asker files terms (is_for_execution asker.caller.regs.a) list))

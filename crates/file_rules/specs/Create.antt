@@ -21,7 +21,7 @@ use Rattle.file_rules.specs.Change.{creates}
 use Rattle.file_rules.specs.Files.{Files, Asker, with_path_table}
 use Rattle.file_rules.specs.Open.{is_for_execution, says_directory, tests_mode}
 use Rattle.file_rules.specs.Step.{FileEffect, FileStep, refused, comes, as_io, changes, needs, refuses, leaves}
-use Rattle.file_rules.specs.Way.{Way, along, to_device, nowhere, Found, way_to_new, reads_list, list_of, walks, last_of, before_last}
+use Rattle.file_rules.specs.Route.{Route, along, to_device, nowhere, Found, route_to_new, reads_list, list_of, walks, last_of, before_last}
 
 -- the number of clusters that a new file of a size and its entry in a directory need
 abbrev pub clusters_for : Found → ℕ → ℕ
@@ -63,16 +63,16 @@ abbrev pub creates_on_device : Asker → Files → ℕ → FileStep
 creates_on_device asker files terms =
     comes (as_io (opens_for_create asker.caller files.io (length files.drives) terms))
 
-abbrev pub creates_on_way : Asker → Files → ℕ → PathList → Way → FileStep
-creates_on_way asker files terms list (along from names) =
+abbrev pub creates_on_route : Asker → Files → ℕ → PathList → Route → FileStep
+creates_on_route asker files terms list (along from names) =
     needs (last_of names) E_BPNAM
     (λ name. walks asker files (is_for_execution asker.caller.regs.a) from (before_last names)
     (creates_in asker files list name))
-creates_on_way asker files terms list to_device = creates_on_device asker files terms
-creates_on_way asker files terms list (nowhere number) = refused number
+creates_on_route asker files terms list to_device = creates_on_device asker files terms
+creates_on_route asker files terms list (nowhere number) = refused number
 
 abbrev pub i_create : Asker → Files → ℕ → FileStep
 i_create asker files terms =
     reads_list (list_of asker) (tests_mode (can_write asker.caller.regs.a))
-    (λ list. creates_on_way asker files terms list
-    (way_to_new asker files terms (is_for_execution asker.caller.regs.a) list))
+    (λ list. creates_on_route asker files terms list
+    (route_to_new asker files terms (is_for_execution asker.caller.regs.a) list))

@@ -16,7 +16,7 @@ use Rattle.file_rules.specs.MakDir.{past_list}
 use Rattle.file_rules.specs.Open.{is_for_execution, tests_mode}
 use Rattle.file_rules.specs.Sharing.{is_open}
 use Rattle.file_rules.specs.Step.{FileStep, refused, comes, changes, needs, refuses, leaves}
-use Rattle.file_rules.specs.Way.{Way, along, to_device, nowhere, Found, way_of, reads_list, list_of, walks, last_of, before_last}
+use Rattle.file_rules.specs.Route.{Route, along, to_device, nowhere, Found, route_of, reads_list, list_of, walks, last_of, before_last}
 
 -- the file of this number, which has a name in the found directory, is deleted
 abbrev pub deletes_file : Asker → Files → PathList → List ℕ → Found → ℕ → FileStep
@@ -35,7 +35,7 @@ deletes_in asker files execute list name dir =
     (needs (look_up dir.file.contents name) E_PNNF (deletes_file asker files list name dir))
 
 -- by the last name of a list; a list without names is the root of a drive, which is a directory
-abbrev pub deletes_named : Asker → Files → Bool → PathList → Way → Option (List ℕ) → FileStep
+abbrev pub deletes_named : Asker → Files → Bool → PathList → Route → Option (List ℕ) → FileStep
 deletes_named asker files execute list (along from names) None =
     walks asker files execute from names (λ root. refused E_FNA)
 deletes_named asker files execute list (along from names) (Some name) =
@@ -46,7 +46,7 @@ deletes_named asker files execute list (nowhere number) name = refused number
 abbrev pub deletes_by : Asker → Files → ℕ → Bool → (FileStep → FileStep) → FileStep
 deletes_by asker files terms execute test =
     reads_list (list_of asker) test
-    (λ list. deletes_named asker files execute list (way_of asker files terms execute list) (last_of list.names))
+    (λ list. deletes_named asker files execute list (route_of asker files terms execute list) (last_of list.names))
 
 abbrev pub i_delete : Asker → Files → ℕ → FileStep
 i_delete asker files terms = deletes_by asker files terms false (λ step. step)

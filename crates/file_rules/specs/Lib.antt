@@ -23,5 +23,5 @@ pub mod Seek
 pub mod Sharing
 pub mod Status
 pub mod Step
-pub mod Way
+pub mod Route
 pub mod Write

@@ -13,7 +13,7 @@ use Rattle.proc_model.specs.ModuleList.{ModuleEntry, free_number}
 use Rattle.proc_model.specs.declared.memory.TheConstants.{MOST_LINKS}
 use Rattle.proc_model.specs.Objects.{file_blocks, file_objects}
 use Rattle.call_rules.specs.CallResult.{CallResult, done, refused, needs, refuses}
-use Rattle.call_rules.specs.Inner.{Inner, own_at, regs_at}
+use Rattle.call_rules.specs.Processes.{Processes, own_at, regs_at}
 use Rattle.call_rules.specs.Link.{mapped_group, after_link, links_at}
 use Rattle.call_rules.specs.ModuleLinks.{Entered, entered_at}
 use Rattle.file_rules.specs.Files.{Files, Asker}
@@ -49,7 +49,7 @@ pub record Loads (m : MemoryState) (file : List ℕ) (outcome : Result Loaded �
   pub is : outcome ≡ loaded_by m file entries
 
 -- the result of a call by the result of reading its file: it is refused, or goes on with the file in memory
-abbrev pub GoesOnLoaded : Inner → Result ProgramFile ℕ → (ProgramFile → Loaded → CallResult) → CallResult → Type 0
+abbrev pub GoesOnLoaded : Processes → Result ProgramFile ℕ → (ProgramFile → Loaded → CallResult) → CallResult → Type 0
 GoesOnLoaded s (Err number) next result = result ≡ refused number
 GoesOnLoaded s (Ok file) next result =
     (outcome : Result Loaded ℕ) × Loads s.memory file.bytes outcome × (result ≡ by_outcome outcome)
@@ -59,14 +59,14 @@ GoesOnLoaded s (Ok file) next result =
     by_outcome (Ok loaded) = next file loaded
 
 -- the process links the first module
-abbrev pub links_first : Inner → ℕ → ProgramFile → Loaded → CallResult
+abbrev pub links_first : Processes → ℕ → ProgramFile → Loaded → CallResult
 links_first s p file loaded =
     needs (mapped_group loaded.memory p loaded.first.entry.group) E_MEMFUL
     (λ mapped. refuses (nat_le MOST_LINKS (links_at (own_at s p) mapped.slot)) E_MEMFUL
     (done (after_link s p loaded.first mapped (file.next - (regs_at s p).x))))
 
 -- an attempt of F$Load, which has no test of its own
-pub record LoadAttempts (s : Inner) (asker : Asker) (old : Files) (terms p : ℕ) (result : CallResult) (new : Files)
+pub record LoadAttempts (s : Processes) (asker : Asker) (old : Files) (terms p : ℕ) (result : CallResult) (new : Files)
     : Type 0 where
   pub reading : Result ProgramFile ℕ
   pub reads : ReadsProgram (program_file asker old terms (λ step. step)) reading old new

@@ -8,7 +8,7 @@ use Rattle.proc_model.specs.MemoryChanges.{new_numbers}
 use Rattle.proc_model.specs.ModuleList.{ModuleEntry}
 use Rattle.proc_rules.specs.Records.{zero_regs}
 use Rattle.call_rules.specs.Attempts.{after_attempt}
-use Rattle.call_rules.specs.Inner.{Inner, with_regs_of}
+use Rattle.call_rules.specs.Processes.{Processes, with_regs_of}
 use Rattle.call_rules.specs.ModuleLinks.{Entered}
 use Rattle.call_rules.specs.Rows.{after_call, both_linked}
 use Rattle.call_rules.specs.declared.proc_call.ProcCall.TheVariants as Call
@@ -48,18 +48,18 @@ abbrev pub newer_loaded : Loaded
 newer_loaded = record { first = newer; memory = with_file_entered linked_memory second_revision newer_entries }
 
 -- the state after process 2 has loaded it, by a path list that ends at address 5
-abbrev pub loaded_by_two : Inner
+abbrev pub loaded_by_two : Processes
 loaded_by_two =
     after_attempt both_linked 2
     (links_first both_linked 2 (record { bytes = second_revision; next = 5 }) newer_loaded)
 
 -- that state after process 3 has linked the module found by the name, and that state after process 2 has given up its
 -- link
-abbrev pub found_by_three : Inner
+abbrev pub found_by_three : Processes
 found_by_three = after_call Call.Link 3 (with_first_regs loaded_by_two)
   where
-    with_first_regs : Inner → Inner
+    with_first_regs : Processes → Processes
     with_first_regs s = with_regs_of s 3 zero_regs
 
-abbrev pub given_up : Inner
+abbrev pub given_up : Processes
 given_up = after_call Call.UnLink 2 loaded_by_two

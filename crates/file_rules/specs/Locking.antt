@@ -18,7 +18,7 @@ use Rattle.os9_sched.specs.declared.member.Cause.{Cause}
 use Rattle.os9_sched.specs.declared.member.Wait.{Wait as Waiting}
 use Rattle.io_rules.specs.Io.{Io}
 use Rattle.io_rules.specs.Modes.{has_bit_of}
-use Rattle.io_model.specs.declared.kept.Kept.{Kept}
+use Rattle.io_model.specs.declared.pending.PendingCall.{PendingCall}
 use Rattle.lock_model.specs.Records.{Records, with_waiting}
 use Rattle.io_rules.specs.Step.{IoEnd, answers, fails, keeps}
 use Rattle.io_rules.specs.Waiting.{io_interrupted, io_may_go, io_waits_for}
@@ -42,15 +42,15 @@ abbrev pub range_from : OpenFile → ℕ → ℕ → Range
 range_from opened at count = range_of (length opened.file.contents) at count
 
 -- the request in which the process waits, if it waits in one
-abbrev pub request_kept : Asker → Files → Option Request
-request_kept asker files = request_of files.records.locks asker.caller.process.0
+abbrev pub pending_request : Asker → Files → Option Request
+pending_request asker files = request_of files.records.locks asker.caller.process.0
 
 -- the position that a path had when a call was made: the start of the range that it waits for, if it waits
 abbrev pub start_of : Option Request → ℕ → ℕ
 start_of request at = option_map_or (λ request. request.lock.range.start) request at
 
 abbrev pub position_of : Asker → Files → OpenFile → ℕ
-position_of asker files opened = start_of (request_kept asker files) opened.opened.desc.at
+position_of asker files opened = start_of (pending_request asker files) opened.opened.desc.at
 
 -- the request of a call at its first attempt
 abbrev pub first_request : Asker → OpenFile → Claim → Request
@@ -65,7 +65,7 @@ first_request asker opened claim = record {
 
 -- the request of a call: the one that it waits in, or this one at its first attempt
 abbrev pub request_now : Asker → Files → OpenFile → Claim → Request
-request_now asker files opened claim = unwrap_or (request_kept asker files) (first_request asker opened claim)
+request_now asker files opened claim = unwrap_or (pending_request asker files) (first_request asker opened claim)
 
 -- the answer to the request of a process in a tick, at its call's first attempt or at a further one
 abbrev pub answer_in : Locks → ℕ → ℕ → Request → Grant
@@ -76,7 +76,7 @@ abbrev pub answer_to : Asker → Files → Request → Grant
 answer_to asker files request = answer_in files.records.locks asker.caller.process.0 asker.tick request
 
 -- the call as it is kept, like one on a terminal or a pipe
-abbrev pub call_of : Request → Kept
+abbrev pub call_of : Request → PendingCall
 call_of request =
     record { code = request.code; path = record { 0 = request.path }; moved = 0; count = request.count }
 
@@ -92,7 +92,7 @@ abbrev pub request_by : Grant → Request → Option Request
 request_by Wait request = Some request
 request_by grant request = None
 
-abbrev pub call_by : Grant → Request → Option Kept
+abbrev pub call_by : Grant → Request → Option PendingCall
 call_by grant request = option_map call_of (request_by grant request)
 
 -- the state where it waits in its request
@@ -120,7 +120,7 @@ lock_ends paths is_owner path lock = is_none (desc_of paths path) || is_owner lo
 abbrev pub records_after : IoEnd → Records → ℕ → Records
 records_after (answers regs) records p = with_waiting records p None
 records_after (fails number) records p = with_waiting records p None
-records_after (keeps kept) records p = records
+records_after (keeps pending) records p = records
 
 -- ---- when calls go on
 

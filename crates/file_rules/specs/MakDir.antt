@@ -13,7 +13,7 @@ use Rattle.file_rules.specs.Change.{makes_directory}
 use Rattle.file_rules.specs.Create.{has_room_for}
 use Rattle.file_rules.specs.Files.{Files, Asker}
 use Rattle.file_rules.specs.Step.{FileStep, refused, comes, changes, needs, refuses, leaves}
-use Rattle.file_rules.specs.Way.{Way, along, to_device, nowhere, Found, way_to_new, reads_list, list_of, walks, last_of, before_last}
+use Rattle.file_rules.specs.Route.{Route, along, to_device, nowhere, Found, route_to_new, reads_list, list_of, walks, last_of, before_last}
 
 -- the registers after a call that returns only the address past its list; if that is past FFFF, X is 0
 abbrev pub past_list : Regs → PathList → Regs
@@ -34,14 +34,14 @@ makes_in asker files list name dir =
       effect = λ n. leaves (answers (past_list asker.caller.regs list)) files;
     })))))
 
-abbrev pub makes_on_way : Asker → Files → PathList → Way → FileStep
-makes_on_way asker files list (along from names) =
+abbrev pub makes_on_route : Asker → Files → PathList → Route → FileStep
+makes_on_route asker files list (along from names) =
     needs (last_of names) E_BPNAM
     (λ name. walks asker files false from (before_last names) (makes_in asker files list name))
-makes_on_way asker files list to_device = refused E_FNA
-makes_on_way asker files list (nowhere number) = refused number
+makes_on_route asker files list to_device = refused E_FNA
+makes_on_route asker files list (nowhere number) = refused number
 
 abbrev pub i_makdir : Asker → Files → ℕ → FileStep
 i_makdir asker files terms =
     reads_list (list_of asker) (λ step. step)
-    (λ list. makes_on_way asker files list (way_to_new asker files terms false list))
+    (λ list. makes_on_route asker files list (route_to_new asker files terms false list))

@@ -3,7 +3,7 @@ use Rattle.std.specs.Prelude.{◌≡◌, ◌≢◌, ℕ, List, [], ◌∷◌, �
 use Rattle.os9_base.specs.declared.registers.TimePacket.{TimePacket}
 use Rattle.os9_outer.specs.TerminalState.{TerminalState}
 use Rattle.call_rules.specs.CallResult.{CallResult}
-use Rattle.call_rules.specs.Inner.{Inner}
+use Rattle.call_rules.specs.Processes.{Processes}
 use Rattle.lock_model.specs.Records.{Records}
 use Rattle.lock_model.specs.declared.history.Entry.{Entry}
 use Rattle.lock_model.specs.declared.lock.EntryKind.TheVariants.{Drop}
@@ -16,7 +16,7 @@ use Rattle.file_rules.specs.Step.{as_io, deed_of}
 use Rattle.file_rules.specs.declared.path_call.PathCall.{PathCall}
 
 -- an attempt is on a terminal, and memory was lacking for a byte that was to be put there
-pub record LacksMemory (call : PathCall) (m : Inner) (files : Files) (now : TimePacket) (p : ℕ)
+pub record LacksMemory (call : PathCall) (m : Processes) (files : Files) (now : TimePacket) (p : ℕ)
     (before after : List TerminalState) : Type 0 where
   pub step : IoStep
   pub on_device : deed_of (file_step call (asker_of m p now) files (length before)) files ≡ as_io step
@@ -30,7 +30,7 @@ pub record Enters (old new : Records) : Type 0 where
 
 -- an attempt is on a file, and memory was wanting for its entry in the history: of these files the devices have what it
 -- does, which is done
-pub record LacksEntry (call : PathCall) (m : Inner) (files : Files) (now : TimePacket) (p : ℕ) (done : Files)
+pub record LacksEntry (call : PathCall) (m : Processes) (files : Files) (now : TimePacket) (p : ℕ) (done : Files)
     (before after : List TerminalState) : Type 0 where
   pub result : CallResult
   pub attempts : FileAttempts call m files now p result done before after

@@ -15,7 +15,7 @@ use Rattle.io_rules.specs.declared.modes.TheConstants.{MODE_EXECUTE}
 use Rattle.file_rules.specs.Files.{Files, Asker, target_on, with_path_table}
 use Rattle.file_rules.specs.Sharing.{is_not_shared}
 use Rattle.file_rules.specs.Step.{FileStep, Step, refused, comes, as_io, needs, refuses, done}
-use Rattle.file_rules.specs.Way.{Way, along, to_device, nowhere, Found, way_of, reads_list, list_of, walks}
+use Rattle.file_rules.specs.Route.{Route, along, to_device, nowhere, Found, route_of, reads_list, list_of, walks}
 use Rattle.file_rules.specs.declared.status.TheConstants.{DIRECTORY}
 
 -- the mode is for execution
@@ -53,11 +53,11 @@ opens_found asker files list found =
 abbrev pub opens_device : Asker → Files → ℕ → FileStep
 opens_device asker files terms = comes (as_io (opens asker.caller files.io (length files.drives) terms))
 
-abbrev pub opens_on_way : Asker → Files → ℕ → PathList → Way → FileStep
-opens_on_way asker files terms list (along from names) =
+abbrev pub opens_on_route : Asker → Files → ℕ → PathList → Route → FileStep
+opens_on_route asker files terms list (along from names) =
     walks asker files (is_for_execution asker.caller.regs.a) from names (opens_found asker files list)
-opens_on_way asker files terms list to_device = opens_device asker files terms
-opens_on_way asker files terms list (nowhere number) = refused number
+opens_on_route asker files terms list to_device = opens_device asker files terms
+opens_on_route asker files terms list (nowhere number) = refused number
 
 -- the call is refused with E$BMode if its mode is not allowed
 abbrev pub tests_mode : {E : Type 0} → Bool → Step E → Step E
@@ -66,5 +66,5 @@ tests_mode is_allowed step = refuses (not is_allowed) E_BMODE step
 abbrev pub i_open : Asker → Files → ℕ → FileStep
 i_open asker files terms =
     reads_list (list_of asker) (tests_mode (is_mode asker.caller.regs.a))
-    (λ list. opens_on_way asker files terms list
-    (way_of asker files terms (is_for_execution asker.caller.regs.a) list))
+    (λ list. opens_on_route asker files terms list
+    (route_of asker files terms (is_for_execution asker.caller.regs.a) list))

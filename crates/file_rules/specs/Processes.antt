@@ -12,7 +12,7 @@ use Rattle.file_rules.specs.Files.{Files, DriveState, no_directories, directorie
 use Rattle.file_rules.specs.Locking.{lock_ends}
 use Rattle.lock_model.specs.Records.{no_records, with_waiting, ends_locks_below}
 use Rattle.lock_model.specs.declared.lock.TheConstants.{PATH_PLACES}
-use Rattle.file_rules.specs.Way.{root_of}
+use Rattle.file_rules.specs.Route.{root_of}
 use Rattle.file_rules.specs.declared.places.Directories.{Directories}
 use Rattle.lock_model.specs.declared.place.FilePlace.{FilePlace}
 

@@ -11,7 +11,7 @@ use Rattle.file_rules.specs.Files.{Files, Asker, DriveState, NoneFailed, OneFail
 use Rattle.file_rules.specs.Open.{may_open}
 use Rattle.file_rules.specs.Sharing.{is_not_shared}
 use Rattle.file_rules.specs.Step.{Step, refused, comes, reaches, drive_of, refuses}
-use Rattle.file_rules.specs.Way.{Way, along, to_device, nowhere, Found, way_of, reads_list, list_of, walks}
+use Rattle.file_rules.specs.Route.{Route, along, to_device, nowhere, Found, route_of, reads_list, list_of, walks}
 
 -- the bytes of a file of modules, and the address after its path list
 pub record ProgramFile : Type 0 where
@@ -25,16 +25,17 @@ program_found asker files list found =
     (refuses (nat_lt MOST_GROUP_BYTES (length found.file.contents)) E_MEMFUL
     (comes (record { bytes = found.file.contents; next = list.next }))))
 
-abbrev pub program_on_way : Asker → Files → PathList → Way → Step ProgramFile
-program_on_way asker files list (along from names) = walks asker files true from names (program_found asker files list)
-program_on_way asker files list to_device = refused E_FNA
-program_on_way asker files list (nowhere number) = refused number
+abbrev pub program_on_route : Asker → Files → PathList → Route → Step ProgramFile
+program_on_route asker files list (along from names) =
+    walks asker files true from names (program_found asker files list)
+program_on_route asker files list to_device = refused E_FNA
+program_on_route asker files list (nowhere number) = refused number
 
 -- the file that the path list at X names; `test` is the test of the call after the list was read
 abbrev pub program_file : Asker → Files → ℕ → (Step ProgramFile → Step ProgramFile) → Step ProgramFile
 program_file asker files terms test =
     reads_list (list_of asker) test
-    (λ list. program_on_way asker files list (way_of asker files terms true list))
+    (λ list. program_on_route asker files list (route_of asker files terms true list))
 
 -- the result of a reading if no drive fails
 abbrev pub reading_of : Step ProgramFile → Result ProgramFile ℕ

@@ -21,7 +21,7 @@ use Rattle.io_rules.specs.Write.{i_write as writes_device, i_writln as writes_de
 use Rattle.io_rules.specs.declared.modes.TheConstants.{STANDARD_ERROR}
 use Rattle.file_rules.specs.Change.{Change, writes}
 use Rattle.file_rules.specs.Files.{Files, Asker, OpenFile, with_position, with_records}
-use Rattle.file_rules.specs.Locking.{range_from, request_now, asks, request_kept}
+use Rattle.file_rules.specs.Locking.{range_from, request_now, asks, pending_request}
 use Rattle.file_rules.specs.declared.claim.Claim.{Claim}
 use Rattle.lock_model.specs.Records.{written_by}
 use Rattle.lock_model.specs.declared.lock.Request.{Request}
@@ -79,7 +79,7 @@ i_write asker files =
 abbrev pub i_writln : Asker → Files → FileStep
 i_writln asker files =
     on_file asker files asker.caller.regs.a (writes_device_line asker.caller files.io)
-    (λ opened. needs (line_moved asker (request_kept asker files)) E_BPADDR
+    (λ opened. needs (line_moved asker (pending_request asker files)) E_BPADDR
     (sends_bytes asker files opened I_WRITLN))
 
 -- the registers are unchanged

@@ -10,7 +10,7 @@ use Rattle.rbf_model.specs.Volume.{DiskVolume, Vol}
 use Rattle.rbf_access.specs.Mounted.{Represents, media_calls}
 use Rattle.file_rules.specs.Files.{NoneFailed}
 use Rattle.file_rules.specs.Processes.{directories_on, directory_in_root}
-use Rattle.file_rules.specs.Way.{root_of}
+use Rattle.file_rules.specs.Route.{root_of}
 use Rattle.file_rules.specs.declared.places.Directories.{Directories}
 use Rattle.lock_model.specs.declared.place.FilePlace.{FilePlace}
 use Rattle.file_drives.specs.Drives.{DriveView, drive_state, drive_states, media_at, unused_drive}

@@ -8,7 +8,7 @@ use Rattle.rbf_model.specs.Volume.{DiskVolume}
 use Rattle.rbf_access.specs.declared.volume.Volume.{Volume}
 use Rattle.file_rules.specs.Files.{Files, NoneFailed, no_directories}
 use Rattle.file_rules.specs.Processes.{first_directories, first_files}
-use Rattle.file_rules.specs.Way.{root_of}
+use Rattle.file_rules.specs.Route.{root_of}
 use Rattle.file_rules.specs.declared.places.Directories.{Directories}
 use Rattle.lock_model.specs.declared.place.FilePlace.{FilePlace}
 use Rattle.file_drives.specs.Drives.{DriveView, drive_state, drive_states}

@@ -12,7 +12,7 @@ use Rattle.rbf_access.specs.declared.volume.Volume.{Volume}
 use Rattle.rbf_walk.specs.Search.{IsFoundAt}
 use Rattle.file_rules.specs.Files.{Files, DriveState, NoneFailed, OneFailed, no_directories, volume_at, with_directories_of, with_drives, with_volume}
 use Rattle.file_rules.specs.Processes.{StartsOn, directories_on, first_files}
-use Rattle.file_rules.specs.Way.{root_of}
+use Rattle.file_rules.specs.Route.{root_of}
 use Rattle.lock_model.specs.declared.place.FilePlace.{FilePlace}
 use Rattle.file_drives.specs.Drives.{DriveView, drive_states, media_at}
 use Rattle.file_drives.specs.Mounted.{AreMounted, DriveHolds, mounted_at}

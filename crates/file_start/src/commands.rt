@@ -4,12 +4,12 @@ ghost use Rattle.std.specs.Prelude.{◌≡◌, ◌+◌, ◌*◌, ◌/◌, ◌<�
 ghost use Rattle.rbf_change.specs.Contents.{sector_count};
 ghost use Rattle.rbf_access.specs.Reading.{IsFdOf};
 ghost use Rattle.rbf_model.specs.Fields.{directory_entry};
-ghost use Rattle.rbf_model.specs.File.{DiskFile, is_directory as is_directory_lem};
+ghost use Rattle.rbf_model.specs.File.{DiskFile, is_directory as is_directory_model};
 ghost use Rattle.rbf_model.specs.Walk.{entry_has_name};
 ghost use Rattle.file_rules.specs.Processes.{directory_in_root};
 ghost use Rattle.file_drives.specs.Drives.{drives_seen};
 ghost use Rattle.file_drives.specs.Mounted.{HasFileAt, OnDisks, ReadsFile};
-ghost use Rattle.file_start.specs.Start.{FailsOn, IsNamed, IsRootAt, OnVolumeOf, directory_at as directory_at_lem, search_calls, start_fault};
+ghost use Rattle.file_start.specs.Start.{FailsOn, IsNamed, IsRootAt, OnVolumeOf, directory_at as directory_at_model, search_calls, start_fault};
 
 use crate::fault::StartFault;
 use device_table::devices::Devices;
@@ -72,7 +72,7 @@ fn directory_at(
 ) -> Result<Option<FilePlace>, StartFault>
     requires file { HasFileAt disks.old (drives_seen BlockDriver-box devices.old) place }
     ensures ok { OnDisks disks.old (drives_seen BlockDriver-box devices.old) place
-        (λ v file. IfOk result (λ found. found ≡ directory_at_lem place file)) }
+        (λ v file. IfOk result (λ found. found ≡ directory_at_model place file)) }
     ensures drive { ReadsFile place (start_fault result) (λ v file. 1)
         disks.old (drives_seen BlockDriver-box devices.old)
         disks.new (drives_seen BlockDriver-box devices.new) }
@@ -85,7 +85,7 @@ fn directory_at(
 
 /// The place of the file that has a descriptor, if it is a directory.
 fn if_directory(fd: &Fd, place: FilePlace) -> Option<FilePlace>
-    ensures { (file : DiskFile) → IsFdOf file fd.now → result ≡ directory_at_lem place file }
+    ensures { (file : DiskFile) → IsFdOf file fd.now → result ≡ directory_at_model place file }
 {
     if is_directory(fd) { Some(place) } else { None }
 }
@@ -93,7 +93,7 @@ fn if_directory(fd: &Fd, place: FilePlace) -> Option<FilePlace>
 /// Does a descriptor say that its file is a directory (OS-9 Technical Reference, File Descriptors,
 /// FD.ATT)?
 fn is_directory(fd: &Fd) -> bool
-    ensures { (file : DiskFile) → IsFdOf file fd.now → result ≡ is_directory_lem file }
+    ensures { (file : DiskFile) → IsFdOf file fd.now → result ≡ is_directory_model file }
 {
     fd.attr >> 7 == 1
 }

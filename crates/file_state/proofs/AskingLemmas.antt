@@ -5,13 +5,13 @@ use Rattle.std.proofs.lemmas.Bool.{cases_lt}
 use Rattle.std.proofs.lemmas.List.{get_or-set_same, get_or_past, length-set}
 use Rattle.std.proofs.lemmas.Option.{none-some, same_Some}
 use Rattle.os9_base.specs.declared.registers.Pid.{Pid}
-use Rattle.io_rules.specs.Io.{Io, kept_at, open_path}
+use Rattle.io_rules.specs.Io.{Io, pending_at, open_path}
 use Rattle.io_model.specs.declared.path.Target.{Target}
 use Rattle.io_model.specs.declared.path.Target.TheVariants.{File, Folder, Term, Pipe}
 use Rattle.io_model.specs.Path.{slot_of}
-use Rattle.io_model.specs.declared.kept.Kept.{Kept}
+use Rattle.io_model.specs.declared.pending.PendingCall.{PendingCall}
 use Rattle.io_model.specs.declared.path.SysPath.{SysPath}
-use Rattle.io_rules.specs.Again.{IsAgain, IsKept as IsKeptCall, path_number}
+use Rattle.io_rules.specs.Again.{IsAgain, IsPending as IsKeptCall, path_number}
 use Rattle.io_rules.specs.declared.io_call.IoCall.{IoCall}
 use Rattle.os9_base.specs.declared.registers.Regs.{Regs}
 use Rattle.io_state.proofs.HeldLemmas.{slot-held}
@@ -29,7 +29,7 @@ use Rattle.lock_model.specs.declared.lock.Request.{Request}
 use Rattle.file_rules.specs.Locking.{answer_in, call_of}
 use Rattle.lock_model.specs.declared.place.FilePlace.{FilePlace}
 use Rattle.file_rules.specs.Files.{place_of_target}
-use Rattle.file_state.specs.Asking.{IsGranted, IsKeptRequest, IsRequestOf, KeepsRequest, MayAsk}
+use Rattle.file_state.specs.Asking.{IsGranted, IsPendingRequest, IsRequestOf, KeepsRequest, MayAsk}
 use Rattle.file_state.specs.Opened.{IsPathOf, path_of}
 use Rattle.file_state.specs.declared.state.OpenFile.{OpenFile}
 
@@ -39,7 +39,7 @@ use Rattle.file_state.specs.declared.state.OpenFile.{OpenFile}
 pub kept-own : (io : Io) (locks : Locks) (p : Pid) (opened : OpenFile) (request : Request) → IsIo io
     → MayAsk io locks p.0 opened → request_of locks p.0 ≡ Some request → IsRequestOf io locks p.0 request
 kept-own io locks p opened request sound ask is =
-    let kept : IsKeptRequest io p.0 request = subst (λ (o : Option Request). IfSome o (IsKeptRequest io p.0)) is ask.kept in
+    let kept : IsPendingRequest io p.0 request = subst (λ (o : Option Request). IfSome o (IsPendingRequest io p.0)) is ask.kept in
     record {
       owner = kept.owner;
       only = subst (λ (o : Option Request). IfSome o (λ kept. kept ≡ request)) (sym is) refl;
@@ -108,19 +108,19 @@ may-ask io locks p n opened path names place kept = record {
 -- a call that is attempted again on a file is not a read of a terminal
 pub no-read-again : (io : Io) (p n : ℕ) (opened : OpenFile) (call : IoCall) (regs : Regs) → IsAgain call regs io p
     → path_number call regs ≡ n → open_path io p n ≡ Some (path_of opened) → place_of_target opened.desc.target ≡ Some
-    opened.place → IfSome (kept_at io p) (IsNoRead io)
-no-read-again io p n opened call regs again number names place = by (kept_at io p) again
+    opened.place → IfSome (pending_at io p) (IsNoRead io)
+no-read-again io p n opened call regs again number names place = by (pending_at io p) again
   where
     no_terminal : (t : ℕ) → opened.desc.target ≡ Term t → ⊥
     no_terminal t is = none-some opened.place (ap place_of_target (sym is) ∙ place)
 
-    one : (kept : Kept) → IsKeptCall call regs io p kept → IsNoRead io kept
-    one kept it t at reads =
-        let slot : slot_of io.paths p n ≡ Some kept.path = subst (λ (k : ℕ). slot_of io.paths p k ≡ Some kept.path) number it.path in
-        let same : kept.path ≡ opened.path = same_Some kept.path opened.path (sym slot ∙ (opened-slot io p n (path_of opened) names).0) in
+    one : (pending : PendingCall) → IsKeptCall call regs io p pending → IsNoRead io pending
+    one pending it t at reads =
+        let slot : slot_of io.paths p n ≡ Some pending.path = subst (λ (k : ℕ). slot_of io.paths p k ≡ Some pending.path) number it.path in
+        let same : pending.path ≡ opened.path = same_Some pending.path opened.path (sym slot ∙ (opened-slot io p n (path_of opened) names).0) in
         let here : target_at io.paths opened.path.0 ≡ Some (Term t) = subst (λ (s : SysPath). target_at io.paths s.0 ≡ Some (Term t)) same at in
         no_terminal t (same_Some opened.desc.target (Term t) (sym (opened-target io p n (path_of opened) names) ∙ here))
 
-    by : (kept : Option Kept) → IfSome kept (IsKeptCall call regs io p) → IfSome kept (IsNoRead io)
+    by : (pending : Option PendingCall) → IfSome pending (IsKeptCall call regs io p) → IfSome pending (IsNoRead io)
     by None again = tt
-    by (Some kept) again = one kept again
+    by (Some pending) again = one pending again

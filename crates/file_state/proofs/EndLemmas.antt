@@ -8,10 +8,10 @@ use Rattle.rbf_model.specs.Volume.{DiskVolume, Vol}
 use Rattle.rbf_access.specs.declared.faults.FileFault.TheVariants.{Device, TooManyRuns}
 use Rattle.rbf_walk.specs.declared.error.DirError.TheVariants.{File}
 use Rattle.rbf_change.specs.Faults as ends
-use Rattle.call_rules.specs.Inner.{Inner}
+use Rattle.call_rules.specs.Processes.{Processes}
 use Rattle.os9_base.specs.declared.call.CallEnd.{CallEnd}
 use Rattle.std.proofs.lemmas.Option.{none-some}
-use Rattle.io_model.specs.declared.kept.Kept.{Kept}
+use Rattle.io_model.specs.declared.pending.PendingCall.{PendingCall}
 use Rattle.lock_model.specs.Records.{Records, with_waiting}
 use Rattle.io_rules.specs.Attempts.{Does, result_by, result_of}
 use Rattle.io_rules.specs.Step.{IoEffect, IoEnd, IoStep, answers, fails, keeps}
@@ -178,7 +178,7 @@ goes-as-io step asker files deed it before after is does = inl (record {
 })
 
 -- an attempt that comes to this effect
-pub attempts : (call : PathCall) (m : Inner) (files : Files) (now : TimePacket) (p : ℕ) (effect : FileEffect)
+pub attempts : (call : PathCall) (m : Processes) (files : Files) (now : TimePacket) (p : ℕ) (effect : FileEffect)
     (before after : List TerminalState) → FileDoes (file_step call (asker_of m p now) files (length before))
     (asker_of m p now) files effect before after → FileAttempts call m files now p (result_of m p (io_effect effect))
     (files_after p effect) before after
@@ -192,7 +192,7 @@ stands-without p state views files stands =
     stands-with_records state views files (with_waiting files.records p None) (with_waiting state.records p None) (ap (λ (records : Records). with_waiting records p None) stands.records) stands
 
 -- an attempt that has come to an end
-pub stands-settled : (m : Inner) (p : ℕ) (effect : IoEffect) (end : IoEnd) (came : CallEnd) (processes : ProcState)
+pub stands-settled : (m : Processes) (p : ℕ) (effect : IoEffect) (end : IoEnd) (came : CallEnd) (processes : ProcState)
     (state : FileState) (views : List DriveView) (files : Files) → Comes m p (result_by end m p effect) came processes
     → StandsAfter p end state views files → StandsFor (settled p came state) views
     (with_records files (records_after end files.records p))
@@ -205,14 +205,14 @@ stands-settled m p effect end came processes state views files comes stands = by
     over end (inl stands) = stands-without p state views files stands
     over end (inr (none, stands)) = stands
 
-    waits : (kept : Kept) → dropped (keeps kept) → StandsFor state views files
-    waits kept (inl stands) = stands
-    waits kept (inr (none, stands)) = absurd (none-some kept (sym none))
+    waits : (pending : PendingCall) → dropped (keeps pending) → StandsFor state views files
+    waits pending (inl stands) = stands
+    waits pending (inr (none, stands)) = absurd (none-some pending (sym none))
 
     by_end : (end : IoEnd) → Comes m p (result_by end m p effect) came processes → dropped end → StandsFor (settled p came state) views (with_records files (records_after end files.records p))
     by_end (answers regs) comes stands =
         subst (λ (came : CallEnd). StandsFor (settled p came state) views (with_records files (with_waiting files.records p None))) (sym comes.0) (over (answers regs) stands)
     by_end (fails number) comes stands =
         subst (λ (came : CallEnd). StandsFor (settled p came state) views (with_records files (with_waiting files.records p None))) (sym comes.0) (over (fails number) stands)
-    by_end (keeps kept) comes stands =
-        subst (λ (came : CallEnd). StandsFor (settled p came state) views files) (sym comes.0) (waits kept stands)
+    by_end (keeps pending) comes stands =
+        subst (λ (came : CallEnd). StandsFor (settled p came state) views files) (sym comes.0) (waits pending stands)

@@ -12,7 +12,7 @@ use Rattle.rbf_model.specs.Volume.{DiskVolume}
 use Rattle.rbf_access.specs.declared.faults.FileFault.TheVariants.{Device}
 use Rattle.rbf_walk.specs.declared.error.DirError.{DirError}
 use Rattle.rbf_walk.specs.declared.error.DirError.TheVariants.{File}
-use Rattle.call_rules.specs.Inner.{Inner}
+use Rattle.call_rules.specs.Processes.{Processes}
 use Rattle.file_rules.specs.Attempts.{asker_of, file_step, files_after, files_kept, io_effect}
 use Rattle.file_rules.specs.Files.{Asker, DriveState, Files, OneFailed, volume_at}
 use Rattle.file_rules.specs.Step.{Deed, FileStep, Step, VolumeChange, as_io, changes, deed_of, drive_of, leaves_so}
@@ -137,7 +137,7 @@ module _ (step : FileStep) (asker : Asker) (files : Files) (it : VolumeChange) (
 
 -- ---- a whole call
 
-pub ends-attempt : (most : ℕ) (call : PathCall) (m : Inner) (was : Files) (now : TimePacket) (p : ℕ) (end : CallEnd)
+pub ends-attempt : (most : ℕ) (call : PathCall) (m : Processes) (was : Files) (now : TimePacket) (p : ℕ) (end : CallEnd)
     (terms : List TerminalState) (before after : Standing)
     → Ends (file_step call (asker_of m p now) was (length terms)) most m was now p end after.processes after.files
     before.views after.views terms → AttemptsIn most call m was now p end terms terms before after
@@ -161,7 +161,7 @@ settled-history (fails number) records p = refl
 settled-history (keeps kept) records p = refl
 
 -- or memory was wanting for its entry
-pub lacks-attempt : (most : ℕ) (call : PathCall) (m : Inner) (was : Files) (now : TimePacket) (p : ℕ) (end : CallEnd)
+pub lacks-attempt : (most : ℕ) (call : PathCall) (m : Processes) (was : Files) (now : TimePacket) (p : ℕ) (end : CallEnd)
     (terms : List TerminalState) (before after : Standing) → EndsUnentered (file_step call (asker_of m p now) was
     (length terms)) most m was now p end after.files before.views after.views terms → LacksItsEntry most call m was
     now p end terms terms before after

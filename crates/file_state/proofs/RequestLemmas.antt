@@ -17,7 +17,7 @@ use Rattle.rbf_access.specs.declared.faults.FileFault.TheVariants.{Device, NoClu
 use Rattle.rbf_walk.specs.declared.error.DirError.{DirError}
 use Rattle.call_rules.specs.CallResult.{CallResult}
 use Rattle.call_rules.specs.CallResult as came
-use Rattle.call_rules.specs.Inner.{Inner}
+use Rattle.call_rules.specs.Processes.{Processes}
 use Rattle.lock_model.specs.Locks.{Locks, request_of}
 use Rattle.lock_model.specs.Records.{Records, with_waiting}
 use Rattle.lock_model.specs.declared.place.FilePlace.{FilePlace}
@@ -58,14 +58,14 @@ use Rattle.file_state.specs.declared.state.FileState.{FileState}
 -- ---- want of memory
 
 -- an attempt has another result
-pub not-memory : (m : Inner) (p : ℕ) (result : CallResult) (end : CallEnd) (processes : ProcState) → Comes m p result end processes → end ≢ NoMemory
+pub not-memory : (m : Processes) (p : ℕ) (result : CallResult) (end : CallEnd) (processes : ProcState) → Comes m p result end processes → end ≢ NoMemory
 not-memory m p (came.done after) end processes told is = let e : Done ≡ NoMemory = sym told.0 ∙ is in cc
 not-memory m p (came.refused number) end processes told is = let e : Error number ≡ NoMemory = sym told.0 ∙ is in cc
 not-memory m p (came.waits after) end processes told is = let e : Wait ≡ NoMemory = sym told.0 ∙ is in cc
 not-memory m p (came.ends status) end processes told is = let e : Ended ≡ NoMemory = sym told.0 ∙ is in cc
 
 -- so an attempt that has come to an end lacks none
-pub lacks-none : (step : FileStep) (most : ℕ) (m : Inner) (files : Files) (now : TimePacket) (p : ℕ) (end : CallEnd)
+pub lacks-none : (step : FileStep) (most : ℕ) (m : Processes) (files : Files) (now : TimePacket) (p : ℕ) (end : CallEnd)
     (processes : ProcState) (new : FileState) (before after : List DriveView) (terms : List TerminalState)
     → Ends step most m files now p end processes new before after terms → EndsOrLacks step most m files now p end
     processes new before after terms
@@ -143,7 +143,7 @@ module _ (asker : Asker) (files : Files) (drive : ℕ) (mid : FileState) (before
 
 -- ---- the result of an attempt after it
 
-module _ (m : Inner) (files : Files) (now : TimePacket) (p : ℕ) (drive : ℕ) (next : FileStep) (mid : FileState)
+module _ (m : Processes) (files : Files) (now : TimePacket) (p : ℕ) (drive : ℕ) (next : FileStep) (mid : FileState)
     (before views : List DriveView) (terms : List TerminalState) (end : CallEnd) (processes : ProcState) (most : ℕ)
     (called : CalledAtMost most before views) where
   abbrev asker : Asker
@@ -288,7 +288,7 @@ module _ (m : Inner) (files : Files) (now : TimePacket) (p : ℕ) (drive : ℕ) 
 
 -- ---- requests, as the kernel makes them
 
-module _ (m : Inner) (was : Files) (now : TimePacket) (p : Pid) (found : rules.OpenFile) (opened : OpenFile)
+module _ (m : Processes) (was : Files) (now : TimePacket) (p : Pid) (found : rules.OpenFile) (opened : OpenFile)
     (locks : Locks) (tick : ℕ) (path_is : found.opened ≡ path_of opened) (place_is : found.place ≡ opened.place)
     (locks_are : was.records.locks ≡ locks) (tick_is : m.tick ≡ tick) where
   abbrev request-of : OpenPath → FilePlace → Claim → ℕ → Request

@@ -5,7 +5,7 @@ use Rattle.os9_base.specs.declared.registers.Regs.{Regs}
 use Rattle.io_model.specs.Path.{holds_path}
 use Rattle.io_rules.specs.Again.{IsAgain}
 use Rattle.io_rules.specs.Codes.{direction_of, io_call_of}
-use Rattle.io_rules.specs.Io.{Io, kept_at, with_call}
+use Rattle.io_rules.specs.Io.{Io, pending_at, with_call}
 use Rattle.io_rules.specs.declared.io_call.IoCall.{IoCall}
 use Rattle.io_rules.specs.declared.io_call.IoCall.TheVariants as Call
 use Rattle.io_state.specs.Files.{IsOnDisk}
@@ -43,14 +43,15 @@ pub record IsClaim (claim : Claim) : Type 0 where
   pub some : 0 < claim.count
   pub covers : Covers claim.range claim.count
 
--- a process waits in this request for a lock of its own, which has all bytes that its call moves, and the call is kept
-pub record IsKeptRequest (io : Io) (p : ℕ) (request : Request) : Type 0 where
-  pub kept : kept_at io p ≡ Some (call_of request)
+-- a process waits in this request for a lock of its own, which has all bytes that its call moves, and the call is
+-- pending
+pub record IsPendingRequest (io : Io) (p : ℕ) (request : Request) : Type 0 where
+  pub kept : pending_at io p ≡ Some (call_of request)
   pub owner : request.lock.owner.0 ≡ p
   pub covers : Covers request.lock.range request.count
 
 abbrev pub KeepsRequest : Io → Locks → ℕ → Type 0
-KeepsRequest io locks p = IfSome (request_of locks p) (IsKeptRequest io p)
+KeepsRequest io locks p = IfSome (request_of locks p) (IsPendingRequest io p)
 
 -- a process attempts a call, again if one of it waits: it is this one, and its request is kept
 pub record TriesAgain (call : IoCall) (regs : Regs) (state : FileState) (p : ℕ) : Type 0 where
@@ -78,8 +79,8 @@ pub record IsGranted (locks : Locks) (lock : Held) : Type 0 where
   pub quiet : request_of locks lock.owner.0 ≡ None
   pub free : conflicts locks lock ≡ false
 
--- the state after a request of a process was answered so: nothing is kept of a call that is refused, and of one that
--- goes on what was kept stays
+-- the state after a request of a process was answered so: a refused call is not pending, and one that goes on
+-- stays as it was
 abbrev pub asked : FileState → ℕ → Request → Grant → FileState
 asked state p request Granted = record state { records = with_waiting state.records p None }
 asked state p request grant = record state {

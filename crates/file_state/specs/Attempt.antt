@@ -9,7 +9,7 @@ use Rattle.os9_outer.specs.TerminalState.{TerminalState}
 use Rattle.os9_outer.specs.declared.drive.BlockDriver.{Ghosts}
 use Rattle.device_table.specs.declared.devices.DeviceTable.{DeviceTable}
 use Rattle.call_rules.specs.CallResult.{CallResult}
-use Rattle.call_rules.specs.Inner.{Inner}
+use Rattle.call_rules.specs.Processes.{Processes}
 use Rattle.lock_model.specs.Records.{Records, with_waiting}
 use Rattle.proc_state.specs.Tie.{Comes, Represents}
 use Rattle.proc_state.specs.declared.state.ProcState.{ProcState}
@@ -39,7 +39,7 @@ settled p end state = record state { records = records_settled p end state.recor
 
 -- an attempt of a call by a process, at a time: how it ends, and the processes, the files and the terminals then; its
 -- process is not told yet, and a request of it may be kept yet
-pub record Attempts (call : PathCall) (m : Inner) (files : Files) (now : TimePacket) (p : ℕ) (end : CallEnd)
+pub record Attempts (call : PathCall) (m : Processes) (files : Files) (now : TimePacket) (p : ℕ) (end : CallEnd)
     (processes : ProcState) (new : FileState) (views : List DriveView) (before after : List TerminalState)
     : Type 0 where
   pub result : CallResult
@@ -64,9 +64,10 @@ standing members processes files devices =
     record { processes = processes; files = files; views = drives_seen members devices }
 
 -- a fact of each state of the machine that it represents, in which the targets of paths and directories exist
-abbrev pub OnEach : Standing → (Inner → Files → Type 0) → Type 0
+abbrev pub OnEach : Standing → (Processes → Files → Type 0) → Type 0
 OnEach before fact =
-    (m : Inner) (was : Files) → Represents before.processes m → StandsFor before.files before.views was → AreKinds was
+    (m : Processes) (was : Files) → Represents before.processes m → StandsFor before.files before.views was
+        → AreKinds was
     → fact m was
 
 -- an attempt of a call by a process, at a time, from each such state

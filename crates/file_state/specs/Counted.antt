@@ -3,7 +3,7 @@ use Rattle.std.specs.Prelude.{◌≡◌, ℕ, ◌+◌, ◌≤◌, List, length, 
 use Rattle.os9_base.specs.declared.call.CallEnd.{CallEnd}
 use Rattle.os9_base.specs.declared.registers.TimePacket.{TimePacket}
 use Rattle.os9_outer.specs.TerminalState.{TerminalState}
-use Rattle.call_rules.specs.Inner.{Inner}
+use Rattle.call_rules.specs.Processes.{Processes}
 use Rattle.rbf_model.specs.File.{DiskFile}
 use Rattle.rbf_model.specs.Volume.{DiskVolume}
 use Rattle.rbf_walk.specs.declared.error.DirError.{DirError}
@@ -43,7 +43,8 @@ calls_of (reaches drive step) most = most
 
 -- an attempt of a call by a process, at a time, with at most `most` drive calls if it reaches a drive, and its effect
 -- on the drives
-pub record AttemptsIn (most : ℕ) (call : PathCall) (m : Inner) (was : Files) (now : TimePacket) (p : ℕ) (end : CallEnd)
+pub record AttemptsIn (most : ℕ) (call : PathCall) (m : Processes) (was : Files) (now : TimePacket) (p : ℕ)
+    (end : CallEnd)
     (terms terms_after : List TerminalState) (before after : Standing) : Type 0 where
   pub attempts : Attempts call m was now p end after.processes after.files after.views terms terms_after
   pub calls : CalledAtMost (calls_of (file_step call (asker_of m p now) was (length terms)) most) before.views

@@ -4,8 +4,8 @@ use Rattle.os9_base.specs.declared.call.CallEnd.{CallEnd}
 use Rattle.os9_base.specs.declared.call.CallEnd.TheVariants.{NoMemory}
 use Rattle.os9_base.specs.declared.registers.TimePacket.{TimePacket}
 use Rattle.os9_outer.specs.TerminalState.{TerminalState}
-use Rattle.call_rules.specs.Inner.{Inner}
-use Rattle.io_rules.specs.Attempts.{kept_in, result_of}
+use Rattle.call_rules.specs.Processes.{Processes}
+use Rattle.io_rules.specs.Attempts.{pending_in, result_of}
 use Rattle.io_rules.specs.Step.{IoEnd}
 use Rattle.proc_state.specs.Tie.{Comes}
 use Rattle.proc_state.specs.declared.state.ProcState.{ProcState}
@@ -26,12 +26,12 @@ use Rattle.file_state.specs.declared.state.FileState.{FileState}
 abbrev pub StandsAfter : ℕ → IoEnd → FileState → List DriveView → Files → Type 0
 StandsAfter p end state views files =
     StandsFor state views files
-    ⊎ ((kept_in end ≡ None)
+    ⊎ ((pending_in end ≡ None)
     × StandsFor (without_request p state) views (unrequested p files))
 
 -- an attempt of a process, at a time, does what the step says, and calls the drives at most `most` times if it reaches
 -- one. It has this end, and these are the processes, the state and the drives after it. The terminals are unchanged
-pub record Ends (step : FileStep) (most : ℕ) (m : Inner) (files : Files) (now : TimePacket) (p : ℕ) (end : CallEnd)
+pub record Ends (step : FileStep) (most : ℕ) (m : Processes) (files : Files) (now : TimePacket) (p : ℕ) (end : CallEnd)
     (processes : ProcState) (new : FileState) (before after : List DriveView) (terms : List TerminalState) : Type 0
   where
     pub effect : FileEffect
@@ -42,7 +42,7 @@ pub record Ends (step : FileStep) (most : ℕ) (m : Inner) (files : Files) (now 
     pub drives : KeepsDrives step (asker_of m p now) files end before after
 
 -- memory was wanting for the entry of an attempt in the history: what its step does on the drives is done
-pub record EndsUnentered (step : FileStep) (most : ℕ) (m : Inner) (files : Files) (now : TimePacket) (p : ℕ)
+pub record EndsUnentered (step : FileStep) (most : ℕ) (m : Processes) (files : Files) (now : TimePacket) (p : ℕ)
     (end : CallEnd) (new : FileState) (before after : List DriveView) (terms : List TerminalState) : Type 0 where
   pub effect : FileEffect
   pub does : FileDoes step (asker_of m p now) files effect terms terms
@@ -53,7 +53,7 @@ pub record EndsUnentered (step : FileStep) (most : ℕ) (m : Inner) (files : Fil
   pub images : KeepsDrives step (asker_of m p now) files end before after
 
 -- an attempt ends so, or memory was wanting for its entry
-pub record EndsOrLacks (step : FileStep) (most : ℕ) (m : Inner) (files : Files) (now : TimePacket) (p : ℕ)
+pub record EndsOrLacks (step : FileStep) (most : ℕ) (m : Processes) (files : Files) (now : TimePacket) (p : ℕ)
     (end : CallEnd) (processes : ProcState) (new : FileState) (before after : List DriveView)
     (terms : List TerminalState) : Type 0 where
   pub ends : end ≢ NoMemory → Ends step most m files now p end processes new before after terms

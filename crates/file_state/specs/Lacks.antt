@@ -4,7 +4,7 @@ use Rattle.os9_base.specs.declared.call.CallEnd.{CallEnd}
 use Rattle.os9_base.specs.declared.call.CallEnd.TheVariants.{NoMemory}
 use Rattle.os9_base.specs.declared.registers.TimePacket.{TimePacket}
 use Rattle.os9_outer.specs.TerminalState.{TerminalState}
-use Rattle.call_rules.specs.Inner.{Inner}
+use Rattle.call_rules.specs.Processes.{Processes}
 use Rattle.file_rules.specs.Attempts.{asker_of, file_step}
 use Rattle.file_rules.specs.Files.{Asker, Files}
 use Rattle.file_rules.specs.Memory.{LacksEntry}
@@ -17,7 +17,7 @@ use Rattle.file_state.specs.Media.{KeepsDrives}
 
 -- memory was wanting for the entry of an attempt in the history: the drives have what the attempt does on them. They
 -- were called at most so often
-pub record LacksItsEntry (most : ℕ) (call : PathCall) (m : Inner) (was : Files) (now : TimePacket) (p : ℕ)
+pub record LacksItsEntry (most : ℕ) (call : PathCall) (m : Processes) (was : Files) (now : TimePacket) (p : ℕ)
     (end : CallEnd) (terms terms_after : List TerminalState) (before after : Standing) : Type 0 where
   pub done : Files
   pub lacks : LacksEntry call m was now p done terms terms_after
@@ -30,7 +30,7 @@ pub record LacksItsEntry (most : ℕ) (call : PathCall) (m : Inner) (was : Files
 
 -- an attempt of a call, in which the drives are called at most so often, and what it leaves; or memory was wanting for
 -- its entry
-pub record AttemptsOrLacks (most : ℕ) (call : PathCall) (m : Inner) (was : Files) (now : TimePacket) (p : ℕ)
+pub record AttemptsOrLacks (most : ℕ) (call : PathCall) (m : Processes) (was : Files) (now : TimePacket) (p : ℕ)
     (end : CallEnd) (terms terms_after : List TerminalState) (before after : Standing) : Type 0 where
   pub attempted : end ≢ NoMemory → AttemptsIn most call m was now p end terms terms_after before after
   pub lacks : end ≡ NoMemory → LacksItsEntry most call m was now p end terms terms_after before after

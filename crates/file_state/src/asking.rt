@@ -1,16 +1,17 @@
 //! Requests of calls for records of files, and what they are answered.
 
 ghost use Rattle.std.specs.Prelude.{◌≡◌, ◌<◌, None, Some, IfSome, unwrap_or};
-ghost use Rattle.io_rules.specs.Io.{kept_at, with_call};
+ghost use Rattle.io_rules.specs.Io.{pending_at, with_call};
 ghost use Rattle.io_state.specs.Sound.{IsNoRead, MayWait};
 ghost use Rattle.lock_model.specs.Locks.{request_of};
 ghost use Rattle.lock_model.specs.Records.{with_waiting};
-ghost use Rattle.file_rules.specs.Locking.{answer_in, call_of as call_of_lem, end_by, range_of as range_of_lem, request_by, start_of};
+ghost use Rattle.file_rules.specs.Locking as model;
+ghost use Rattle.file_rules.specs.Locking.{answer_in, end_by, request_by, start_of};
 ghost use Rattle.file_state.specs.Asking.{IsClaim, IsGranted, IsRequestOf, MayAsk, asked, claimed};
 
 use crate::state::{FileState, OpenFile};
 use file_rules::claim::Claim;
-use io_model::kept::Kept;
+use io_model::pending::PendingCall;
 use io_model::path::SysPath;
 use lock_model::lock::{Grant, Held, Range, Request};
 use os9_base::call::CallEnd;
@@ -20,7 +21,7 @@ use os9_base::registers::Pid;
 /// So many bytes from a position on of a file of this size; all from there on if they reach past its
 /// end.
 pub fn range_of(size: u32, at: u32, count: u32) -> Range
-    ensures { result ≡ range_of_lem size at count }
+    ensures { result ≡ model.range_of size at count }
 {
     if size < at || size - at < count {
         return Range {
@@ -58,7 +59,7 @@ impl FileState {
         ensures own { IsRequestOf self.now.io self.now.records.locks p.0 result }
     {
         // A process that waits in a request keeps its call.
-        prove!(self.io.kept(p).is_some() || self.records.locks().request_of(p).is_none());
+        prove!(self.io.pending(p).is_some() || self.records.locks().request_of(p).is_none());
         match self.records.locks().request_of(p) {
             Some(request) => request,
             None => first_request(p, opened, claim, tick),
@@ -71,7 +72,7 @@ impl FileState {
     pub fn ask(&mut self, p: Pid, request: Request, tick: u32) -> Option<CallEnd>
         requires process { p.0 < 33 }
         requires request { IsRequestOf self.old.io self.old.records.locks p.0 request }
-        requires no_read { IfSome (kept_at self.old.io p.0) (IsNoRead self.old.io) }
+        requires no_read { IfSome (pending_at self.old.io p.0) (IsNoRead self.old.io) }
         ensures end { result ≡ end_by (answer_in self.old.records.locks p.0 tick request) }
         ensures state { self.new ≡ asked self.old p.0 request
             (answer_in self.old.records.locks p.0 tick request) }
@@ -102,10 +103,10 @@ impl FileState {
         }
     }
 
-    /// The call of a process is refused with this number. Nothing is kept of it.
+    /// The call of a process is refused with this number. It is not pending.
     fn refuse(&mut self, p: Pid, number: u8) -> CallEnd
         requires process { p.0 < 33 }
-        requires no_read { IfSome (kept_at self.old.io p.0) (IsNoRead self.old.io) }
+        requires no_read { IfSome (pending_at self.old.io p.0) (IsNoRead self.old.io) }
         ensures end { result ≡ CallEnd.Error number }
         ensures state { self.new ≡ record self.old { io = with_call self.old.io p.0 None } }
     {
@@ -116,11 +117,11 @@ impl FileState {
     /// The call of a process waits in its request.
     fn wait(&mut self, p: Pid, request: Request) -> CallEnd
         requires process { p.0 < 33 }
-        requires may { MayWait self.old.io.paths p.0 (call_of_lem request) }
-        requires no_read { IfSome (kept_at self.old.io p.0) (IsNoRead self.old.io) }
+        requires may { MayWait self.old.io.paths p.0 (model.call_of request) }
+        requires no_read { IfSome (pending_at self.old.io p.0) (IsNoRead self.old.io) }
         ensures end { result ≡ CallEnd.Wait }
         ensures state { self.new
-            ≡ record self.old { io = with_call self.old.io p.0 (Some (call_of_lem request)) } }
+            ≡ record self.old { io = with_call self.old.io p.0 (Some (model.call_of request)) } }
     {
         self.io.keep(p, Some(call_of(request)));
         CallEnd::Wait
@@ -146,11 +147,11 @@ fn first_request(p: Pid, opened: &OpenFile, claim: Claim, tick: u32) -> Request
     }
 }
 
-/// The call of a request, as it is kept.
-fn call_of(request: Request) -> Kept
-    ensures { result ≡ call_of_lem request }
+/// The call of a request, as it is pending.
+fn call_of(request: Request) -> PendingCall
+    ensures { result ≡ model.call_of request }
 {
-    Kept {
+    PendingCall {
         code: request.code,
         path: SysPath(request.path),
         moved: 0,

@@ -4,21 +4,21 @@ ghost use Rattle.std.specs.Prelude.{◌≡◌, ◌<◌, ◌==◌, ◌||◌, ℕ,
 ghost use Rattle.std.specs.Option.{option_map_or};
 ghost use Rattle.call_rules.specs.IoReady.{has_io};
 ghost use Rattle.io_model.specs.Path.{new_number, slot_of};
-ghost use Rattle.io_rules.specs.Io.{first_io, kept_at, open_path};
+ghost use Rattle.io_rules.specs.Io.{first_io, pending_at, open_path};
 ghost use Rattle.io_rules.specs.Waiting.{interrupted_count, io_may_go};
 ghost use Rattle.io_state.specs.Files.{IsOnDisk};
 ghost use Rattle.lock_model.specs.Locks.{lock_of};
 ghost use Rattle.lock_model.specs.Records.{ends_lock, ends_locks_below, no_records};
 ghost use Rattle.lock_model.specs.Waits.{lock_may_go};
 ghost use Rattle.record_locks.specs.Places.{IsPath};
-ghost use Rattle.rbf_model.specs.File.{DiskFile, is_directory as is_directory_lem};
+ghost use Rattle.rbf_model.specs.File.{DiskFile, is_directory as is_directory_model};
 ghost use Rattle.rbf_model.specs.Volume.{DiskVolume};
-ghost use Rattle.file_rules.specs.Files.{Files, directories_at, directory_of, no_directories, target_on as target_on_lem, with_directories_of, with_directory, with_drives, with_volume};
+ghost use Rattle.file_rules.specs.Files.{Files, directories_at, directory_of, no_directories, target_on as target_on_model, with_directories_of, with_directory, with_drives, with_volume};
 ghost use Rattle.file_rules.specs.Close.{files_after_close};
-ghost use Rattle.file_rules.specs.Locking.{call_wait, end_of_wait as end_of_wait_lem, files_interrupted, files_may_go, lock_ends as lock_ends_lem, request_wait as request_wait_lem};
+ghost use Rattle.file_rules.specs.Locking.{call_wait, end_of_wait as end_of_wait_model, files_interrupted, files_may_go, lock_ends as lock_ends_model, request_wait as request_wait_model};
 ghost use Rattle.file_rules.specs.Processes.{files_started, files_ended};
-ghost use Rattle.file_rules.specs.Sharing.{is_open as is_open_lem, is_not_shared as is_not_shared_lem, is_single as is_single_lem, some_path_on};
-ghost use Rattle.file_rules.specs.Way.{Found};
+ghost use Rattle.file_rules.specs.Sharing.{is_open as is_open_model, is_not_shared as is_not_shared_model, is_single as is_single_model, some_path_on};
+ghost use Rattle.file_rules.specs.Route.{Found};
 ghost use Rattle.file_drives.specs.Drives.{ChangesOneDrive, DriveView, drive_states, drives_seen};
 ghost use Rattle.file_drives.specs.Mounted.{HasFileAt, ReadsToMount};
 ghost use Rattle.file_laws.specs.Kinds.{AreKinds};
@@ -145,7 +145,7 @@ impl FileState {
     /// Is some path of any process on the file at a place?
     pub fn is_open(&self, place: FilePlace) -> bool
         ensures { (views : List DriveView) (files : Files) → StandsFor self.now views files
-            → result ≡ is_open_lem files place }
+            → result ≡ is_open_model files place }
     {
         self.io.is_on_path(place.drive, place.number)
     }
@@ -156,7 +156,7 @@ impl FileState {
     pub fn is_not_shared(&self, place: FilePlace, attributes: u8, mode: u8) -> bool
         ensures { (views : List DriveView) (files : Files) (found : Found)
             → StandsFor self.now views files → found.place ≡ place
-            → found.file.attributes ≡ attributes → result ≡ is_not_shared_lem files found mode }
+            → found.file.attributes ≡ attributes → result ≡ is_not_shared_model files found mode }
     {
         self.is_open(place)
             && (is_single(attributes) || is_single(mode) || self.is_open_for_one(place))
@@ -165,7 +165,7 @@ impl FileState {
     /// Is some path for a single user on the file at a place?
     fn is_open_for_one(&self, place: FilePlace) -> bool
         ensures { (views : List DriveView) (files : Files) → StandsFor self.now views files
-            → result ≡ some_path_on files place (λ desc. is_single_lem desc.mode) }
+            → result ≡ some_path_on files place (λ desc. is_single_model desc.mode) }
     {
         self.io
             .is_on_path_of_mode(place.drive, place.number, SINGLE_USER)
@@ -201,7 +201,7 @@ impl FileState {
     pub fn start(&mut self, parent: Pid, child: Pid)
         requires parent { parent.0 < 33 }
         requires child { child.0 < 33 }
-        requires quiet { kept_at self.old.io child.0 ≡ None }
+        requires quiet { pending_at self.old.io child.0 ≡ None }
         ensures { (views : List DriveView) (files : Files) → StandsFor self.old views files
             → StandsFor self.new views (files_started files parent.0 child.0) }
     {
@@ -214,7 +214,7 @@ impl FileState {
     pub fn close_file(&mut self, p: Pid, n: u8, path: SysPath)
         requires open { slot_of self.old.io.paths p.0 n ≡ Some path }
         requires there { IsPath path.0 }
-        requires quiet { kept_at self.old.io p.0 ≡ None }
+        requires quiet { pending_at self.old.io p.0 ≡ None }
         ensures { (views : List DriveView) (files : Files) → StandsFor self.old views files
             → StandsFor self.new views (files_after_close files p.0 n path.0) }
     {
@@ -241,7 +241,7 @@ impl FileState {
     /// The locks of a process and those of paths that have gone end, the least path first.
     fn end_locks_of(&mut self, p: Pid)
         ensures { self.new ≡ record self.old {
-          records = ends_locks_below (lock_ends_lem self.old.io.paths (λ owner. owner == p.0))
+          records = ends_locks_below (lock_ends_model self.old.io.paths (λ owner. owner == p.0))
               PATH_PLACES self.old.records;
         } }
     {
@@ -255,7 +255,7 @@ impl FileState {
         requires { IsPath path.0 }
         ensures { self.new ≡ record self.old {
           records = ends_lock
-              (lock_ends_lem self.old.io.paths (λ owner. owner == p.0)) path.0 self.old.records;
+              (lock_ends_model self.old.io.paths (λ owner. owner == p.0)) path.0 self.old.records;
         } }
     {
         if self.lock_ends(path, p) {
@@ -266,7 +266,7 @@ impl FileState {
     /// Does the lock of a path, if it holds one, end with this process?
     fn lock_ends(&self, path: SysPath, p: Pid) -> bool
         ensures { result ≡ option_map_or
-            (lock_ends_lem self.now.io.paths (λ owner. owner == p.0) path.0)
+            (lock_ends_model self.now.io.paths (λ owner. owner == p.0) path.0)
             (lock_of self.now.records.locks path.0) false }
     {
         match self.records.locks().lock_of(path.0) {
@@ -328,7 +328,7 @@ impl FileState {
 
 /// What a request waits for: a record of its file, for as many ticks as its path allows.
 fn request_wait(request: Request) -> Wait
-    ensures { result ≡ request_wait_lem request }
+    ensures { result ≡ request_wait_model request }
 {
     let file = request.lock.file;
     Wait {
@@ -339,7 +339,7 @@ fn request_wait(request: Request) -> Wait
 
 /// The tick from which a request waits no longer, if its path limits its ticks.
 fn end_of_wait(request: Request) -> Option<u32>
-    ensures { result ≡ end_of_wait_lem request }
+    ensures { result ≡ end_of_wait_model request }
 {
     if request.ticks <= 1 {
         return None;
@@ -349,8 +349,8 @@ fn end_of_wait(request: Request) -> Option<u32>
 
 /// The target of a path on the file or directory at a place.
 pub fn target_on(place: FilePlace, is_directory: bool) -> Target
-    ensures target { (file : DiskFile) → is_directory_lem file ≡ is_directory
-        → result ≡ target_on_lem file place }
+    ensures target { (file : DiskFile) → is_directory_model file ≡ is_directory
+        → result ≡ target_on_model file place }
     ensures disk { IsOnDisk result }
 {
     if is_directory {
@@ -383,7 +383,7 @@ fn opened_on(path: SysPath, desc: Desc) -> Option<OpenFile>
 
 /// Does a mode or an attribute byte say a single user?
 fn is_single(bits: u8) -> bool
-    ensures { result ≡ is_single_lem bits }
+    ensures { result ≡ is_single_model bits }
 {
     bits & SINGLE_USER != 0
 }

@@ -7,10 +7,10 @@ use Rattle.os9_base.specs.declared.errors.TheConstants.{E_DEADLK, E_LOCK}
 use Rattle.os9_base.specs.declared.registers.Pid.{Pid}
 use Rattle.os9_base.specs.declared.registers.TimePacket.{TimePacket}
 use Rattle.os9_outer.specs.TerminalState.{TerminalState}
-use Rattle.call_rules.specs.Inner.{Inner, regs_at, with_regs_of}
+use Rattle.call_rules.specs.Processes.{Processes, regs_at, with_regs_of}
 use Rattle.io_model.specs.declared.path.Desc.{Desc}
 use Rattle.io_model.specs.declared.path.SysPath.{SysPath}
-use Rattle.io_rules.specs.Io.{OpenPath, kept_at, with_call}
+use Rattle.io_rules.specs.Io.{OpenPath, pending_at, with_call}
 use Rattle.io_rules.specs.Modes.{can_write}
 use Rattle.io_state.specs.Sound.{IsNoRead}
 use Rattle.lock_model.specs.Locks.{Locks as LockTable, request_of}
@@ -62,7 +62,7 @@ path-is was opened it open_is =
 
 -- ---- what the calls request
 
-module _ (m : Inner) (was : Files) (now : TimePacket) (p : Pid) (opened : KernelFile) (it : OpenFile) (locks : LockTable)
+module _ (m : Processes) (was : Files) (now : TimePacket) (p : Pid) (opened : KernelFile) (it : OpenFile) (locks : LockTable)
     (tick : ℕ) (open_is : IsOpen was opened it) (locks_are : was.records.locks ≡ locks) (tick_is : m.tick ≡ tick) where
   requested : (claim other : Claim) (request : Request) → claim ≡ other → request ≡ unwrap_or (request_of locks p.0)
       (claimed p opened other tick) → request_now (asker_of m p.0 now) was it claim ≡ request
@@ -111,9 +111,9 @@ goes-on state new p request grant is none = is ∙ ap (asked state p request) (g
 
 -- what its pending call is on
 pub no-read-on : (state new : FileState) (p : ℕ) (request : Request) → new ≡ asked state p request Granted
-    → IfSome (kept_at state.io p) (IsNoRead state.io) → IfSome (kept_at new.io p) (IsNoRead new.io)
+    → IfSome (pending_at state.io p) (IsNoRead state.io) → IfSome (pending_at new.io p) (IsNoRead new.io)
 no-read-on state new p request is no_read =
-    subst (λ (it : FileState). IfSome (kept_at it.io p) (IsNoRead it.io)) (sym is) no_read
+    subst (λ (it : FileState). IfSome (pending_at it.io p) (IsNoRead it.io)) (sym is) no_read
 
 -- the file that it is on is there still
 pub data-on : (place : FilePlace) (state new : FileState) (p : ℕ) (request : Request) (disks : List (Option Volume))
@@ -146,7 +146,7 @@ pub records-wait : (records : Records) (mid new : FileState) (p : ℕ) → recor
 records-wait records mid new p same is =
     ap (λ (it : Records). with_waiting it p None) (same ∙ sym (ap (λ (state : FileState). state.records) is))
 
-module _ (m : Inner) (was : Files) (now : TimePacket) (p : ℕ) (end : CallEnd) (processes : ProcState)
+module _ (m : Processes) (was : Files) (now : TimePacket) (p : ℕ) (end : CallEnd) (processes : ProcState)
     (state new : FileState) (before views : List DriveView) (terms : List TerminalState)
     (disks : List (Option Volume)) (opened : KernelFile) (it : OpenFile) (stands : StandsFor state before was)
     (open_is : IsOpen was opened it) where

@@ -5,7 +5,7 @@ use Rattle.os9_base.specs.declared.call.CallEnd.{CallEnd}
 use Rattle.os9_base.specs.declared.registers.Regs.{Regs}
 use Rattle.os9_base.specs.declared.registers.TimePacket.{TimePacket}
 use Rattle.os9_outer.specs.TerminalState.{TerminalState}
-use Rattle.call_rules.specs.Inner.{Inner, regs_at, user_at}
+use Rattle.call_rules.specs.Processes.{Processes, regs_at, user_at}
 use Rattle.io_rules.specs.Status.{i_getstt as gets_of_device, i_setstt as sets_of_device}
 use Rattle.proc_rules.specs.Records.{record_at}
 use Rattle.proc_state.specs.Tie.{Represents}
@@ -27,13 +27,13 @@ use Rattle.file_status.proofs.OpenLemmas.{open-of}
 use Rattle.file_status.specs.Status.{IsNamedInA, IsOpen, calls_by_code, i_setstt_calls}
 
 -- the registers and the user that the kernel has of a process
-pub regs-tied : (processes : ProcState) (m : Inner) (p : ℕ) → Represents processes m → (record_at processes.table p).regs ≡ regs_at m p
-regs-tied processes m p tied = sym (ap (λ (i : Inner). regs_at i p) tied.is)
+pub regs-tied : (processes : ProcState) (m : Processes) (p : ℕ) → Represents processes m → (record_at processes.table p).regs ≡ regs_at m p
+regs-tied processes m p tied = sym (ap (λ (i : Processes). regs_at i p) tied.is)
 
-pub user-tied : (processes : ProcState) (m : Inner) (p user : ℕ) → Represents processes m → user ≡ (record_at processes.table p).user → user ≡ user_at m p
-user-tied processes m p user tied is = is ∙ sym (ap (λ (i : Inner). user_at i p) tied.is)
+pub user-tied : (processes : ProcState) (m : Processes) (p user : ℕ) → Represents processes m → user ≡ (record_at processes.table p).user → user ≡ user_at m p
+user-tied processes m p user tied is = is ∙ sym (ap (λ (i : Processes). user_at i p) tied.is)
 
-module _ (m : Inner) (was : Files) (now : TimePacket) (p : ℕ) (end : CallEnd) (before after : Standing)
+module _ (m : Processes) (was : Files) (now : TimePacket) (p : ℕ) (end : CallEnd) (before after : Standing)
     (opened : KernelFile) (terms : List TerminalState) (tied : Represents before.processes m)
     (stands : StandsFor before.files before.views was) (kinds : AreKinds was) (named : IsNamedInA p opened before)
   where

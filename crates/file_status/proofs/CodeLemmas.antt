@@ -7,7 +7,7 @@ use Rattle.os9_base.specs.declared.errors.TheConstants.{E_UNKSVC}
 use Rattle.os9_base.specs.declared.registers.Regs.{Regs}
 use Rattle.os9_base.specs.declared.registers.TimePacket.{TimePacket}
 use Rattle.os9_outer.specs.TerminalState.{TerminalState}
-use Rattle.call_rules.specs.Inner.{Inner, regs_at, with_regs_of}
+use Rattle.call_rules.specs.Processes.{Processes, regs_at, with_regs_of}
 use Rattle.io_model.specs.declared.path.Desc.{Desc}
 use Rattle.proc_state.specs.Tie.{Represents}
 use Rattle.proc_state.specs.declared.state.ProcState.{ProcState}
@@ -46,7 +46,7 @@ six-fail a b c d e f one two three four five six other na nb nc nd ne nf =
     (two-fail e f five six other ne nf))))
 
 -- the code that B has
-pub by-code : (m : Inner) (files : Files) (now : TimePacket) (p : ℕ) (end : CallEnd) (processes : ProcState)
+pub by-code : (m : Processes) (files : Files) (now : TimePacket) (p : ℕ) (end : CallEnd) (processes : ProcState)
     (new : FileState) (before after : List DriveView) (terms : List TerminalState) (it : OpenFile) (known code : ℕ)
     → known ≡ code → Ends (gets_status (asker_of m p now) files it known) 1 m files now p end processes new before
     after terms → Ends (gets_status (asker_of m p now) files it code) 1 m files now p end processes new before after
@@ -55,7 +55,7 @@ by-code m files now p end processes new before after terms it known code is ends
     (λ n. Ends (gets_status (asker_of m p now) files it n) 1 m files now p end processes new before after terms) is
     ends
 
-pub set-by-code : (m : Inner) (files : Files) (now : TimePacket) (p : ℕ) (end : CallEnd) (processes : ProcState)
+pub set-by-code : (m : Processes) (files : Files) (now : TimePacket) (p : ℕ) (end : CallEnd) (processes : ProcState)
     (new : FileState) (before after : List DriveView) (terms : List TerminalState) (it : OpenFile) (known code : ℕ)
     → known ≡ code → EndsOrLacks (sets_status (asker_of m p now) files it known)
     (setting_calls known (asker_of m p now) it) m files now p end processes new before after terms
@@ -64,7 +64,7 @@ pub set-by-code : (m : Inner) (files : Files) (now : TimePacket) (p : ℕ) (end 
 set-by-code m files now p end processes new before after terms it known code is ends =
     subst (λ n. EndsOrLacks (sets_status (asker_of m p now) files it n) (setting_calls n (asker_of m p now) it) m files now p end processes new before after terms) is ends
 
-module _ (m : Inner) (files : Files) (now : TimePacket) (p : ℕ) (end : CallEnd) (processes : ProcState)
+module _ (m : Processes) (files : Files) (now : TimePacket) (p : ℕ) (end : CallEnd) (processes : ProcState)
     (state new : FileState) (views : List DriveView) (terms : List TerminalState) (it : OpenFile) (regs : Regs)
     (same : regs ≡ regs_at m p) (stands : StandsFor state views files) (new_is : new ≡ uncalled state p) where
   pub getting-unknown : (code : ℕ) → (code ≡ 0 → ⊥) → (code ≡ 1 → ⊥) → (code ≡ 2 → ⊥) → (code ≡ 5 → ⊥)

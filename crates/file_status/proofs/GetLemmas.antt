@@ -5,7 +5,7 @@ use Rattle.os9_base.specs.declared.errors.TheConstants.{E_BPADDR, E_EOF}
 use Rattle.os9_base.specs.declared.registers.Regs.{Regs}
 use Rattle.os9_base.specs.declared.registers.TimePacket.{TimePacket}
 use Rattle.os9_outer.specs.TerminalState.{TerminalState}
-use Rattle.call_rules.specs.Inner.{Inner, cells_at, regs_at, with_memory, with_regs_of}
+use Rattle.call_rules.specs.Processes.{Processes, cells_at, regs_at, with_memory, with_regs_of}
 use Rattle.call_rules.specs.UserBytes.{user_bytes}
 use Rattle.proc_model.specs.MemoryChanges.{stored}
 use Rattle.io_model.specs.declared.path.Desc.{Desc}
@@ -40,7 +40,7 @@ use Rattle.file_status.specs.Status.{IsOpen, gets_options, uncalled}
 -- ---- a test that refuses
 
 -- it does not
-pub passes : (most : ℕ) (m : Inner) (files : Files) (now : TimePacket) (p : ℕ) (end : CallEnd) (processes : ProcState)
+pub passes : (most : ℕ) (m : Processes) (files : Files) (now : TimePacket) (p : ℕ) (end : CallEnd) (processes : ProcState)
     (new : FileState) (before after : List DriveView) (terms : List TerminalState) (test : Bool) (number : ℕ)
     (inner : FileStep) → test ≡ false → Ends inner most m files now p end processes new before after terms
     → Ends (refuses test number inner) most m files now p end processes new before after terms
@@ -48,7 +48,7 @@ passes most m files now p end processes new before after terms test number inner
     (λ t. Ends (refuses t number inner) most m files now p end processes new before after terms) (sym is) ends
 
 -- it does
-pub stops : (most : ℕ) (m : Inner) (files : Files) (now : TimePacket) (p : ℕ) (end : CallEnd) (processes : ProcState)
+pub stops : (most : ℕ) (m : Processes) (files : Files) (now : TimePacket) (p : ℕ) (end : CallEnd) (processes : ProcState)
     (new : FileState) (views : List DriveView) (terms : List TerminalState) (state : FileState) (test : Bool)
     (number : ℕ) (inner : FileStep) → test ≡ true → end ≡ CallEnd.Error number → Represents processes m
     → StandsFor state views files → new ≡ uncalled state p → Ends (refuses test number inner) most m files now p end
@@ -68,7 +68,7 @@ there-some (Some bytes) h = refl
 
 -- ---- SS.Opt
 
-module _ (m : Inner) (files : Files) (now : TimePacket) (p : ℕ) (end : CallEnd) (processes : ProcState)
+module _ (m : Processes) (files : Files) (now : TimePacket) (p : ℕ) (end : CallEnd) (processes : ProcState)
     (state new : FileState) (views : List DriveView) (terms : List TerminalState) (it : OpenFile) (regs : Regs)
     (same : regs ≡ regs_at m p) (stands : StandsFor state views files) (new_is : new ≡ uncalled state p) where
   pub options-stopped : false ≡ is_some (user_bytes (cells_at m p) regs.x 32) → end ≡ CallEnd.Error E_BPADDR
@@ -92,7 +92,7 @@ module _ (m : Inner) (files : Files) (now : TimePacket) (p : ℕ) (end : CallEnd
 
 -- ---- what is read of the descriptor
 
-module _ (m : Inner) (files : Files) (now : TimePacket) (p : ℕ) (end : CallEnd) (processes : ProcState)
+module _ (m : Processes) (files : Files) (now : TimePacket) (p : ℕ) (end : CallEnd) (processes : ProcState)
     (state new : FileState) (before after : List DriveView) (terms : List TerminalState)
     (disks : List (Option Volume)) (opened : KernelFile) (it : OpenFile) (stands : StandsFor state before files)
     (open_is : IsOpen files opened it) (new_is : new ≡ uncalled (with_disks state disks) p) where
@@ -222,7 +222,7 @@ module _ (m : Inner) (files : Files) (now : TimePacket) (p : ℕ) (end : CallEnd
       (reading-fails told_step (stores (regs_at m p).x (take (asked_bytes (asker_of m p now)) (descriptor_front it.file)) (regs_at m p) files) fault refl read is_fault is_end tied)
 
 -- the bytes for the descriptor are not there
-pub descriptor-stopped : (m : Inner) (files : Files) (now : TimePacket) (p : ℕ) (end : CallEnd)
+pub descriptor-stopped : (m : Processes) (files : Files) (now : TimePacket) (p : ℕ) (end : CallEnd)
     (processes : ProcState) (state new : FileState) (views : List DriveView) (terms : List TerminalState)
     (it : OpenFile) (regs : Regs) → regs ≡ regs_at m p → StandsFor state views files → new ≡ uncalled state p
     → false ≡ is_some (user_bytes (cells_at m p) regs.x (min regs.y 16)) → end ≡ CallEnd.Error E_BPADDR

@@ -3,7 +3,7 @@ use Rattle.std.proofs.Common.{◌≡◌, ℕ, Option, List, Result, Ok, Err, ref
 use Rattle.os9_base.specs.declared.call.CallEnd.{CallEnd}
 use Rattle.os9_base.specs.declared.registers.TimePacket.{TimePacket}
 use Rattle.os9_outer.specs.TerminalState.{TerminalState}
-use Rattle.call_rules.specs.Inner.{Inner, regs_at, user_at}
+use Rattle.call_rules.specs.Processes.{Processes, regs_at, user_at}
 use Rattle.lock_model.specs.declared.lock.Held.{Held}
 use Rattle.proc_state.specs.Tie.{Represents}
 use Rattle.proc_state.specs.declared.state.ProcState.{ProcState}
@@ -31,7 +31,7 @@ use Rattle.file_status.proofs.SizingLemmas.{found_on, size-broken, size-made}
 use Rattle.file_status.proofs.StandLemmas.{with_disks}
 use Rattle.file_status.specs.Status.{EndsSized, IsOpen, granted_size_calls, sizes_granted, uncalled}
 
-module _ (old : ℕ) (lock : Held) (m : Inner) (was : Files) (now : TimePacket) (p : ℕ) (end : CallEnd)
+module _ (old : ℕ) (lock : Held) (m : Processes) (was : Files) (now : TimePacket) (p : ℕ) (end : CallEnd)
     (processes : ProcState) (state new : FileState) (before after : List DriveView) (terms : List TerminalState)
     (disks : List (Option Volume)) (opened : KernelFile) (it : OpenFile)
     (stands : StandsFor state before (unrequested p was)) (open_is : IsOpen was opened it) (size : ℕ)

@@ -4,7 +4,7 @@ use Rattle.std.proofs.lemmas.List.{get_or_default}
 use Rattle.std.proofs.lemmas.Option.{none-some, same_Some, slice_get_read}
 use Rattle.os9_base.specs.declared.registers.Regs.{Regs}
 use Rattle.io_rules.specs.Again.{IsAgain, path_number}
-use Rattle.io_rules.specs.Io.{Io, OpenPath, kept_at, open_path}
+use Rattle.io_rules.specs.Io.{Io, OpenPath, pending_at, open_path}
 use Rattle.io_rules.specs.declared.io_call.IoCall.{IoCall}
 use Rattle.io_state.specs.Sound.{IsNoRead}
 use Rattle.io_rules.specs.Modes.{can_write}
@@ -101,10 +101,10 @@ module _ (state : FileState) (views : List DriveView) (p n : ℕ) (opened : Kern
 
   -- its process may ask for records on it
   pub asks-there : IsPathOf state.io opened → KeepsRequest state.io state.records.locks p → MayAsk state.io state.records.locks p opened
-  asks-there path kept = may-ask state.io state.records.locks p n opened path names place kept
+  asks-there path pending = may-ask state.io state.records.locks p n opened path names place pending
 
   -- and the pending call of the process is not a read of a terminal
-  pub no-read-there : (call : IoCall) (regs : Regs) → path_number call regs ≡ n → IsAgain call regs state.io p → IfSome (kept_at state.io p) (IsNoRead state.io)
+  pub no-read-there : (call : IoCall) (regs : Regs) → path_number call regs ≡ n → IsAgain call regs state.io p → IfSome (pending_at state.io p) (IsNoRead state.io)
   no-read-there call regs number again = no-read-again state.io p n opened call regs again number names place
 
 -- ---- on a drive

@@ -6,7 +6,7 @@ use Rattle.os9_base.specs.declared.errors.TheConstants.{E_BMODE, E_FULL}
 use Rattle.os9_base.specs.declared.registers.Regs.{Regs}
 use Rattle.os9_base.specs.declared.registers.TimePacket.{TimePacket}
 use Rattle.os9_outer.specs.TerminalState.{TerminalState}
-use Rattle.call_rules.specs.Inner.{Inner, regs_at, with_regs_of}
+use Rattle.call_rules.specs.Processes.{Processes, regs_at, with_regs_of}
 use Rattle.io_model.specs.declared.path.Desc.{Desc}
 use Rattle.io_model.specs.declared.path.SysPath.{SysPath}
 use Rattle.io_rules.specs.Io.{Io, with_call}
@@ -53,7 +53,7 @@ found-same opened it path desc place =
     ∙ ap (λ (d : Desc). let found : OpenFile = record { opened = record { path = it.opened.path; desc = d }; place = opened.place; volume = it.volume; file = it.file } in found) (sym desc)
     ∙ ap (λ (at : FilePlace). let found : OpenFile = record { opened = it.opened; place = at; volume = it.volume; file = it.file } in found) (sym place)
 
-module _ (m : Inner) (was : Files) (v : DiskVolume) (file : DiskFile) (now : TimePacket) (p : ℕ) (opened : KernelFile)
+module _ (m : Processes) (was : Files) (v : DiskVolume) (file : DiskFile) (now : TimePacket) (p : ℕ) (opened : KernelFile)
     (is : volume_at was opened.place.drive ≡ Some v) (before views : List DriveView) (terms : List TerminalState)
     (mid : FileState) (called : CalledAtMost 1 before views) (drives_are : was.drives ≡ drive_states before) where
   abbrev asker : Asker

@@ -7,7 +7,7 @@ use Rattle.os9_base.specs.declared.errors.TheConstants.{E_FNA, E_BMODE}
 use Rattle.os9_base.specs.declared.registers.Regs.{Regs}
 use Rattle.os9_base.specs.declared.registers.TimePacket.{TimePacket}
 use Rattle.os9_outer.specs.TerminalState.{TerminalState}
-use Rattle.call_rules.specs.Inner.{Inner, regs_at, user_at, with_regs_of}
+use Rattle.call_rules.specs.Processes.{Processes, regs_at, user_at, with_regs_of}
 use Rattle.io_model.specs.declared.path.Desc.{Desc}
 use Rattle.io_rules.specs.Modes.{can_write}
 use Rattle.proc_state.specs.Tie.{Represents}
@@ -77,7 +77,7 @@ one-at-least v file marks sizing = by (nat_lt (length file.contents) sizing.size
     by false true = omega arith
     by false false = omega arith
 
-module _ (m : Inner) (files : Files) (now : TimePacket) (p : ℕ) (end : CallEnd) (processes : ProcState)
+module _ (m : Processes) (files : Files) (now : TimePacket) (p : ℕ) (end : CallEnd) (processes : ProcState)
     (state new : FileState) (before after : List DriveView) (terms : List TerminalState)
     (disks : List (Option Volume)) (opened : KernelFile) (it : OpenFile) (stands : StandsFor state before files)
     (open_is : IsOpen files opened it) (new_is : new ≡ uncalled (with_disks state disks) p) where
@@ -172,7 +172,7 @@ module _ (m : Inner) (files : Files) (now : TimePacket) (p : ℕ) (end : CallEnd
 
 -- ---- a path whose mode allows it not
 
-module _ (m : Inner) (files : Files) (now : TimePacket) (p : ℕ) (end : CallEnd) (processes : ProcState)
+module _ (m : Processes) (files : Files) (now : TimePacket) (p : ℕ) (end : CallEnd) (processes : ProcState)
     (state new : FileState) (views : List DriveView) (terms : List TerminalState) (opened : KernelFile)
     (it : OpenFile) (most : ℕ) (stands : StandsFor state views files) (open_is : IsOpen files opened it)
     (new_is : new ≡ uncalled state p) (end_is : end ≡ CallEnd.Error E_BMODE) (tied : Represents processes m) where

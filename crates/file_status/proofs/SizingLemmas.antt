@@ -9,7 +9,7 @@ use Rattle.os9_base.specs.declared.errors.TheConstants.{E_FULL, E_SLF}
 use Rattle.os9_base.specs.declared.registers.Regs.{Regs}
 use Rattle.os9_base.specs.declared.registers.TimePacket.{TimePacket}
 use Rattle.os9_outer.specs.TerminalState.{TerminalState}
-use Rattle.call_rules.specs.Inner.{Inner, regs_at, with_regs_of}
+use Rattle.call_rules.specs.Processes.{Processes, regs_at, with_regs_of}
 use Rattle.io_rules.specs.Io.{Io, with_call}
 use Rattle.io_rules.specs.Step.{answers}
 use Rattle.lock_model.specs.History.{dropped, put}
@@ -78,7 +78,7 @@ sized-apart p old size path lock records = by (old == size)
 
 -- ---- the call is done, or memory was wanting
 
-module _ (old : ℕ) (lock : Held) (regs : Regs) (opened : KernelFile) (m : Inner) (p : ℕ) (state new : FileState)
+module _ (old : ℕ) (lock : Held) (regs : Regs) (opened : KernelFile) (m : Processes) (p : ℕ) (state new : FileState)
     (end : CallEnd) (processes : ProcState) where
   -- by the size that the file had
   abbrev sized_by : Bool → Records
@@ -127,7 +127,7 @@ if-err (Err error) it some = it
 
 -- ---- its result
 
-module _ (old : ℕ) (lock : Held) (m : Inner) (files : Files) (v : DiskVolume) (file : DiskFile) (now : TimePacket)
+module _ (old : ℕ) (lock : Held) (m : Processes) (files : Files) (v : DiskVolume) (file : DiskFile) (now : TimePacket)
     (p : ℕ) (opened : KernelFile) (end : CallEnd) (processes : ProcState) (mid new : FileState)
     (before after : List DriveView) (terms : List TerminalState) (is : volume_at files opened.place.drive ≡ Some v)
     (there : v.files opened.place.number ≡ Some file) (drives_are : files.drives ≡ drive_states before)

@@ -5,7 +5,7 @@ use Rattle.os9_base.specs.declared.errors.TheConstants.{E_SLF}
 use Rattle.os9_base.specs.declared.registers.Regs.{Regs}
 use Rattle.os9_base.specs.declared.registers.TimePacket.{TimePacket}
 use Rattle.os9_outer.specs.TerminalState.{TerminalState}
-use Rattle.call_rules.specs.Inner.{Inner, with_memory, with_regs_of}
+use Rattle.call_rules.specs.Processes.{Processes, with_memory, with_regs_of}
 use Rattle.proc_model.specs.MemoryChanges.{stored}
 use Rattle.io_rules.specs.Attempts.{result_of}
 use Rattle.io_rules.specs.Io.{with_call}
@@ -55,7 +55,7 @@ with_disks state disks = record state { disks = disks }
 
 -- ---- no drive was reached
 
-module _ (step : FileStep) (most : ℕ) (m : Inner) (files : Files) (now : TimePacket) (p : ℕ) (end : CallEnd)
+module _ (step : FileStep) (most : ℕ) (m : Processes) (files : Files) (now : TimePacket) (p : ℕ) (end : CallEnd)
     (processes : ProcState) (state new : FileState) (views : List DriveView) (terms : List TerminalState) where
   -- it ends so, and stores these bytes
   ends-leaving : (by : IoEnd) (at : ℕ) (bytes : List ℕ) → let it : FileEffect = record {
@@ -102,7 +102,7 @@ module _ (step : FileStep) (most : ℕ) (m : Inner) (files : Files) (now : TimeP
 
 -- ---- the file's drive was reached
 
-module _ (most : ℕ) (m : Inner) (files : Files) (now : TimePacket) (p : ℕ) (end : CallEnd) (processes : ProcState)
+module _ (most : ℕ) (m : Processes) (files : Files) (now : TimePacket) (p : ℕ) (end : CallEnd) (processes : ProcState)
     (mid new : FileState) (before after : List DriveView) (terms : List TerminalState) (drive : ℕ) (v : DiskVolume)
     (is : volume_at files drive ≡ Some v) (new_is : new ≡ uncalled mid p) (called : CalledAtMost most before after)
   where

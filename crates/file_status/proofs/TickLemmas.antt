@@ -4,7 +4,7 @@ use Rattle.os9_base.specs.declared.call.CallEnd.{CallEnd}
 use Rattle.os9_base.specs.declared.registers.Regs.{Regs}
 use Rattle.os9_base.specs.declared.registers.TimePacket.{TimePacket}
 use Rattle.os9_outer.specs.TerminalState.{TerminalState}
-use Rattle.call_rules.specs.Inner.{Inner, regs_at, with_regs_of}
+use Rattle.call_rules.specs.Processes.{Processes, regs_at, with_regs_of}
 use Rattle.io_model.specs.Path.{desc_of, with_desc}
 use Rattle.io_model.specs.declared.path.Desc.{Desc}
 use Rattle.io_model.specs.declared.path.SysPath.{SysPath}
@@ -53,7 +53,7 @@ ticked-on state between p opened ticks io same path fact =
     subst (λ (o : Option Desc). IfSome o (λ desc. io ≡ with_paths (with_call state.io p None) (with_desc state.io.paths opened.path.0 (Some (record desc { ticks = ticks }))))) path here in
     ap (λ (it : FileState). let new : FileState = record it { io = io } in new) same ∙ ap (λ (io : Io). let new : FileState = record state { io = io } in new) set
 
-module _ (most : ℕ) (m : Inner) (files : Files) (now : TimePacket) (p : ℕ) (end : CallEnd) (processes : ProcState)
+module _ (most : ℕ) (m : Processes) (files : Files) (now : TimePacket) (p : ℕ) (end : CallEnd) (processes : ProcState)
     (state new : FileState) (views : List DriveView) (terms : List TerminalState) (opened : KernelFile)
     (it : OpenFile) (stands : StandsFor state views files) (open_is : IsOpen files opened it) where
   -- the path of the machine is the kernel's

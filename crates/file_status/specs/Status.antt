@@ -6,7 +6,7 @@ use Rattle.os9_base.specs.declared.call.CallEnd.TheVariants.{Done, NoMemory}
 use Rattle.os9_base.specs.declared.registers.Regs.{Regs}
 use Rattle.os9_base.specs.declared.registers.TimePacket.{TimePacket}
 use Rattle.os9_outer.specs.TerminalState.{TerminalState}
-use Rattle.call_rules.specs.Inner.{Inner, with_regs_of}
+use Rattle.call_rules.specs.Processes.{Processes, with_regs_of}
 use Rattle.io_rules.specs.Io.{with_call}
 use Rattle.io_rules.specs.Status.{options}
 use Rattle.io_rules.specs.declared.status.TheConstants.{OPTION_BYTES}
@@ -58,7 +58,7 @@ pub record IsOpen (files : Files) (opened : KernelFile) (it : OpenFile) : Type 0
 abbrev pub EndsOn : KernelFile → (Asker → Files → OpenFile → FileStep) → (Asker → OpenFile → ℕ) → TimePacket → ℕ
     → CallEnd → Standing → Standing → Type 0
 EndsOn opened step most now p end before after =
-    (m : Inner) (was : Files) (it : OpenFile) (terms : List TerminalState) → Represents before.processes m
+    (m : Processes) (was : Files) (it : OpenFile) (terms : List TerminalState) → Represents before.processes m
     → StandsFor before.files before.views was → IsOpen was opened it
     → Ends (step (asker_of m p now) was it) (most (asker_of m p now) it) m was now p end after.processes after.files
     before.views after.views terms
@@ -67,7 +67,7 @@ EndsOn opened step most now p end before after =
 abbrev pub SetsFrom : (Files → Files) → KernelFile → (Asker → Files → OpenFile → FileStep) → (Asker → OpenFile → ℕ)
     → TimePacket → ℕ → CallEnd → Standing → Standing → Type 0
 SetsFrom changed opened step most now p end before after =
-    (m : Inner) (was : Files) (it : OpenFile) (terms : List TerminalState) → Represents before.processes m
+    (m : Processes) (was : Files) (it : OpenFile) (terms : List TerminalState) → Represents before.processes m
     → StandsFor before.files before.views (changed was) → IsOpen was opened it
     → EndsOrLacks (step (asker_of m p now) was it) (most (asker_of m p now) it) m was now p end after.processes
     after.files before.views after.views terms
@@ -106,7 +106,7 @@ sizes_granted old lock asker files opened =
 
 -- the size in X and U was given to a file of this size: the call of a process is done once that is in the history. Or
 -- memory was wanting for the entry of another size, and the state is as it was
-pub record EndsSized (old : ℕ) (lock : Held) (regs : Regs) (opened : KernelFile) (m : Inner) (p : ℕ)
+pub record EndsSized (old : ℕ) (lock : Held) (regs : Regs) (opened : KernelFile) (m : Processes) (p : ℕ)
     (state : FileState) (end : CallEnd) (processes : ProcState) (new : FileState) : Type 0 where
   pub done : end ≢ NoMemory → (end ≡ Done) × Represents processes (with_regs_of m p regs)
   pub entered : end ≢ NoMemory → new

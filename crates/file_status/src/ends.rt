@@ -1,10 +1,10 @@
 //! The ends of calls on files.
 
 ghost use Rattle.std.specs.Prelude.{◌≡◌, ◌<◌, IfSome};
-ghost use Rattle.io_rules.specs.Io.{kept_at};
+ghost use Rattle.io_rules.specs.Io.{pending_at};
 ghost use Rattle.io_state.specs.Sound.{IsNoRead};
 ghost use Rattle.proc_rules.specs.Records.{IsLiving};
-ghost use Rattle.call_rules.specs.Inner.{Inner, with_regs_of};
+ghost use Rattle.call_rules.specs.Processes.{Processes, with_regs_of};
 ghost use Rattle.proc_state.specs.Tie.{Represents};
 ghost use Rattle.file_status.specs.Status.{uncalled};
 
@@ -16,7 +16,7 @@ use proc_state::state::ProcState;
 /// Refuses the call with this number. Nothing is kept of the call.
 pub(crate) fn refuse(files: &mut FileState, p: Pid, number: u8) -> CallEnd
     requires process { p.0 < 33 }
-    requires no_read { IfSome (kept_at files.old.io p.0) (IsNoRead files.old.io) }
+    requires no_read { IfSome (pending_at files.old.io p.0) (IsNoRead files.old.io) }
     ensures end { result ≡ CallEnd.Error number }
     ensures files { files.new ≡ uncalled files.old p.0 }
 {
@@ -27,9 +27,10 @@ pub(crate) fn refuse(files: &mut FileState, p: Pid, number: u8) -> CallEnd
 /// Ends the call as done, with these registers of its process. Nothing is kept of the call.
 pub(crate) fn answer(s: &mut ProcState, files: &mut FileState, p: Pid, regs: Regs) -> CallEnd
     requires lives { IsLiving s.old.table p.0 }
-    requires no_read { IfSome (kept_at files.old.io p.0) (IsNoRead files.old.io) }
+    requires no_read { IfSome (pending_at files.old.io p.0) (IsNoRead files.old.io) }
     ensures end { result ≡ CallEnd.Done }
-    ensures tied { (m : Inner) → Represents s.old m → Represents s.new (with_regs_of m p.0 regs) }
+    ensures tied { (m : Processes) → Represents s.old m
+        → Represents s.new (with_regs_of m p.0 regs) }
     ensures files { files.new ≡ uncalled files.old p.0 }
     ensures lives { IsLiving s.new.table p.0 }
 {

@@ -6,8 +6,8 @@ ghost use Rattle.io_rules.specs.Status.{options};
 ghost use Rattle.rbf_access.specs.Reading.{IsFdOf};
 ghost use Rattle.rbf_model.specs.File.{DiskFile};
 ghost use Rattle.file_rules.specs.Files.{place_of_target};
-ghost use Rattle.file_rules.specs.Seek.{long_of as long_of_lem};
-ghost use Rattle.file_rules.specs.Status.{descriptor_front as descriptor_front_lem, long_bytes as long_bytes_lem, long_regs as long_regs_lem};
+ghost use Rattle.file_rules.specs.Seek.{long_of as long_of_model};
+ghost use Rattle.file_rules.specs.Status.{descriptor_front as descriptor_front_model, long_bytes as long_bytes_model, long_regs as long_regs_model};
 
 use file_rules::status::DESCRIPTOR_BYTES;
 use io_rules::status::OPTION_BYTES;
@@ -20,7 +20,7 @@ pub(crate) const FRONT_BYTES: usize = DESCRIPTOR_BYTES as usize;
 /// The registers that return a number in X, its high half, and U (System Programmer's Manual,
 /// I$GetStt, SS.Size and SS.Pos).
 pub(crate) fn long_regs(regs: Regs, number: u32) -> Regs
-    ensures { result ≡ long_regs_lem regs number }
+    ensures { result ≡ long_regs_model regs number }
 {
     Regs {
         x: (number / 65536) as u16,
@@ -31,14 +31,14 @@ pub(crate) fn long_regs(regs: Regs, number: u32) -> Regs
 
 /// The number in X, the high half, and U (System Programmer's Manual, I$SetStt, SS.Size).
 pub(crate) fn long_of(regs: Regs) -> u32
-    ensures { result ≡ long_of_lem regs }
+    ensures { result ≡ long_of_model regs }
 {
     65536 * u32::from(regs.x) + u32::from(regs.u)
 }
 
 /// The four bytes of a number, the highest first.
 fn long_bytes(number: u32) -> [u8; 4]
-    ensures { result ≡ long_bytes_lem number }
+    ensures { result ≡ long_bytes_model number }
 {
     let high = number / 65536;
     let low = number % 65536;
@@ -87,7 +87,7 @@ fn joined(
 /// The first bytes of a file's descriptor, before its segments (OS-9 Technical Reference, "File
 /// Descriptors", FD.ATT to FD.CREAT).
 pub(crate) fn descriptor_front(fd: &Fd) -> [u8; FRONT_BYTES]
-    ensures { (file : DiskFile) → IsFdOf file fd.now → result ≡ descriptor_front_lem file }
+    ensures { (file : DiskFile) → IsFdOf file fd.now → result ≡ descriptor_front_model file }
 {
     let front = [fd.attr, (fd.owner / 256) as u8, (fd.owner % 256) as u8];
     joined(

@@ -4,16 +4,16 @@ ghost use Rattle.std.specs.Prelude.{◌≡◌, min, None, List};
 ghost use Rattle.os9_base.specs.declared.registers.TimePacket.{TimePacket};
 ghost use Rattle.os9_outer.specs.TerminalState.{TerminalState};
 ghost use Rattle.proc_rules.specs.Records.{IsLiving};
-ghost use Rattle.io_rules.specs.Io.{kept_at};
+ghost use Rattle.io_rules.specs.Io.{pending_at};
 ghost use Rattle.file_rules.specs.declared.path_call.PathCall.TheVariants as Call;
-ghost use Rattle.file_rules.specs.Status.{gets_size as gets_size_lem, gets_end as gets_end_lem, gets_descriptor as gets_descriptor_lem};
+ghost use Rattle.file_rules.specs.Status.{gets_size as gets_size_model, gets_end as gets_end_model, gets_descriptor as gets_descriptor_model};
 ghost use Rattle.file_drives.specs.Drives.{DriveView, drives_seen};
 ghost use Rattle.file_drives.specs.Mounted.{HasFileAt};
 ghost use Rattle.file_state.specs.Attempt.{standing};
 ghost use Rattle.file_state.specs.Counted.{AttemptsWithin};
 ghost use Rattle.file_state.specs.Tie.{IsSound};
 ghost use Rattle.file_state.specs.declared.state.OpenFile.{OpenFile as KernelFile};
-ghost use Rattle.file_status.specs.Status.{EndsOn, IsNamedInA, gets_by_code, gets_options as gets_options_lem, getting_calls, i_getstt_calls};
+ghost use Rattle.file_status.specs.Status.{EndsOn, IsNamedInA, gets_by_code, gets_options as gets_options_model, getting_calls, i_getstt_calls};
 
 use crate::ends::{answer, refuse};
 use crate::front::{descriptor_front, file_options, long_regs};
@@ -47,7 +47,7 @@ pub fn get_status(
     opened: &OpenFile,
 ) -> CallEnd
     requires lives { IsLiving s.old.table p.0 }
-    requires first { kept_at files.old.io p.0 ≡ None }
+    requires first { pending_at files.old.io p.0 ≡ None }
     requires sound { IsSound files.old (drives_seen BlockDriver-box devices.old) }
     requires named { IsNamedInA p.0 opened.now
         (standing BlockDriver-box s.old files.old devices.old) }
@@ -70,7 +70,7 @@ fn get_status_of(
     opened: &OpenFile,
 ) -> CallEnd
     requires lives { IsLiving s.old.table p.0 }
-    requires first { kept_at files.old.io p.0 ≡ None }
+    requires first { pending_at files.old.io p.0 ≡ None }
     requires there { HasFileAt files.old.disks
         (drives_seen BlockDriver-box devices.old) opened.now.place }
     ensures call { (now : TimePacket) → EndsOn opened.now gets_by_code getting_calls now p.0 result
@@ -94,9 +94,9 @@ fn get_status_of(
 /// SS.Opt: stores the options of the path.
 fn get_options(s: &mut ProcState, files: &mut FileState, p: Pid) -> CallEnd
     requires lives { IsLiving s.old.table p.0 }
-    requires first { kept_at files.old.io p.0 ≡ None }
+    requires first { pending_at files.old.io p.0 ≡ None }
     ensures call { (now : TimePacket) (opened : KernelFile) (views : List DriveView)
-        → EndsOn opened gets_options_lem getting_calls now p.0 result
+        → EndsOn opened gets_options_model getting_calls now p.0 result
         (record { processes = s.old; files = files.old; views = views })
         (record { processes = s.new; files = files.new; views = views }) }
     ensures lives { IsLiving s.new.table p.0 }
@@ -118,10 +118,11 @@ fn get_size(
     opened: &OpenFile,
 ) -> CallEnd
     requires lives { IsLiving s.old.table p.0 }
-    requires first { kept_at files.old.io p.0 ≡ None }
+    requires first { pending_at files.old.io p.0 ≡ None }
     requires there { HasFileAt files.old.disks
         (drives_seen BlockDriver-box devices.old) opened.now.place }
-    ensures call { (now : TimePacket) → EndsOn opened.now gets_size_lem getting_calls now p.0 result
+    ensures call { (now : TimePacket)
+        → EndsOn opened.now gets_size_model getting_calls now p.0 result
         (standing BlockDriver-box s.old files.old devices.old)
         (standing BlockDriver-box s.new files.new devices.new) }
     ensures lives { IsLiving s.new.table p.0 }
@@ -143,10 +144,11 @@ fn get_end(
     opened: &OpenFile,
 ) -> CallEnd
     requires lives { IsLiving s.old.table p.0 }
-    requires first { kept_at files.old.io p.0 ≡ None }
+    requires first { pending_at files.old.io p.0 ≡ None }
     requires there { HasFileAt files.old.disks
         (drives_seen BlockDriver-box devices.old) opened.now.place }
-    ensures call { (now : TimePacket) → EndsOn opened.now gets_end_lem getting_calls now p.0 result
+    ensures call { (now : TimePacket)
+        → EndsOn opened.now gets_end_model getting_calls now p.0 result
         (standing BlockDriver-box s.old files.old devices.old)
         (standing BlockDriver-box s.new files.new devices.new) }
     ensures lives { IsLiving s.new.table p.0 }
@@ -173,11 +175,11 @@ fn get_descriptor(
     opened: &OpenFile,
 ) -> CallEnd
     requires lives { IsLiving s.old.table p.0 }
-    requires first { kept_at files.old.io p.0 ≡ None }
+    requires first { pending_at files.old.io p.0 ≡ None }
     requires there { HasFileAt files.old.disks
         (drives_seen BlockDriver-box devices.old) opened.now.place }
     ensures call { (now : TimePacket)
-        → EndsOn opened.now gets_descriptor_lem getting_calls now p.0 result
+        → EndsOn opened.now gets_descriptor_model getting_calls now p.0 result
         (standing BlockDriver-box s.old files.old devices.old)
         (standing BlockDriver-box s.new files.new devices.new) }
     ensures lives { IsLiving s.new.table p.0 }

@@ -1,19 +1,19 @@
 //! I$SetStt of a file or a directory.
 
 ghost use Rattle.std.specs.Prelude.{◌≡◌, false, true, IfSome, List};
-ghost use Rattle.call_rules.specs.Inner.{Inner, with_regs_of};
+ghost use Rattle.call_rules.specs.Processes.{Processes, with_regs_of};
 ghost use Rattle.os9_base.specs.declared.registers.TimePacket.{TimePacket as Time};
 ghost use Rattle.os9_outer.specs.TerminalState.{TerminalState};
 ghost use Rattle.proc_rules.specs.Records.{IsLiving, record_at};
 ghost use Rattle.proc_state.specs.Tie.{Represents};
-ghost use Rattle.io_rules.specs.Io.{kept_at};
-ghost use Rattle.io_rules.specs.Modes.{can_write as can_write_lem};
+ghost use Rattle.io_rules.specs.Io.{pending_at};
+ghost use Rattle.io_rules.specs.Modes.{can_write as can_write_model};
 ghost use Rattle.io_rules.specs.declared.io_call.IoCall.TheVariants as Device;
 ghost use Rattle.io_state.specs.Sound.{IsNoRead};
 ghost use Rattle.lock_model.specs.Conflict.{conflicts};
 ghost use Rattle.file_rules.specs.declared.path_call.PathCall.TheVariants as Call;
-ghost use Rattle.file_rules.specs.Locking.{is_for_update as is_for_update_lem};
-ghost use Rattle.file_rules.specs.Status.{range_locked as range_locked_lem, sets_attributes_of as sets_attributes_lem, sets_lock as sets_lock_lem, sets_size as sets_size_lem, sets_ticks as sets_ticks_lem, status_claim as status_claim_lem};
+ghost use Rattle.file_rules.specs.Locking.{is_for_update as is_for_update_model};
+ghost use Rattle.file_rules.specs.Status.{range_locked as range_locked_model, sets_attributes_of as sets_attributes_model, sets_lock as sets_lock_model, sets_size as sets_size_model, sets_ticks as sets_ticks_model, status_claim as status_claim_model};
 ghost use Rattle.file_drives.specs.Drives.{DriveView, drives_seen};
 ghost use Rattle.file_drives.specs.Mounted.{HasDataFileAt, HasFileAt};
 ghost use Rattle.file_state.specs.Asking.{IsGranted, MayAsk, TriesAgain};
@@ -89,11 +89,11 @@ fn set_status_of(
     now: TimePacket,
 ) -> CallEnd
     requires lives { IsLiving s.old.table p.0 }
-    requires no_read { IfSome (kept_at files.old.io p.0) (IsNoRead files.old.io) }
+    requires no_read { IfSome (pending_at files.old.io p.0) (IsNoRead files.old.io) }
     requires asks { MayAsk files.old.io files.old.records.locks p.0 opened.now }
     requires there { HasFileAt files.old.disks
         (drives_seen BlockDriver-box devices.old) opened.now.place }
-    requires written { can_write_lem opened.now.desc.mode ≡ true → HasDataFileAt files.old.disks
+    requires written { can_write_model opened.now.desc.mode ≡ true → HasDataFileAt files.old.disks
         (drives_seen BlockDriver-box devices.old) opened.now.place }
     ensures call { SetsOn opened.now sets_by_code calls_by_code now p.0 result
         (standing BlockDriver-box s.old files.old devices.old)
@@ -113,14 +113,14 @@ fn set_status_of(
 
 /// May a path of this mode be written?
 fn can_write(mode: u8) -> bool
-    ensures { result ≡ can_write_lem mode }
+    ensures { result ≡ can_write_model mode }
 {
     mode & MODE_WRITE != 0
 }
 
 /// May a path of this mode be read and written? Then it may hold a lock.
 fn is_for_update(mode: u8) -> bool
-    ensures { result ≡ is_for_update_lem mode }
+    ensures { result ≡ is_for_update_model mode }
 {
     mode & MODE_READ != 0 && can_write(mode)
 }
@@ -135,11 +135,11 @@ fn set_size(
     now: TimePacket,
 ) -> CallEnd
     requires lives { IsLiving s.old.table p.0 }
-    requires no_read { IfSome (kept_at files.old.io p.0) (IsNoRead files.old.io) }
+    requires no_read { IfSome (pending_at files.old.io p.0) (IsNoRead files.old.io) }
     requires asks { MayAsk files.old.io files.old.records.locks p.0 opened.now }
-    requires written { can_write_lem opened.now.desc.mode ≡ true → HasDataFileAt files.old.disks
+    requires written { can_write_model opened.now.desc.mode ≡ true → HasDataFileAt files.old.disks
         (drives_seen BlockDriver-box devices.old) opened.now.place }
-    ensures call { SetsOn opened.now sets_size_lem (setting_calls SS_SIZE) now p.0 result
+    ensures call { SetsOn opened.now sets_size_model (setting_calls SS_SIZE) now p.0 result
         (standing BlockDriver-box s.old files.old devices.old)
         (standing BlockDriver-box s.new files.new devices.new) }
     ensures lives { IsLiving s.new.table p.0 }
@@ -166,7 +166,7 @@ fn set_size(
 
 /// The claim of a call that sets a status, for this range.
 fn status_claim(range: Range) -> Claim
-    ensures { result ≡ status_claim_lem range }
+    ensures { result ≡ status_claim_model range }
 {
     Claim {
         code: I_SETSTT,
@@ -188,7 +188,7 @@ fn size_granted(
     now: TimePacket,
 ) -> CallEnd
     requires lives { IsLiving s.old.table p.0 }
-    requires no_read { IfSome (kept_at files.old.io p.0) (IsNoRead files.old.io) }
+    requires no_read { IfSome (pending_at files.old.io p.0) (IsNoRead files.old.io) }
     requires path { IsPathOf files.old.io opened.now }
     requires file { HasDataFileAt files.old.disks
         (drives_seen BlockDriver-box devices.old) opened.now.place }
@@ -217,10 +217,10 @@ fn enter_size(
     lock: Held,
 ) -> CallEnd
     requires lives { IsLiving s.old.table p.0 }
-    requires no_read { IfSome (kept_at files.old.io p.0) (IsNoRead files.old.io) }
+    requires no_read { IfSome (pending_at files.old.io p.0) (IsNoRead files.old.io) }
     requires path { IsPathOf files.old.io opened.now }
     requires free { conflicts files.old.records.locks lock ≡ false }
-    ensures call { (m : Inner) → Represents s.old m → EndsSized old lock
+    ensures call { (m : Processes) → Represents s.old m → EndsSized old lock
         (record_at s.old.table p.0).regs opened.now m p.0 files.old result s.new files.new }
     ensures lives { IsLiving s.new.table p.0 }
 {
@@ -243,10 +243,11 @@ fn end_lock(
     regs: Regs,
 ) -> CallEnd
     requires lives { IsLiving s.old.table p.0 }
-    requires no_read { IfSome (kept_at files.old.io p.0) (IsNoRead files.old.io) }
+    requires no_read { IfSome (pending_at files.old.io p.0) (IsNoRead files.old.io) }
     requires path { IsPathOf files.old.io opened.now }
     ensures end { result ≡ CallEnd.Done }
-    ensures tied { (m : Inner) → Represents s.old m → Represents s.new (with_regs_of m p.0 regs) }
+    ensures tied { (m : Processes) → Represents s.old m
+        → Represents s.new (with_regs_of m p.0 regs) }
     ensures files { files.new ≡ unlocked files.old p.0 opened.now.path.0 }
     ensures lives { IsLiving s.new.table p.0 }
 {
@@ -264,11 +265,11 @@ fn set_lock(
     opened: &OpenFile,
 ) -> CallEnd
     requires lives { IsLiving s.old.table p.0 }
-    requires no_read { IfSome (kept_at files.old.io p.0) (IsNoRead files.old.io) }
+    requires no_read { IfSome (pending_at files.old.io p.0) (IsNoRead files.old.io) }
     requires asks { MayAsk files.old.io files.old.records.locks p.0 opened.now }
     requires there { HasFileAt files.old.disks
         (drives_seen BlockDriver-box devices.old) opened.now.place }
-    ensures call { (now : Time) → SetsOn opened.now sets_lock_lem (setting_calls SS_LOCK) now p.0
+    ensures call { (now : Time) → SetsOn opened.now sets_lock_model (setting_calls SS_LOCK) now p.0
         result (standing BlockDriver-box s.old files.old devices.old)
         (standing BlockDriver-box s.new files.new devices.new) }
     ensures lives { IsLiving s.new.table p.0 }
@@ -304,7 +305,7 @@ fn set_lock(
 /// The bytes that SS.Lock asks for, of a file of this size: `count` from a position on, or the
 /// whole file.
 fn range_locked(size: u32, at: u32, count: u32) -> Range
-    ensures { result ≡ range_locked_lem size at count }
+    ensures { result ≡ range_locked_model size at count }
 {
     if count == WHOLE_FILE {
         return Range {
@@ -318,10 +319,10 @@ fn range_locked(size: u32, at: u32, count: u32) -> Range
 /// SS.Ticks: the requests of the path wait the number of ticks in X.
 fn set_ticks(s: &mut ProcState, files: &mut FileState, p: Pid, opened: &OpenFile) -> CallEnd
     requires lives { IsLiving s.old.table p.0 }
-    requires no_read { IfSome (kept_at files.old.io p.0) (IsNoRead files.old.io) }
+    requires no_read { IfSome (pending_at files.old.io p.0) (IsNoRead files.old.io) }
     requires path { IsPathOf files.old.io opened.now }
     ensures call { (now : Time) (views : List DriveView)
-        → EndsOn opened.now sets_ticks_lem (setting_calls SS_TICKS) now p.0 result
+        → EndsOn opened.now sets_ticks_model (setting_calls SS_TICKS) now p.0 result
         (record { processes = s.old; files = files.old; views = views })
         (record { processes = s.new; files = files.new; views = views }) }
     ensures lives { IsLiving s.new.table p.0 }
@@ -342,10 +343,10 @@ fn set_attributes(
     now: TimePacket,
 ) -> CallEnd
     requires lives { IsLiving s.old.table p.0 }
-    requires no_read { IfSome (kept_at files.old.io p.0) (IsNoRead files.old.io) }
+    requires no_read { IfSome (pending_at files.old.io p.0) (IsNoRead files.old.io) }
     requires there { HasFileAt files.old.disks
         (drives_seen BlockDriver-box devices.old) opened.now.place }
-    ensures call { EndsOn opened.now sets_attributes_lem (setting_calls SS_ATTR) now p.0 result
+    ensures call { EndsOn opened.now sets_attributes_model (setting_calls SS_ATTR) now p.0 result
         (standing BlockDriver-box s.old files.old devices.old)
         (standing BlockDriver-box s.new files.new devices.new) }
     ensures lives { IsLiving s.new.table p.0 }

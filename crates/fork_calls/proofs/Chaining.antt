@@ -5,13 +5,13 @@ use Rattle.proc_rules.specs.Records.{with_regs}
 use Rattle.proc_rules.specs.Signals.{with_intercept}
 use Rattle.call_rules.specs.CallResult.{CallResult, done}
 use Rattle.call_rules.specs.Chain.{begun_anew, with_program}
-use Rattle.call_rules.specs.Inner.{Inner, own_at, with_own, with_records}
+use Rattle.call_rules.specs.Processes.{Processes, own_at, with_own, with_records}
 use Rattle.call_rules.specs.ModuleLinks.{without_primary_link}
 use Rattle.call_rules.specs.Program.{Program, start_regs, start_own}
 use Rattle.fork_calls.specs.declared.starting.Beginning.{Beginning}
 use Rattle.fork_calls.specs.Chaining.{begun_so}
 
-module _ (m : Inner) (p : ℕ) where
+module _ (m : Processes) (p : ℕ) where
   -- what F$Chain does with the memory in which the process begins anew
   abbrev pub anew_next : Program → MemoryState → CallResult
   anew_next program memory = done (without_primary_link (begun_anew (with_program m p program memory) p program) (own_at m p))

@@ -8,14 +8,14 @@ use Rattle.proc_rules.specs.Records.{free_process, record_at, after_make, with_r
 use Rattle.proc_rules.specs.Turns.{with_turn}
 use Rattle.call_rules.specs.CallResult.{CallResult, done, refused, needs}
 use Rattle.call_rules.specs.Fork.{with_child, forked_regs}
-use Rattle.call_rules.specs.Inner.{Inner, regs_at, with_own, with_regs_of}
+use Rattle.call_rules.specs.Processes.{Processes, regs_at, with_own, with_regs_of}
 use Rattle.call_rules.specs.Program.{Program}
 use Rattle.proc_state.specs.Beginning.{with_made}
 use Rattle.fork_calls.specs.declared.starting.Beginning.{Beginning}
 use Rattle.fork_calls.specs.Loading.{loads_program, with_new_child}
 use Rattle.fork_calls.specs.Starting.{starts_child}
 
-module _ (m : Inner) (p : ℕ) where
+module _ (m : Processes) (p : ℕ) where
   -- what F$Fork does with the child's number and the memory
   abbrev pub child_next : Program → ℕ → MemoryState → CallResult
   child_next program child memory = done (with_regs_of (with_child m p child program memory) p (forked_regs (regs_at m p) child program))
@@ -35,7 +35,7 @@ made-child made first free child is number some =
     ap (λ (n : ℕ). record { 0 = n }) same
 
 -- a child that is made has its user and its priority from its parent
-pub child-added : (m : Inner) (p child made : Pid) (start : Beginning) (user priority : ℕ) → made ≡ child
+pub child-added : (m : Processes) (p child made : Pid) (start : Beginning) (user priority : ℕ) → made ≡ child
     → user ≡ (record_at m.records p.0).user → priority ≡ (record_at m.records p.0).priority
     → with_regs_of (with_made (with_own m child.0 start.own) made p user priority) made.0 start.regs ≡ with_new_child
     m p.0 child.0 start

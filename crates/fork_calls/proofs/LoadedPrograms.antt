@@ -7,7 +7,7 @@ use Rattle.proc_model.specs.declared.memory.MemoryFault.{MemoryFault}
 use Rattle.proc_model.specs.Memory.{MemoryState, memory_error}
 use Rattle.proc_model.specs.MemoryChanges.{linked, started}
 use Rattle.call_rules.specs.CallResult.{CallResult, refuses, changes}
-use Rattle.call_rules.specs.Inner.{Inner, with_memory}
+use Rattle.call_rules.specs.Processes.{Processes, with_memory}
 use Rattle.call_rules.specs.Program.{Program, most_pages, blocks_of_pages, start_regs, start_own, with_parameters}
 use Rattle.guest_memory.specs.Tie.{Represents as RepresentsMemory, Answers as AnswersMemory}
 use Rattle.proc_state.specs.declared.state.ProcState.{ProcState}
@@ -23,7 +23,7 @@ end-fits cells all size len fits within short =
     from_zero : (n : ℕ) → 0 + n ≡ n
     from_zero n = omega arith
 
-module _ (m : Inner) (p : ℕ) (program : Program) (new : ProcState) where
+module _ (m : Processes) (p : ℕ) (program : Program) (new : ProcState) where
   -- the data area would be too large
   pub loaded-too_large : nat_lt most_pages program.pages ≡ true → Represents new m → IsNotLoaded m p program new E_MEMFUL
   loaded-too_large test stands = record {

@@ -4,7 +4,7 @@ use Rattle.os9_base.specs.declared.errors.TheConstants.{E_BPADDR, E_NEMOD, E_BNA
 use Rattle.proc_model.specs.ModuleList.{ModuleEntry, module_entry_at, found_module}
 use Rattle.proc_model.proofs.ModuleListLaws.{found_entry}
 use Rattle.call_rules.specs.CallResult.{CallResult, needs, refuses}
-use Rattle.call_rules.specs.Inner.{Inner, regs_at, cells_at}
+use Rattle.call_rules.specs.Processes.{Processes, regs_at, cells_at}
 use Rattle.call_rules.specs.ModuleLinks.{Entered, entered_at}
 use Rattle.call_rules.specs.Program.{Program, program_kind, reads_program, name_at_x, is_unreadable, module_name, asks_for_program, area_pages}
 use Rattle.call_rules.specs.declared.program_name.ProgramName.{ProgramName}
@@ -75,7 +75,7 @@ module _ (entries : List (Option ModuleEntry)) (kind : ℕ) where
 
 -- ---- what is read
 
-module _ (m : Inner) (p : ℕ) where
+module _ (m : Processes) (p : ℕ) where
   abbrev bytes_there : Option (List ℕ)
   bytes_there = user_bytes (cells_at m p) (regs_at m p).u (regs_at m p).y
 
@@ -139,7 +139,7 @@ module _ (m : Inner) (p : ℕ) where
 
 -- a name was read in the memory of the processes
 module _ (old mid : ProcState) (one : IsSameMemory old.memory mid.memory) (table : mid.table ≡ old.table) (sched : mid.sched ≡ old.sched) (own : mid.own ≡ old.own) (tick : mid.tick ≡ old.tick) where
-  pub read-stands : (m : Inner) → Represents old m → Represents mid m
+  pub read-stands : (m : Processes) → Represents old m → Represents mid m
   read-stands m stands = record {
     memory = one.represents m.memory stands.memory;
     is =

@@ -2,10 +2,10 @@
 use Rattle.std.specs.Prelude.{ℕ, None}
 use Rattle.proc_rules.specs.Records.{with_regs}
 use Rattle.proc_rules.specs.Signals.{with_intercept}
-use Rattle.call_rules.specs.Inner.{Inner, with_records, with_own}
+use Rattle.call_rules.specs.Processes.{Processes, with_records, with_own}
 use Rattle.fork_calls.specs.declared.starting.Beginning.{Beginning}
 
 -- the state in which a process begins anew in this way, without an intercept
-abbrev pub begun_so : Inner → ℕ → Beginning → Inner
+abbrev pub begun_so : Processes → ℕ → Beginning → Processes
 begun_so s p start =
     with_own (with_records s (with_intercept (with_regs s.records p start.regs) p None)) p start.own

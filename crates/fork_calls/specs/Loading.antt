@@ -10,7 +10,7 @@ use Rattle.proc_rules.specs.Records.{record_at, after_make, with_regs}
 use Rattle.proc_rules.specs.Turns.{with_turn}
 use Rattle.call_rules.specs.CallResult.{CallResult, refused, refuses, changes}
 use Rattle.call_rules.specs.Chain.{with_program}
-use Rattle.call_rules.specs.Inner.{Inner, with_own}
+use Rattle.call_rules.specs.Processes.{Processes, with_own}
 use Rattle.call_rules.specs.Program.{Program, most_pages, blocks_of_pages, start_regs, start_own, with_parameters}
 use Rattle.proc_state.specs.declared.state.ProcState.{ProcState}
 use Rattle.proc_state.specs.Tie.{Represents}
@@ -23,13 +23,13 @@ begun m p program =
     (started m p program.entered.number (blocks_of_pages program.pages))
 
 -- the call goes on with the memory in which a process begins with a program
-abbrev pub loads_program : Inner → ℕ → Program → (MemoryState → CallResult) → CallResult
+abbrev pub loads_program : Processes → ℕ → Program → (MemoryState → CallResult) → CallResult
 loads_program m p program next =
     refuses (nat_lt most_pages program.pages) E_MEMFUL
     (changes (started m.memory p program.entered.number (blocks_of_pages program.pages)) next)
 
 -- a process has this beginning with a program, and a call goes on with its memory
-pub record IsLoaded (m : Inner) (p : ℕ) (program : Program) (new : ProcState) (start : Beginning) : Type 0 where
+pub record IsLoaded (m : Processes) (p : ℕ) (program : Program) (new : ProcState) (start : Beginning) : Type 0 where
   pub memory : MemoryState
   pub goes : (next : MemoryState → CallResult) → loads_program m p program next ≡ next memory
   pub stands : Represents new (with_program m p program memory)
@@ -37,12 +37,12 @@ pub record IsLoaded (m : Inner) (p : ℕ) (program : Program) (new : ProcState) 
   pub own : start.own ≡ start_own program
 
 -- a call that cannot load the program is refused with this number, and nothing has changed
-pub record IsNotLoaded (m : Inner) (p : ℕ) (program : Program) (new : ProcState) (number : ℕ) : Type 0 where
+pub record IsNotLoaded (m : Processes) (p : ℕ) (program : Program) (new : ProcState) (number : ℕ) : Type 0 where
   pub goes : (next : MemoryState → CallResult) → loads_program m p program next ≡ refused number
   pub stands : Represents new m
 
 -- the state with a child of a process that has this beginning, and its parent's user and priority
-abbrev pub with_new_child : Inner → ℕ → ℕ → Beginning → Inner
+abbrev pub with_new_child : Processes → ℕ → ℕ → Beginning → Processes
 with_new_child s p child start =
     with_own (record s {
       records =

@@ -3,7 +3,7 @@ use Rattle.std.specs.Prelude.{◌≡◌, ℕ, ◌==◌, not, Option, Some, List,
 use Rattle.os9_base.specs.declared.errors.TheConstants.{E_NEMOD, E_BNAM, E_MNF}
 use Rattle.proc_model.specs.ModuleList.{ModuleEntry, module_entry_at}
 use Rattle.call_rules.specs.CallResult.{CallResult, refused, needs, refuses}
-use Rattle.call_rules.specs.Inner.{Inner}
+use Rattle.call_rules.specs.Processes.{Processes}
 use Rattle.call_rules.specs.ModuleLinks.{Entered, found_entry}
 use Rattle.call_rules.specs.Program.{Program, program_kind, asks_for_program, reads_program}
 use Rattle.fork_calls.specs.declared.program.NamedProgram.{NamedProgram}
@@ -42,12 +42,12 @@ meant program entry bytes = record {
 }
 
 -- a call goes on with this program, whose parameters are at the front of a buffer
-pub record IsRead (m : Inner) (p : ℕ) (program : NamedProgram) (buffer : List ℕ) : Type 0 where
+pub record IsRead (m : Processes) (p : ℕ) (program : NamedProgram) (buffer : List ℕ) : Type 0 where
   pub entry : ModuleEntry
   pub is : module_entry_at m.memory.modules program.id.0 ≡ Some entry
   pub goes : (next : Program → CallResult)
       → reads_program m p next ≡ next (meant program entry (take program.parameters buffer))
 
 -- a call that names no program is refused with this number
-abbrev pub IsUnread : Inner → ℕ → ℕ → Type 0
+abbrev pub IsUnread : Processes → ℕ → ℕ → Type 0
 IsUnread m p number = (next : Program → CallResult) → reads_program m p next ≡ refused number

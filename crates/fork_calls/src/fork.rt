@@ -5,8 +5,8 @@ ghost use Rattle.std.specs.Option.{ForSome};
 ghost use Rattle.guest_memory.specs.Tie.{modules_of};
 ghost use Rattle.proc_model.specs.ModuleList.{ModuleEntry, module_entry_at};
 ghost use Rattle.proc_rules.specs.Records.{IsLiving, free_process};
-ghost use Rattle.call_rules.specs.Fork.{f_fork as f_fork_lem, forked_regs as forked_regs_lem};
-ghost use Rattle.call_rules.specs.Inner.{Inner};
+ghost use Rattle.call_rules.specs.Fork as model;
+ghost use Rattle.call_rules.specs.Processes.{Processes};
 ghost use Rattle.call_rules.specs.Program.{Program};
 ghost use Rattle.proc_state.specs.Tie.{Represents, Answers, Comes};
 ghost use Rattle.fork_calls.specs.Loading.{with_new_child};
@@ -36,8 +36,8 @@ use proc_state::state::ProcState;
 /// as in [`load_program`]. Nothing has changed then.
 pub fn f_fork(s: &mut ProcState, p: Pid) -> CallEnd
     requires lives { IsLiving s.old.table p.0 }
-    ensures call { (m : Inner) → Represents s.old m
-        → Comes m p.0 (f_fork_lem m p.0) result s.new }
+    ensures call { (m : Processes) → Represents s.old m
+        → Comes m p.0 (model.f_fork m p.0) result s.new }
     ensures lives { IsLiving s.new.table p.0 }
 {
     call_end(fork(s, p))
@@ -45,8 +45,8 @@ pub fn f_fork(s: &mut ProcState, p: Pid) -> CallEnd
 
 fn fork(s: &mut ProcState, p: Pid) -> Result<(), u8>
     requires lives { IsLiving s.old.table p.0 }
-    ensures call { (m : Inner) → Represents s.old m
-        → Answers m (f_fork_lem m p.0) result s.new }
+    ensures call { (m : Processes) → Represents s.old m
+        → Answers m (model.f_fork m p.0) result s.new }
     ensures lives { IsLiving s.new.table p.0 }
 {
     let program = read_program(s, p)?;
@@ -63,7 +63,7 @@ fn fork(s: &mut ProcState, p: Pid) -> Result<(), u8>
 pub fn start_child(s: &mut ProcState, p: Pid, program: NamedProgram) -> Result<(), u8>
     requires lives { IsLiving s.old.table p.0 }
     requires entered { IsSome (module_entry_at (modules_of s.old.memory) program.id.0) }
-    ensures call { (m : Inner) (entry : ModuleEntry) → Represents s.old m
+    ensures call { (m : Processes) (entry : ModuleEntry) → Represents s.old m
         → module_entry_at m.memory.modules program.id.0 ≡ Some entry
         → Answers m (starts_child m p.0 (meant program entry
         (take program.parameters s.old.buffer.items))) result s.new }
@@ -86,7 +86,7 @@ fn add_child(s: &mut ProcState, p: Pid, child: Pid, start: Beginning)
     requires entered { ForSome start.own.primary
         (λ id. IsSome (module_entry_at (modules_of s.old.memory) id.0)) }
     requires until { start.own.until ≡ None }
-    ensures tied { (m : Inner) → Represents s.old m
+    ensures tied { (m : Processes) → Represents s.old m
         → Represents s.new (with_new_child m p.0 child.0 start) }
     ensures lives { IsLiving s.new.table p.0 }
 {
@@ -101,7 +101,7 @@ fn add_child(s: &mut ProcState, p: Pid, child: Pid, start: Beginning)
 /// has `count` characters.
 pub fn forked_regs(regs: Regs, child: Pid, count: u32) -> Regs
     ensures { (program : Program) → program.count ≡ count
-        → result ≡ forked_regs_lem regs child.0 program }
+        → result ≡ model.forked_regs regs child.0 program }
 {
     Regs {
         a: child.0,

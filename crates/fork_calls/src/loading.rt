@@ -5,7 +5,7 @@ ghost use Rattle.std.specs.Option.{ForSome};
 ghost use Rattle.guest_memory.specs.Tie.{Represents as RepresentsMemory, Answers as AnswersMemory, modules_of};
 ghost use Rattle.proc_model.specs.Memory.{MemoryState};
 ghost use Rattle.proc_model.specs.ModuleList.{ModuleEntry, module_entry_at};
-ghost use Rattle.call_rules.specs.Inner.{Inner};
+ghost use Rattle.call_rules.specs.Processes.{Processes};
 ghost use Rattle.proc_state.specs.Tie.{Represents};
 ghost use Rattle.fork_calls.specs.Loading.{IsLoaded, IsNotLoaded, begun};
 ghost use Rattle.fork_calls.specs.Naming.{meant};
@@ -32,7 +32,7 @@ use proc_state::state::ProcState;
 pub fn load_program(s: &mut ProcState, p: Pid, program: NamedProgram) -> Result<Beginning, u8>
     requires process { p.0 < 33 }
     requires entered { IsSome (module_entry_at (modules_of s.old.memory) program.id.0) }
-    ensures loaded { (m : Inner) (entry : ModuleEntry) → Represents s.old m
+    ensures loaded { (m : Processes) (entry : ModuleEntry) → Represents s.old m
         → module_entry_at m.memory.modules program.id.0 ≡ Some entry → MatchResult result
         (IsLoaded m p.0 (meant program entry (take program.parameters s.old.buffer.items)) s.new)
         (IsNotLoaded m p.0 (meant program entry (take program.parameters s.old.buffer.items))

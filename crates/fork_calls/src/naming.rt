@@ -2,10 +2,10 @@
 
 ghost use Rattle.std.specs.Prelude.{◌≡◌, ℕ, ◌*◌, ◌<◌, ◌≤◌, IsSome, IfOk, MatchResult};
 ghost use Rattle.guest_memory.specs.Tie.{Represents, IsSame, modules_of, cells_of, seen_cells};
-ghost use Rattle.os9_base.specs.Name.{is_name_character as is_name_character_lem};
+ghost use Rattle.os9_base.specs.Name.{is_name_character as is_name_character_model};
 ghost use Rattle.proc_model.specs.Memory.{MemoryState};
 ghost use Rattle.proc_model.specs.ModuleList.{ModuleEntry, module_entry_at};
-ghost use Rattle.call_rules.specs.Program.{program_name, name_of_run as name_of_run_lem, ends_in_slash as ends_in_slash_lem, asks_for_program as asks_for_program_lem, area_pages as area_pages_lem};
+ghost use Rattle.call_rules.specs.Program.{program_name, name_of_run as name_of_run_model, ends_in_slash as ends_in_slash_model, asks_for_program as asks_for_program_model, area_pages as area_pages_model};
 ghost use Rattle.fork_calls.specs.Naming.{IsFound, IsUnfound};
 
 use call_rules::program_name::ProgramName;
@@ -47,7 +47,7 @@ pub fn read_name(memory: &mut Memory, p: Pid, at: u16) -> ProgramName
 
 /// The name that the bytes of a run are, if they are one.
 fn name_of_run(bytes: &[u8]) -> ProgramName
-    ensures { result ≡ name_of_run_lem bytes.now }
+    ensures { result ≡ name_of_run_model bytes.now }
 {
     match parse_name(bytes) {
         Ok(name) => ProgramName::OneName(name),
@@ -57,14 +57,14 @@ fn name_of_run(bytes: &[u8]) -> ProgramName
 
 /// A letter, a digit, `_` or `.`.
 fn is_name_character(character: u8) -> bool
-    ensures { result ≡ is_name_character_lem character }
+    ensures { result ≡ is_name_character_model character }
 {
     matches!(character, b'a'..=b'z' | b'A'..=b'Z' | b'0'..=b'9' | b'_' | b'.')
 }
 
 /// Do the bytes end in a slash?
 fn ends_in_slash(bytes: &[u8]) -> bool
-    ensures { result ≡ ends_in_slash_lem bytes.now }
+    ensures { result ≡ ends_in_slash_model bytes.now }
 {
     match bytes.last() {
         Some(byte) => *byte == b'/',
@@ -102,7 +102,7 @@ pub fn find_program(memory: &Memory, kind: u8, name: Option<Name>) -> Result<(Mo
 
 /// May a call ask for this type and language: any, a program in any language, or in 6809 code?
 fn asks_for_program(kind: u8) -> bool
-    ensures { result ≡ asks_for_program_lem kind }
+    ensures { result ≡ asks_for_program_model kind }
 {
     matches!(kind, 0 | ANY_PROGRAM | PROGRAM)
 }
@@ -111,7 +111,7 @@ fn asks_for_program(kind: u8) -> bool
 /// asks for, and those of the parameters.
 pub fn area_pages(storage: u16, pages: u8, parameters: u16) -> u16
     ensures pages { (entry : ModuleEntry) → entry.info.storage ≡ storage
-        → result ≡ area_pages_lem entry pages parameters }
+        → result ≡ area_pages_model entry pages parameters }
     ensures some { 1 ≤ result }
     ensures most { result ≤ 256 }
     ensures fits { parameters ≤ 256 * result }

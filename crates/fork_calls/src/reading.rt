@@ -4,7 +4,7 @@ ghost use Rattle.std.specs.Prelude.{◌≡◌, IsSome, IfOk, MatchResult};
 ghost use Rattle.guest_memory.specs.Tie.{modules_of};
 ghost use Rattle.proc_model.specs.ModuleList.{module_entry_at};
 ghost use Rattle.proc_rules.specs.Records.{IsLiving};
-ghost use Rattle.call_rules.specs.Inner.{Inner};
+ghost use Rattle.call_rules.specs.Processes.{Processes};
 ghost use Rattle.proc_state.specs.Tie.{Represents, IsSame};
 ghost use Rattle.fork_calls.specs.Naming.{IsRead, IsUnread};
 
@@ -26,7 +26,7 @@ use proc_state::state::ProcState;
 /// code.
 pub fn read_program(s: &mut ProcState, p: Pid) -> Result<NamedProgram, u8>
     requires lives { IsLiving s.old.table p.0 }
-    ensures read { (m : Inner) → Represents s.old m
+    ensures read { (m : Processes) → Represents s.old m
         → MatchResult result (λ program. IsRead m p.0 program s.new.buffer.items)
         (IsUnread m p.0) }
     ensures entered { IfOk result

@@ -4,7 +4,7 @@ ghost use Rattle.std.specs.Prelude.{◌≡◌, ℕ, ◌+◌, ◌*◌, ◌<◌, �
 ghost use Rattle.guest_memory.specs.Tie.{Represents, modules_of};
 ghost use Rattle.proc_model.specs.Memory.{MemoryState};
 ghost use Rattle.proc_model.specs.ModuleList.{ModuleEntry, module_entry_at};
-ghost use Rattle.call_rules.specs.Program.{start_regs as start_regs_lem, start_own as start_own_lem};
+ghost use Rattle.call_rules.specs.Program as model;
 ghost use Rattle.fork_calls.specs.Naming.{meant};
 
 use crate::program::NamedProgram;
@@ -29,10 +29,10 @@ pub fn beginning_of(memory: &Memory, program: NamedProgram) -> Beginning
     ensures regs { (m : MemoryState) (entry : ModuleEntry) (bytes : List ℕ)
         → Represents memory.now m → module_entry_at m.modules program.id.0 ≡ Some entry
         → length bytes ≡ program.parameters
-        → result.regs ≡ start_regs_lem (meant program entry bytes) }
+        → result.regs ≡ model.start_regs (meant program entry bytes) }
     ensures own { (m : MemoryState) (entry : ModuleEntry) (bytes : List ℕ)
         → Represents memory.now m → module_entry_at m.modules program.id.0 ≡ Some entry
-        → result.own ≡ start_own_lem (meant program entry bytes) }
+        → result.own ≡ model.start_own (meant program entry bytes) }
     ensures primary { result.own.primary ≡ Some program.id }
     ensures until { result.own.until ≡ None }
 {
@@ -51,7 +51,7 @@ fn start_regs(program: NamedProgram, info: ModuleInfo, slot: u8) -> Regs
     requires runs { info.entry < info.size }
     ensures { (entry : ModuleEntry) (bytes : List ℕ) → entry.info ≡ info
         → slot + length entry.group ≡ 8 → length bytes ≡ program.parameters
-        → result ≡ start_regs_lem (meant program entry bytes) }
+        → result ≡ model.start_regs (meant program entry bytes) }
 {
     let size = program.pages * PAGE_BYTES;
     let at = size - program.parameters;
@@ -74,7 +74,7 @@ fn start_own(program: NamedProgram, slot: u8) -> Own
     requires most { program.pages ≤ MOST_PAGES }
     requires slot { slot < 8 }
     ensures own { (entry : ModuleEntry) (bytes : List ℕ) → slot + length entry.group ≡ 8
-        → result ≡ start_own_lem (meant program entry bytes) }
+        → result ≡ model.start_own (meant program entry bytes) }
     ensures primary { result.primary ≡ Some program.id }
     ensures until { result.until ≡ None }
 {

@@ -1,6 +1,7 @@
 ghost use Rattle.std.specs.Prelude.{◌≡◌, ◌<◌};
 ghost use Rattle.proc_model.specs.Memory.{MemoryState};
-ghost use Rattle.proc_model.specs.MemoryChanges.{grown, cut as cut_lem, cleared};
+ghost use Rattle.proc_model.specs.MemoryChanges as model;
+ghost use Rattle.proc_model.specs.MemoryChanges.{grown, cleared};
 ghost use Rattle.guest_memory.specs.Tie.{Represents, Answers, modules_of};
 
 use crate::memory::Memory;
@@ -33,7 +34,7 @@ impl Memory {
     pub fn cut(&mut self, p: Pid, count: u8)
         requires { p.0 < 33 }
         ensures cuts { (m : MemoryState) → Represents self.old m
-            → Represents self.new (cut_lem m p.0 count) }
+            → Represents self.new (model.cut m p.0 count) }
         ensures modules { modules_of self.new ≡ modules_of self.old }
     {
         self.maps[p.0 as usize].cut_low(&mut self.pool, count);

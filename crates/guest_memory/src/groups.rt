@@ -5,7 +5,8 @@ ghost use Rattle.proc_model.specs.declared.group.BlockId.{BlockId};
 ghost use Rattle.proc_model.specs.Memory.{MemoryState, map_at, group_at};
 ghost use Rattle.proc_model.specs.MemoryChanges.{group_mapped, group_unmapped};
 ghost use Rattle.proc_model.specs.ModuleList.{module_entry_at};
-ghost use Rattle.proc_model.specs.Slots.{place_names, group_slot as group_slot_lem};
+ghost use Rattle.proc_model.specs.Slots as model;
+ghost use Rattle.proc_model.specs.Slots.{place_names};
 ghost use Rattle.guest_memory.specs.Tie.{Represents, MapsGroup, modules_of, group_len, slot_of_group};
 
 use crate::memory::Memory;
@@ -23,7 +24,7 @@ impl Memory {
         requires entered { IsSome (module_entry_at (modules_of self.now) id.0) }
         ensures slot { result ≡ slot_of_group self.now p.0 id.0 }
         ensures tied { (m : MemoryState) → Represents self.now m
-            → result ≡ group_slot_lem (map_at m p.0) (group_at m id.0) }
+            → result ≡ model.group_slot (map_at m p.0) (group_at m id.0) }
         ensures fits { IfSome result (λ slot. slot + group_len self.now id.0 ≤ 8) }
         ensures some { 1 ≤ group_len self.now id.0 }
     {

@@ -6,7 +6,8 @@ ghost use Rattle.proc_model.specs.Memory.{MemoryState, map_at, group_at};
 ghost use Rattle.proc_model.specs.ModuleList.{module_entry_at};
 ghost use Rattle.proc_model.specs.Slots.{highest_free_run};
 ghost use Rattle.user_names.specs.UserNames.{user_cell, run_bytes, name_at};
-ghost use Rattle.guest_memory.specs.Tie.{Represents, IsSame, cells_of, modules_of, group_len as group_len_lem, seen_cells};
+ghost use Rattle.guest_memory.specs.Tie as model;
+ghost use Rattle.guest_memory.specs.Tie.{Represents, IsSame, cells_of, modules_of, seen_cells};
 
 use crate::memory::Memory;
 use os9_base::limits::BLOCK_BYTES;
@@ -104,7 +105,7 @@ impl Memory {
         requires entered { IsSome (module_entry_at (modules_of self.now) id.0) }
         ensures slot { (m : MemoryState) → Represents self.now m
             → result ≡ highest_free_run (map_at m p.0) (length (group_at m id.0)) }
-        ensures fits { IfSome result (λ slot. slot + group_len_lem self.now id.0 ≤ 8) }
+        ensures fits { IfSome result (λ slot. slot + model.group_len self.now id.0 ≤ 8) }
     {
         let group = self.dir.group(id);
         self.free_run(p, group.len)
@@ -113,7 +114,7 @@ impl Memory {
     /// The number of blocks in the group of an entered module: 1 to 7.
     pub fn group_len(&self, id: ModId) -> u8
         requires { IsSome (module_entry_at (modules_of self.now) id.0) }
-        ensures len { result ≡ group_len_lem self.now id.0 }
+        ensures len { result ≡ model.group_len self.now id.0 }
         ensures tied { (m : MemoryState) → Represents self.now m
             → result ≡ length (group_at m id.0) }
         ensures some { 1 ≤ result }
@@ -127,9 +128,9 @@ impl Memory {
         requires { IsSome (module_entry_at (modules_of self.now) id.0) }
         ensures tied { (m : MemoryState) → Represents self.now m
             → option_map (λ entry. entry.info) (module_entry_at m.modules id.0) ≡ Some result }
-        ensures inside { result.at + result.size ≤ 8192 * group_len_lem self.now id.0 }
+        ensures inside { result.at + result.size ≤ 8192 * model.group_len self.now id.0 }
         ensures runs { result.entry < result.size }
-        ensures few { group_len_lem self.now id.0 ≤ 7 }
+        ensures few { model.group_len self.now id.0 ≤ 7 }
     {
         self.dir.info(id)
     }

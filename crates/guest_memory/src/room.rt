@@ -1,7 +1,8 @@
 //! The room left in memory.
 
 ghost use Rattle.std.specs.Prelude.{◌≡◌, ◌+◌, ◌<◌, ◌≤◌, IfSome};
-ghost use Rattle.proc_model.specs.Memory.{MemoryState, map_at, free_blocks as free_blocks_lem};
+ghost use Rattle.proc_model.specs.Memory as model;
+ghost use Rattle.proc_model.specs.Memory.{MemoryState, map_at};
 ghost use Rattle.proc_model.specs.Slots.{highest_free_run};
 ghost use Rattle.guest_memory.specs.Tie.{Represents};
 
@@ -12,7 +13,7 @@ impl Memory {
     /// The number of free blocks: those that no map and no entered group names (Level Two manual,
     /// "Memory management").
     pub fn free_blocks(&self) -> u16
-        ensures tied { (m : MemoryState) → Represents self.now m → result ≡ free_blocks_lem m }
+        ensures tied { (m : MemoryState) → Represents self.now m → result ≡ model.free_blocks m }
     {
         self.pool.free_blocks()
     }

@@ -2,7 +2,8 @@ ghost use Rattle.std.specs.Prelude.{◌≡◌, ◌-◌, ◌≤◌, ◌<◌, ◌�
 ghost use Rattle.os9_base.specs.declared.limits.TheConstants.{MOST_GROUP_BYTES};
 ghost use Rattle.rbf_model.specs.Volume.{Vol, free_clusters};
 ghost use Rattle.rbf_model.specs.Geometry.{image_geometry};
-ghost use Rattle.guest_mods.specs.BootDisk.{boot_image as boot_image_lem, used_part as used_part_lem, boot_volume, used_sectors, BootsFile, ident_front, file_front, root_front, root_entries, sectors_for as sectors_for_lem};
+ghost use Rattle.guest_mods.specs.BootDisk as model;
+ghost use Rattle.guest_mods.specs.BootDisk.{boot_volume, used_sectors, BootsFile, ident_front, file_front, root_front, root_entries};
 
 use crate::sectors::{SECTOR_BYTES, push_sector, push_zeros};
 use blank_disk::push_map;
@@ -29,7 +30,7 @@ const MAP_BYTES: u32 = 512;
 pub fn boot_image(alloc: Global, file: &[u8]) -> Result<Vec<u8>, OutOfMemory>
     requires some { 0 < length file.now }
     requires short { length file.now ≤ MOST_GROUP_BYTES }
-    ensures bytes { IfOk result (λ image. image.items ≡ boot_image_lem file.now) }
+    ensures bytes { IfOk result (λ image. image.items ≡ model.boot_image file.now) }
     ensures volume { IfOk result (λ image. Vol image.items (boot_volume file.now)) }
     ensures boots { IfOk result (λ image. BootsFile image.items file.now) }
     ensures free { IfOk result (λ image. length
@@ -45,7 +46,7 @@ pub fn boot_image(alloc: Global, file: &[u8]) -> Result<Vec<u8>, OutOfMemory>
 /// The disk up to the end of the file.
 fn used_part(alloc: Global, file: &[u8]) -> Result<Vec<u8>, AllocError>
     requires { length file.now ≤ MOST_GROUP_BYTES }
-    ensures { IfOk result (λ part. part.items ≡ used_part_lem file.now) }
+    ensures { IfOk result (λ part. part.items ≡ model.used_part file.now) }
 {
     let size = file.len() as u16;
     let mut part = Vec::new(alloc);
@@ -65,7 +66,7 @@ fn used_part(alloc: Global, file: &[u8]) -> Result<Vec<u8>, AllocError>
 /// The number of sectors that a file of this size fills.
 fn sectors_for(size: u16) -> u8
     requires { size ≤ MOST_GROUP_BYTES }
-    ensures { result ≡ sectors_for_lem size }
+    ensures { result ≡ model.sectors_for size }
 {
     size.div_ceil(256) as u8
 }

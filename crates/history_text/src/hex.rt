@@ -1,6 +1,7 @@
 ghost use Rattle.std.specs.Prelude.{◌≡◌, ◌++◌, ◌<◌, OnOk};
 ghost use Rattle.std.specs.List.{flat_map};
-ghost use Rattle.lock_model.specs.Lines.{hex_digit as hex_digit_model, hex_digits};
+ghost use Rattle.lock_model.specs.Lines as model;
+ghost use Rattle.lock_model.specs.Lines.{hex_digits};
 
 use std::alloc::AllocError;
 
@@ -19,7 +20,7 @@ pub(crate) fn push_hex(text: &mut Vec<u8>, number: u32, count: u32) -> Result<()
 /// A hexadecimal digit in lower case.
 fn hex_digit(value: u8) -> u8
     requires { value < 16 }
-    ensures { result ≡ hex_digit_model value }
+    ensures { result ≡ model.hex_digit value }
 {
     if value < 10 {
         b'0' + value

@@ -1,6 +1,7 @@
 ghost use Rattle.std.specs.Prelude.{◌≡◌, ◌++◌, [], decimal, IfOk, OnOk};
 ghost use Rattle.history_text.specs.Parts.{file_text, range_text, subject_text};
-ghost use Rattle.lock_model.specs.Lines.{bytes_text, end_text, entry_line, history_text as history_text_model, letter as letter_model, spaced};
+ghost use Rattle.lock_model.specs.Lines as model;
+ghost use Rattle.lock_model.specs.Lines.{bytes_text, end_text, entry_line, spaced};
 
 use crate::hex::{push_bytes, push_hex};
 use itoa::Buffer;
@@ -24,7 +25,7 @@ const POSITION_DIGITS: u32 = 8;
 ///
 /// Out of memory.
 pub fn history_text(alloc: Global, history: &[Entry]) -> Result<Vec<u8>, AllocError>
-    ensures { IfOk result (λ text. text.items ≡ history_text_model history.now) }
+    ensures { IfOk result (λ text. text.items ≡ model.history_text history.now) }
 {
     let mut text = Vec::new(alloc);
     for entry in history {
@@ -111,7 +112,7 @@ fn push_decimal(text: &mut Vec<u8>, number: u8) -> Result<(), AllocError>
 
 /// The letter of an entry.
 fn letter(kind: EntryKind) -> u8
-    ensures { result ≡ letter_model kind }
+    ensures { result ≡ model.letter kind }
 {
     match kind {
         EntryKind::Get => b'G',

@@ -4,7 +4,7 @@ use Rattle.std.specs.Prelude.{Some, slice_set}
 use Rattle.os9_base.specs.declared.registers.TimePacket.{TimePacket}
 use Rattle.os9_outer.specs.TerminalState.{TerminalState}
 use Rattle.call_rules.specs.CallResult.{CallResult, done, refused, waits, ends}
-use Rattle.call_rules.specs.Inner.{Inner}
+use Rattle.call_rules.specs.Processes.{Processes}
 use Rattle.call_rules.specs.declared.proc_call.ProcCall.TheVariants as Call
 use Rattle.rbf_model.specs.Volume.{DiskVolume}
 use Rattle.file_rules.specs.Attempts.{FileAttempts, asker_of, file_step}
@@ -63,11 +63,11 @@ module _ (call : PathCall) (asker : Asker) (files : Files) (terms : ℕ) where
     does-keeps splits (inl well) = well-keeps splits well
     does-keeps splits (inr (broken, same)) = broken-keeps broken
 
-pub path-keeps : (call : PathCall) (inner : Inner) (files : Files) (now : TimePacket) (p : ℕ) (result : CallResult)
-    (new : Files) (before after : List TerminalState) → FileAttempts call inner files now p result new before after
+pub path-keeps : (call : PathCall) (processes : Processes) (files : Files) (now : TimePacket) (p : ℕ) (result : CallResult)
+    (new : Files) (before after : List TerminalState) → FileAttempts call processes files now p result new before after
     → Keep files.volumes new.volumes
-path-keeps call inner files now p result new before after it =
-    let asker : Asker = asker_of inner p now in
+path-keeps call processes files now p result new before after it =
+    let asker : Asker = asker_of processes p now in
     subst (λ (new : Files). Keep files.volumes new.volumes) (sym it.state)
     (does-keeps call asker files (length before) (file_step call asker files (length before)) it.effect before after (step-splits call asker files (length before)) it.does)
 
@@ -94,13 +94,13 @@ module _ (s : State) (now : TimePacket) (p : ℕ) (result : CallResult) (rest : 
 
   pub serves-keeps : (service : Service) → Serves service s now p result rest → Keep s.files.volumes rest.files.volumes
   serves-keeps loads (files, it, is) =
-      stays (ap volumes_of is ∙ (load-leaves s.inner (asker_of s.inner p now) s.files (length s.terms) p result files it).volumes)
+      stays (ap volumes_of is ∙ (load-leaves s.processes (asker_of s.processes p now) s.files (length s.terms) p result files it).volumes)
   serves-keeps (on_processes Call.Fork) (files, it, is) =
-      stays (ap volumes_of is ∙ fork-volumes files p result ∙ (fork-leaves s.inner (asker_of s.inner p now) s.files (length s.terms) p result files it).volumes)
+      stays (ap volumes_of is ∙ fork-volumes files p result ∙ (fork-leaves s.processes (asker_of s.processes p now) s.files (length s.terms) p result files it).volumes)
   serves-keeps (on_processes Call.Chain) (files, it, is) =
-      stays (ap volumes_of is ∙ (chain-leaves s.inner (asker_of s.inner p now) s.files (length s.terms) p result files it).volumes)
+      stays (ap volumes_of is ∙ (chain-leaves s.processes (asker_of s.processes p now) s.files (length s.terms) p result files it).volumes)
   serves-keeps (on_processes call) it = stays (ap volumes_of it.1 ∙ call-volumes s.files p result)
   serves-keeps (on_time call) (clock, it, is) = stays (ap volumes_of is)
   serves-keeps (on_paths call) (it, clock) =
-      path-keeps call s.inner s.files now p result rest.files s.terms rest.terms it
+      path-keeps call s.processes s.files now p result rest.files s.terms rest.terms it
   serves-keeps no_call (refusal, is) = stays (ap volumes_of is)

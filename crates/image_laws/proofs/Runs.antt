@@ -3,7 +3,7 @@ use Rattle.std.proofs.Common.{◌≡◌, ℕ, ◌-◌, Bool, true, false, Option
 use Rattle.std.specs.Prelude.{MatchBool, MatchOption}
 use Rattle.cpu_model.specs.Step.{Outcome, Done, Calls, Aborts}
 use Rattle.call_rules.specs.Delivery.{delivered}
-use Rattle.call_rules.specs.Inner.{Inner}
+use Rattle.call_rules.specs.Processes.{Processes}
 use Rattle.call_rules.specs.Ready.{Act, act_of, attempts, delivers, executes}
 use Rattle.rbf_model.specs.Volume.{DiskVolume}
 use Rattle.file_rules.specs.Files.{Files}
@@ -47,20 +47,20 @@ instruction-volumes files p (Done effect) = refl
 instruction-volumes files p (Calls code regs) = refl
 instruction-volumes files p (Aborts status) = refl
 
-delivery-volumes : (files : Files) (p : ℕ) (result : Result Inner ℕ) → (files_after_delivery files p result).volumes ≡ files.volumes
+delivery-volumes : (files : Files) (p : ℕ) (result : Result Processes ℕ) → (files_after_delivery files p result).volumes ≡ files.volumes
 delivery-volumes files p (Ok t) = refl
 delivery-volumes files p (Err status) = refl
 
 acts-keep : (act : Act) (s : State) (p : ℕ) (end : EventEnd) (t : State) → Acts act s p end t → VolumesKeepEnds s t
 acts-keep executes s p end t (ending, is) =
-    keeps-same s t (ap volumes_in is ∙ instruction-volumes s.files p (next_instruction s.inner p))
+    keeps-same s t (ap volumes_in is ∙ instruction-volumes s.files p (next_instruction s.processes p))
 acts-keep (delivers signal) s p end t (ending, is) =
     keeps-same s t (ap volumes_in is ∙ delivery-volumes s.files p (delivered (before_delivery s p) p signal))
 acts-keep (attempts code) s p end t (result, rest, (now, is_now, serves), ending, is) =
     by-volumes s t (subst (Keep (volumes_in s)) (sym (ap volumes_in is)) (serves-keeps s now p result rest (service_of code) serves))
 
 pub event-keeps-ends : (s t : State) (end : EventEnd) → Event s end t → VolumesKeepEnds s t
-event-keeps-ends s t end (p, chosen, lives, acts) = acts-keep (act_of s.inner p) s p end t acts
+event-keeps-ends s t end (p, chosen, lives, acts) = acts-keep (act_of s.processes p) s p end t acts
 
 -- ---- ticks and choices
 

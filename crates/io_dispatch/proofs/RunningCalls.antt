@@ -7,23 +7,23 @@ use Rattle.os9_base.specs.declared.registers.Regs.{Regs}
 use Rattle.guest_memory.specs.Tie.{cells_of}
 use Rattle.guest_memory.proofs.Seen.{cells_of-seen}
 use Rattle.proc_rules.specs.Records.{record_at}
-use Rattle.call_rules.specs.Inner.{Inner, cells_at, regs_at}
+use Rattle.call_rules.specs.Processes.{Processes, cells_at, regs_at}
 use Rattle.call_rules.specs.Ready.{attempts, act_of}
 use Rattle.io_model.specs.Path.{PathTable, desc_of}
-use Rattle.io_model.specs.declared.kept.Kept.{Kept}
+use Rattle.io_model.specs.declared.pending.PendingCall.{PendingCall}
 use Rattle.io_model.specs.declared.path.Desc.{Desc}
 use Rattle.io_model.specs.declared.path.Target.TheVariants.{Term}
-use Rattle.io_rules.specs.Again.{IsAgain, IsKept}
+use Rattle.io_rules.specs.Again.{IsAgain, IsPending}
 use Rattle.io_rules.specs.Codes.{io_call_of}
-use Rattle.io_rules.specs.Io.{Io, kept_at}
+use Rattle.io_rules.specs.Io.{Io, pending_at}
 use Rattle.io_rules.specs.declared.io_call.IoCall.{IoCall}
 use Rattle.io_rules.specs.declared.io_call.IoCall.TheVariants as Call
-use Rattle.call_laws.specs.Kept.{AreKept, StaysAllowed as IsAllowed, StaysRead as AllowedRead}
+use Rattle.call_laws.specs.Pending.{ArePending, StaysAllowed as IsAllowed, StaysRead as AllowedRead}
 use Rattle.call_laws.specs.Terminals.{AreOnTerminals}
 use Rattle.call_laws.proofs.Codes.{attempts-code}
 use Rattle.proc_state.specs.Tie.{Represents}
 use Rattle.proc_state.specs.declared.state.ProcState.{ProcState}
-use Rattle.device_io.specs.Moving.{AreTerminals, StaysIfKept, StaysRead}
+use Rattle.device_io.specs.Moving.{AreTerminals, StaysIfPending, StaysRead}
 use Rattle.io_dispatch.specs.Staying.{MayAttempt, StaysAllowed}
 
 -- each terminal that a path was opened on is there
@@ -34,43 +34,43 @@ are-terminals paths terms on s n is = by_desc (desc_of paths s) refl is
     by_desc None at is = absurd (none-some (Term n) is)
     by_desc (Some desc) at is = on s n desc at (same_Some desc.target (Term n) is)
 
-module _ (inner : Inner) (io : Io) (p code : ℕ) (call : IoCall) (kept_all : AreKept inner io) (next : act_of inner p ≡ attempts code) (coded : io_call_of code ≡ Some call) where
+module _ (m : Processes) (io : Io) (p code : ℕ) (call : IoCall) (kept_all : ArePending m io) (next : act_of m p ≡ attempts code) (coded : io_call_of code ≡ Some call) where
   -- what is kept is of this call
-  kept-call : (kept : Kept) → kept_at io p ≡ Some kept → IsKept call (regs_at inner p) io p kept × IsAllowed call (cells_at inner p) (regs_at inner p) io p
-  kept-call kept is =
-      let it = kept_all p kept is in
-      let same : code ≡ kept.code = same_Some code kept.code (sym (attempts-code inner p code next) ∙ it.made) in
+  kept-call : (pending : PendingCall) → pending_at io p ≡ Some pending → IsPending call (regs_at m p) io p pending × IsAllowed call (cells_at m p) (regs_at m p) io p
+  kept-call pending is =
+      let it = kept_all p pending is in
+      let same : code ≡ pending.code = same_Some code pending.code (sym (attempts-code m p code next) ∙ it.made) in
       let one : it.call ≡ call = same_Some it.call call (sym it.again.code ∙ sym (ap io_call_of same) ∙ coded) in
-      subst (λ (call : IoCall). IsKept call (regs_at inner p) io p kept × IsAllowed call (cells_at inner p) (regs_at inner p) io p) one (it.again, it.stays)
+      subst (λ (call : IoCall). IsPending call (regs_at m p) io p pending × IsAllowed call (cells_at m p) (regs_at m p) io p) one (it.again, it.stays)
 
-  again-of : IsAgain call (regs_at inner p) io p
-  again-of = by_kept (kept_at io p) refl
+  again-of : IsAgain call (regs_at m p) io p
+  again-of = by_kept (pending_at io p) refl
     where
-      by_kept : (place : Option Kept) → kept_at io p ≡ place → IfSome place (IsKept call (regs_at inner p) io p)
+      by_kept : (place : Option PendingCall) → pending_at io p ≡ place → IfSome place (IsPending call (regs_at m p) io p)
       by_kept None is = tt
-      by_kept (Some kept) is = (kept-call kept is).0
+      by_kept (Some pending) is = (kept-call pending is).0
 
-  allowed-of : IfSome (kept_at io p) (λ kept. IsAllowed call (cells_at inner p) (regs_at inner p) io p)
-  allowed-of = by_kept (kept_at io p) refl
+  allowed-of : IfSome (pending_at io p) (λ pending. IsAllowed call (cells_at m p) (regs_at m p) io p)
+  allowed-of = by_kept (pending_at io p) refl
     where
-      by_kept : (place : Option Kept) → kept_at io p ≡ place → IfSome place (λ kept. IsAllowed call (cells_at inner p) (regs_at inner p) io p)
+      by_kept : (place : Option PendingCall) → pending_at io p ≡ place → IfSome place (λ pending. IsAllowed call (cells_at m p) (regs_at m p) io p)
       by_kept None is = tt
-      by_kept (Some kept) is = (kept-call kept is).1
+      by_kept (Some pending) is = (kept-call pending is).1
 
 -- a read that is allowed stays so
 stays-if : (call : IoCall) (cells : Cells) (regs : Regs) (io : Io) (p : ℕ) → (IsAllowed call cells regs io p
-    → StaysRead cells regs io p) → IfSome (kept_at io p) (λ kept. IsAllowed call cells regs io p) → StaysIfKept cells
+    → StaysRead cells regs io p) → IfSome (pending_at io p) (λ pending. IsAllowed call cells regs io p) → StaysIfPending cells
     regs io p
-stays-if call cells regs io p reads = by_kept (kept_at io p)
+stays-if call cells regs io p reads = by_kept (pending_at io p)
   where
-    by_kept : (place : Option Kept) → IfSome place (λ kept. IsAllowed call cells regs io p) → IfSome place (λ kept. StaysRead cells regs io p)
+    by_kept : (place : Option PendingCall) → IfSome place (λ pending. IsAllowed call cells regs io p) → IfSome place (λ pending. StaysRead cells regs io p)
     by_kept None allowed = tt
-    by_kept (Some kept) allowed = reads allowed
+    by_kept (Some pending) allowed = reads allowed
 
 stays-read : (cells : Cells) (regs : Regs) (io : Io) (p : ℕ) → AllowedRead cells regs io p → StaysRead cells regs io p
 stays-read cells regs io p it = record { named = it.named; may = it.mode }
 
-stays-of : (call : IoCall) (cells : Cells) (regs : Regs) (io : Io) (p : ℕ) → IfSome (kept_at io p) (λ kept. IsAllowed call cells regs io p) → StaysAllowed call cells regs io p
+stays-of : (call : IoCall) (cells : Cells) (regs : Regs) (io : Io) (p : ℕ) → IfSome (pending_at io p) (λ pending. IsAllowed call cells regs io p) → StaysAllowed call cells regs io p
 stays-of Call.Read cells regs io p allowed =
     stays-if Call.Read cells regs io p (λ it. stays-read cells regs io p (it refl)) allowed
 stays-of Call.ReadLn cells regs io p allowed =
@@ -85,15 +85,15 @@ stays-of Call.GetStt cells regs io p allowed = tt
 stays-of Call.SetStt cells regs io p allowed = tt
 stays-of Call.PErr cells regs io p allowed = tt
 
-pub may-attempt : (processes : ProcState) (inner : Inner) (io : Io) (terms p code : ℕ) (call : IoCall) → p < 33
-    → Represents processes inner → AreKept inner io → AreOnTerminals terms io.paths → act_of inner p ≡ attempts code
+pub may-attempt : (processes : ProcState) (m : Processes) (io : Io) (terms p code : ℕ) (call : IoCall) → p < 33
+    → Represents processes m → ArePending m io → AreOnTerminals terms io.paths → act_of m p ≡ attempts code
     → io_call_of code ≡ Some call → MayAttempt call processes io p terms
-may-attempt processes inner io terms p code call process tied kept on next coded =
-    let regs : regs_at inner p ≡ (record_at processes.table p).regs = ap (λ (inner : Inner). regs_at inner p) tied.is in
-    let cells : cells_of processes.memory p ≡ cells_at inner p = cells_of-seen processes.memory p process inner.memory tied.memory in
+may-attempt processes m io terms p code call process tied kept on next coded =
+    let regs : regs_at m p ≡ (record_at processes.table p).regs = ap (λ (m : Processes). regs_at m p) tied.is in
+    let cells : cells_of processes.memory p ≡ cells_at m p = cells_of-seen processes.memory p process m.memory tied.memory in
     record {
-      again = subst (λ (regs : Regs). IsAgain call regs io p) regs (again-of inner io p code call kept next coded);
+      again = subst (λ (regs : Regs). IsAgain call regs io p) regs (again-of m io p code call kept next coded);
       stays = subst (λ (cells : Cells). StaysAllowed call cells (record_at processes.table p).regs io p) (sym cells)
-          (subst (λ (regs : Regs). StaysAllowed call (cells_at inner p) regs io p) regs (stays-of call (cells_at inner p) (regs_at inner p) io p (allowed-of inner io p code call kept next coded)));
+          (subst (λ (regs : Regs). StaysAllowed call (cells_at m p) regs io p) regs (stays-of call (cells_at m p) (regs_at m p) io p (allowed-of m io p code call kept next coded)));
       terminals = are-terminals io.paths terms on;
     }

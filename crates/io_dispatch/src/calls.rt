@@ -3,7 +3,7 @@
 ghost use Rattle.std.specs.Prelude.{◌≡◌, None, vec_len};
 ghost use Rattle.proc_rules.specs.Records.{IsLiving};
 ghost use Rattle.io_dispatch.specs.Staying.{MayAttempt};
-ghost use Rattle.io_rules.specs.Io.{kept_at};
+ghost use Rattle.io_rules.specs.Io.{pending_at};
 ghost use Rattle.device_io.specs.Streams.{streams};
 ghost use Rattle.device_io.specs.Trying.{AttemptsFrom, WantsMemoryFrom};
 
@@ -38,7 +38,7 @@ pub fn attempt(
 ) -> CallEnd
     requires lives { IsLiving s.old.table p.0 }
     requires may { MayAttempt call s.old io.old p.0 (vec_len devices.old.terms) }
-    requires status { call ≡ IoCall.SetStt → kept_at io.old p.0 ≡ None }
+    requires status { call ≡ IoCall.SetStt → pending_at io.old p.0 ≡ None }
     ensures call { AttemptsFrom call (vec_len devices.old.drives) p.0 result s.old s.new
         (streams CharDriver-box io.old devices.old) (streams CharDriver-box io.new devices.new) }
     ensures memory { WantsMemoryFrom call (vec_len devices.old.drives) p.0 result s.old
@@ -48,7 +48,7 @@ pub fn attempt(
     ensures count { vec_len devices.new.terms ≡ vec_len devices.old.terms }
 {
     // A call that moves no byte is at its first attempt; SS.Size and SS.Lock wait on files alone.
-    prove!(io.kept(p).is_none() || call.direction().is_some());
+    prove!(io.pending(p).is_none() || call.direction().is_some());
     match call {
         IoCall::Dup => i_dup(s, io, p),
         IoCall::Create => i_create(s, io, p, devices),

@@ -1,10 +1,10 @@
 //! The requirements of an attempt hold in every state of a run.
 
 ghost use Rattle.std.specs.Prelude.{◌≡◌, ◌<◌, ℕ, Some};
-ghost use Rattle.call_rules.specs.Inner.{Inner};
+ghost use Rattle.call_rules.specs.Processes.{Processes};
 ghost use Rattle.call_rules.specs.Ready.{attempts, act_of};
 ghost use Rattle.io_dispatch.specs.Staying.{MayAttempt};
-ghost use Rattle.call_laws.specs.Kept.{AreKept};
+ghost use Rattle.call_laws.specs.Pending.{ArePending};
 ghost use Rattle.call_laws.specs.Terminals.{AreOnTerminals};
 ghost use Rattle.io_rules.specs.Codes.{io_call_of};
 ghost use Rattle.io_rules.specs.Io.{Io};
@@ -16,8 +16,8 @@ ghost use Rattle.proc_state.specs.declared.state.ProcState.{ProcState};
 /// requirements of [`attempt`](crate::attempt) hold: what is kept of pending calls belongs to them,
 /// and the terminal of each open path exists.
 pub fn a_process_may_attempt_its_call()
-    ensures { (processes : ProcState) (inner : Inner) (io : Io) (terms p code : ℕ) (call : IoCall)
-        → p < 33 → Represents processes inner → AreKept inner io → AreOnTerminals terms io.paths
-        → act_of inner p ≡ attempts code → io_call_of code ≡ Some call
+    ensures { (processes : ProcState) (m : Processes) (io : Io) (terms p code : ℕ) (call : IoCall)
+        → p < 33 → Represents processes m → ArePending m io → AreOnTerminals terms io.paths
+        → act_of m p ≡ attempts code → io_call_of code ≡ Some call
         → MayAttempt call processes io p terms }
 {}

@@ -1,5 +1,5 @@
 pub mod Edit
-pub mod Kept
+pub mod Pending
 pub mod Line
 pub mod Path
 pub mod Pipe

@@ -3,7 +3,7 @@
 #![tactic(auto)]
 
 pub mod edit;
-pub mod kept;
+pub mod pending;
 pub mod keys;
 pub mod path;
 pub mod pipe;

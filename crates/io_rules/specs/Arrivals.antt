@@ -3,14 +3,14 @@ use Rattle.std.specs.Prelude.{◌≡◌, ℕ, zero, suc, ◌+◌, true, Option, 
 use Rattle.os9_base.specs.declared.registers.Pid.{Pid}
 use Rattle.os9_outer.specs.TerminalState.{TerminalState, ChangesOneTerminal}
 use Rattle.proc_rules.specs.Signals.{after_send}
-use Rattle.call_rules.specs.Inner.{Inner, with_records}
+use Rattle.call_rules.specs.Processes.{Processes, with_records}
 use Rattle.io_model.specs.Terminal.{Terminal, Arrives}
 use Rattle.io_model.specs.declared.terminal.Arrival.{Arrival}
 use Rattle.io_rules.specs.Io.{Io, terminal_at, with_terminal}
 
 -- what arriving keys may change
 pub record Desk : Type 0 where
-  pub inner : Inner
+  pub processes : Processes
   pub io : Io
   pub terms : List TerminalState  -- TERM, T1, T2, T3
 
@@ -19,14 +19,15 @@ abbrev pub every_user : ℕ
 every_user = 0
 
 -- the processes after a signal was sent to a process; it is dropped if that process has a pending signal
-abbrev pub after_signal_to : Inner → Pid → ℕ → Inner
-after_signal_to inner process signal = with_records inner (after_send inner.records every_user process.0 signal)
+abbrev pub after_signal_to : Processes → Pid → ℕ → Processes
+after_signal_to processes process signal =
+    with_records processes (after_send processes.records every_user process.0 signal)
 
 -- the processes after the signal of a terminal was sent to its last user, if it has both
-abbrev pub after_key_signal : Inner → Option Pid → Option ℕ → Inner
-after_key_signal inner None signal = inner
-after_key_signal inner (Some process) None = inner
-after_key_signal inner (Some process) (Some signal) = after_signal_to inner process signal
+abbrev pub after_key_signal : Processes → Option Pid → Option ℕ → Processes
+after_key_signal processes None signal = processes
+after_key_signal processes (Some process) None = processes
+after_key_signal processes (Some process) (Some signal) = after_signal_to processes process signal
 
 -- the keys of a terminal that are due in this tick arrive, and then its signal is sent
 pub record ArrivesAt (tick n : ℕ) (old new : Desk) : Type 0 where
@@ -36,7 +37,7 @@ pub record ArrivesAt (tick n : ℕ) (old new : Desk) : Type 0 where
   pub device : ChangesOneTerminal
       (λ before after. Arrives tick (terminal_at old.io n) terminal before after answer) n old.terms new.terms
   pub io : new.io ≡ with_terminal old.io n terminal
-  pub signal : new.inner ≡ after_key_signal old.inner terminal.user answer.signal
+  pub signal : new.processes ≡ after_key_signal old.processes terminal.user answer.signal
 
 -- the same for `count` terminals from terminal n on, one after another
 abbrev pub ArrivesFrom : ℕ → ℕ → ℕ → Desk → Desk → Type 0

@@ -7,8 +7,8 @@ use Rattle.os9_base.specs.declared.registers.Regs.{Regs}
 use Rattle.os9_outer.specs.TerminalState.{TerminalState}
 use Rattle.proc_model.specs.MemoryChanges.{stored}
 use Rattle.call_rules.specs.CallResult.{CallResult}
-use Rattle.call_rules.specs.Inner.{Inner, regs_at, cells_at, with_memory, with_regs_of}
-use Rattle.io_model.specs.declared.kept.Kept.{Kept}
+use Rattle.call_rules.specs.Processes.{Processes, regs_at, cells_at, with_memory, with_regs_of}
+use Rattle.io_model.specs.declared.pending.PendingCall.{PendingCall}
 use Rattle.io_rules.specs.Close.{i_close}
 use Rattle.io_rules.specs.Dup.{i_dup}
 use Rattle.io_rules.specs.Io.{Io, with_call}
@@ -42,15 +42,15 @@ Does (comes it) caller io effect before after = (effect ≡ it) × (after ≡ be
 Does (reads read) caller io effect before after = ReadsTerminal caller io read effect before after
 Does (writes write) caller io effect before after = WritesTerminal caller io write effect before after
 
--- what is kept of a call with this end
-abbrev pub kept_in : IoEnd → Option Kept
-kept_in (answers regs) = None
-kept_in (fails number) = None
-kept_in (keeps kept) = Some kept
+-- the pending call after an attempt with this end
+abbrev pub pending_in : IoEnd → Option PendingCall
+pending_in (answers regs) = None
+pending_in (fails number) = None
+pending_in (keeps pending) = Some pending
 
 -- the state after an attempt of a process
 abbrev pub io_after : ℕ → IoEffect → Io
-io_after p effect = with_call effect.io p (kept_in effect.end)
+io_after p effect = with_call effect.io p (pending_in effect.end)
 
 -- ---- by the caller's registers and cells
 
@@ -58,42 +58,42 @@ io_after p effect = with_call effect.io p (kept_in effect.end)
 abbrev pub end_of : IoEnd → CallEnd
 end_of (answers regs) = Done
 end_of (fails number) = Error number
-end_of (keeps kept) = Wait
+end_of (keeps pending) = Wait
 
 -- the registers of the caller after an attempt with this end
 abbrev pub regs_after : IoEnd → Regs → Regs
 regs_after (answers regs) before = regs
 regs_after (fails number) before = before
-regs_after (keeps kept) before = before
+regs_after (keeps pending) before = before
 
 -- ---- by the state of the processes
 
 -- the process that calls
-abbrev pub caller_of : Inner → ℕ → Caller
-caller_of inner p = record { process = record { 0 = p }; regs = regs_at inner p; cells = cells_at inner p }
+abbrev pub caller_of : Processes → ℕ → Caller
+caller_of processes p = record { process = record { 0 = p }; regs = regs_at processes p; cells = cells_at processes p }
 
 -- the processes after an attempt stored its bytes
-abbrev pub with_stored : Inner → ℕ → IoEffect → Inner
-with_stored inner p effect = with_memory inner (stored inner.memory p effect.at effect.bytes)
+abbrev pub with_stored : Processes → ℕ → IoEffect → Processes
+with_stored processes p effect = with_memory processes (stored processes.memory p effect.at effect.bytes)
 
 -- the result of the call
-abbrev pub result_by : IoEnd → Inner → ℕ → IoEffect → CallResult
-result_by (answers regs) inner p effect = CallResult.done (with_regs_of (with_stored inner p effect) p regs)
-result_by (fails number) inner p effect = CallResult.refused number
-result_by (keeps kept) inner p effect = CallResult.waits (with_stored inner p effect)
+abbrev pub result_by : IoEnd → Processes → ℕ → IoEffect → CallResult
+result_by (answers regs) processes p effect = CallResult.done (with_regs_of (with_stored processes p effect) p regs)
+result_by (fails number) processes p effect = CallResult.refused number
+result_by (keeps pending) processes p effect = CallResult.waits (with_stored processes p effect)
 
-abbrev pub result_of : Inner → ℕ → IoEffect → CallResult
-result_of inner p effect = result_by effect.end inner p effect
+abbrev pub result_of : Processes → ℕ → IoEffect → CallResult
+result_of processes p effect = result_by effect.end processes p effect
 
 -- what an attempt of a call by a process does
-abbrev pub step_of : IoCall → Inner → ℕ → Io → ℕ → List TerminalState → IoStep
-step_of call inner p io drives terms = io_step call (caller_of inner p) io drives (length terms)
+abbrev pub step_of : IoCall → Processes → ℕ → Io → ℕ → List TerminalState → IoStep
+step_of call processes p io drives terms = io_step call (caller_of processes p) io drives (length terms)
 
 -- an attempt of a call by a process on a machine with `drives` drives: its result, and the state and the terminals
 -- after it
-pub record IoAttempts (call : IoCall) (inner : Inner) (io : Io) (drives p : ℕ) (result : CallResult) (new : Io)
+pub record IoAttempts (call : IoCall) (processes : Processes) (io : Io) (drives p : ℕ) (result : CallResult) (new : Io)
     (before after : List TerminalState) : Type 0 where
   pub effect : IoEffect
-  pub does : Does (step_of call inner p io drives before) (caller_of inner p) io effect before after
-  pub result_is : result ≡ result_of inner p effect
+  pub does : Does (step_of call processes p io drives before) (caller_of processes p) io effect before after
+  pub result_is : result ≡ result_of processes p effect
   pub state : new ≡ io_after p effect

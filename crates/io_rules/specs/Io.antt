@@ -1,10 +1,10 @@
 -- The state of input and output that the calls on paths read and change (Level Two manual, "I/O system").
 use Rattle.std.specs.Prelude.{ℕ, Option, None, option_map, option_and_then, List, replicate, slice_index_or, slice_set}
-use Rattle.io_model.specs.Kept.{kept_of, with_kept}
+use Rattle.io_model.specs.Pending.{pending_of, with_pending}
 use Rattle.io_model.specs.Path.{PathTable, no_paths, slot_of, desc_of, paths_after_begin, paths_after_dup}
 use Rattle.io_model.specs.Pipe.{held_bytes, with_pipe}
 use Rattle.io_model.specs.Terminal.{Terminal, new_terminal}
-use Rattle.io_model.specs.declared.kept.Kept.{Kept}
+use Rattle.io_model.specs.declared.pending.PendingCall.{PendingCall}
 use Rattle.io_model.specs.declared.path.Desc.{Desc}
 use Rattle.io_model.specs.declared.path.SysPath.{SysPath}
 use Rattle.io_model.specs.declared.path.Target.{Target}
@@ -14,7 +14,7 @@ pub record Io : Type 0 where
   pub paths : PathTable
   pub terminals : List Terminal  -- TERM, T1, T2, T3
   pub pipes : List (Option (List ℕ))  -- by number, from 1 to 16: the bytes that each holds
-  pub calls : List (Option Kept)  -- by process, from 0 to 32: its pending call on a terminal or a pipe
+  pub calls : List (Option PendingCall)  -- by process, from 0 to 32: its pending call on a terminal or a pipe
 
 -- the descriptor of a new path: its position is 0, and its requests do not wait
 abbrev pub new_desc : Target → ℕ → Desc
@@ -42,8 +42,8 @@ abbrev pub pipe_bytes : Io → ℕ → List ℕ
 pipe_bytes io n = held_bytes io.pipes n
 
 -- the pending call of a process on a terminal or a pipe, if it has one
-abbrev pub kept_at : Io → ℕ → Option Kept
-kept_at io p = kept_of io.calls p
+abbrev pub pending_at : Io → ℕ → Option PendingCall
+pending_at io p = pending_of io.calls p
 
 -- the state with other paths, another terminal, other bytes of a pipe, other pipes or another pending call
 abbrev pub with_paths : Io → PathTable → Io
@@ -58,8 +58,8 @@ with_pipes io pipes = record io { pipes = pipes }
 abbrev pub with_pipe_bytes : Io → ℕ → List ℕ → Io
 with_pipe_bytes io n bytes = with_pipes io (with_pipe io.pipes n bytes)
 
-abbrev pub with_call : Io → ℕ → Option Kept → Io
-with_call io p kept = record io { calls = with_kept io.calls p kept }
+abbrev pub with_call : Io → ℕ → Option PendingCall → Io
+with_call io p pending = record io { calls = with_pending io.calls p pending }
 
 -- a path that a number of a process names
 pub record OpenPath : Type 0 where

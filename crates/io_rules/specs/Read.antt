@@ -5,7 +5,7 @@ use Rattle.std.specs.Prelude.{ℕ, is_none}
 use Rattle.os9_base.specs.declared.calls.TheConstants.{I_READ, I_READLN}
 use Rattle.os9_base.specs.declared.errors.TheConstants.{E_BPADDR, E_UNKSVC}
 use Rattle.call_rules.specs.UserBytes.{user_bytes}
-use Rattle.io_model.specs.declared.kept.Kept.{Kept}
+use Rattle.io_model.specs.declared.pending.PendingCall.{PendingCall}
 use Rattle.io_model.specs.declared.path.Target.{Target}
 use Rattle.io_model.specs.declared.path.Target.TheVariants.{File, Folder, Term, Pipe}
 use Rattle.io_model.specs.declared.terminal.ReadKind.{ReadKind}
@@ -19,14 +19,14 @@ use Rattle.io_rules.specs.Transfer.{on_path, unless_nothing, call_now}
 use Rattle.io_rules.specs.declared.io_call.Direction.TheVariants.{Reading}
 
 -- an attempt on a pipe
-abbrev pub pipe_read : ReadKind → Caller → Io → ℕ → Kept → IoEffect
+abbrev pub pipe_read : ReadKind → Caller → Io → ℕ → PendingCall → IoEffect
 pipe_read Bytes caller io pipe call =
     reads_pipe caller io pipe call (is_alone io caller.process.0 call.path.0 Reading)
 pipe_read WholeLine caller io pipe call =
     reads_pipe_line caller io pipe call (is_alone io caller.process.0 call.path.0 Reading)
 
 -- an attempt on the target of the path; no path is opened on a file or a directory
-abbrev pub reads_target : ReadKind → Caller → Io → Kept → Target → IoStep
+abbrev pub reads_target : ReadKind → Caller → Io → PendingCall → Target → IoStep
 reads_target kind caller io call (File drive sector) = refused E_UNKSVC
 reads_target kind caller io call (Folder drive sector) = refused E_UNKSVC
 reads_target kind caller io call (Term terminal) =

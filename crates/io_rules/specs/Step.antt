@@ -3,7 +3,7 @@ use Rattle.std.specs.Prelude.{ℕ, Bool, true, false, Option, Some, None, List, 
 use Rattle.os9_base.specs.Cells.{Cells}
 use Rattle.os9_base.specs.declared.registers.Pid.{Pid}
 use Rattle.os9_base.specs.declared.registers.Regs.{Regs}
-use Rattle.io_model.specs.declared.kept.Kept.{Kept}
+use Rattle.io_model.specs.declared.pending.PendingCall.{PendingCall}
 use Rattle.io_model.specs.declared.terminal.ReadKind.{ReadKind}
 use Rattle.io_rules.specs.Io.{Io}
 
@@ -19,8 +19,8 @@ pub data IoEnd : Type 0 where
   answers : Regs → IoEnd
   -- it is refused with this number
   fails : ℕ → IoEnd
-  -- it waits, and this is kept of it
-  keeps : Kept → IoEnd
+  -- it waits, and is pending
+  keeps : PendingCall → IoEnd
 
 -- what an attempt leaves: how it ends, the bytes that it stores from an address on, and the state except what is kept
 -- of the call
@@ -34,7 +34,7 @@ pub record IoEffect : Type 0 where
 pub record TerminalRead : Type 0 where
   pub terminal : ℕ
   pub kind : ReadKind
-  pub call : Kept
+  pub call : PendingCall
 
 -- a write to a terminal
 pub record TerminalWrite : Type 0 where

@@ -4,8 +4,8 @@ use Rattle.os9_base.specs.Cells.{Cells}
 use Rattle.os9_base.specs.declared.errors.TheConstants.{E_BPNUM, E_BMODE}
 use Rattle.user_names.specs.UserNames.{user_cell}
 use Rattle.io_model.specs.declared.keys.TheConstants.{RETURN}
-use Rattle.io_model.specs.declared.kept.Kept.{Kept}
-use Rattle.io_rules.specs.Io.{Io, OpenPath, open_path, kept_at}
+use Rattle.io_model.specs.declared.pending.PendingCall.{PendingCall}
+use Rattle.io_rules.specs.Io.{Io, OpenPath, open_path, pending_at}
 use Rattle.io_rules.specs.Step.{Caller, IoStep, needs, refuses, done}
 
 -- the call goes on with the path of a number, or is refused if it names none or its mode does not allow the call
@@ -19,12 +19,12 @@ abbrev pub unless_nothing : Caller → Io → IoStep → IoStep
 unless_nothing caller io next = if caller.regs.y == 0 then done caller.regs io else next
 
 -- the call as its first attempt finds it, for this code, path and count
-abbrev pub first_call : ℕ → OpenPath → ℕ → Kept
+abbrev pub first_call : ℕ → OpenPath → ℕ → PendingCall
 first_call code opened count = record { code = code; path = opened.path; moved = 0; count = count }
 
--- the call as an attempt finds it: the kept call, or at the first attempt the call for this code, path and count
-abbrev pub call_now : Caller → Io → ℕ → OpenPath → ℕ → Kept
-call_now caller io code opened count = unwrap_or (kept_at io caller.process.0) (first_call code opened count)
+-- the call as an attempt finds it: the pending call, or at the first attempt the call for this code, path and count
+abbrev pub call_now : Caller → Io → ℕ → OpenPath → ℕ → PendingCall
+call_now caller io code opened count = unwrap_or (pending_at io caller.process.0) (first_call code opened count)
 
 abbrev pub line_with : (ℕ → Option (List ℕ)) → ℕ → Option ℕ → Option (List ℕ)
 line_with rest at None = None

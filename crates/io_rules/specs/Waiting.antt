@@ -7,12 +7,12 @@ use Rattle.os9_base.specs.declared.registers.Pid.{Pid}
 use Rattle.os9_sched.specs.declared.member.Cause.{Cause}
 use Rattle.io_model.specs.Pipe.{pipe_room}
 use Rattle.io_model.specs.Terminal.{Terminal, is_taken, released}
-use Rattle.io_model.specs.declared.kept.Kept.{Kept}
+use Rattle.io_model.specs.declared.pending.PendingCall.{PendingCall}
 use Rattle.io_model.specs.declared.path.Target.{Target}
 use Rattle.io_model.specs.declared.path.Target.TheVariants.{File, Folder, Term, Pipe}
 use Rattle.io_rules.specs.Alone.{is_alone}
 use Rattle.io_rules.specs.Codes.{direction_of}
-use Rattle.io_rules.specs.Io.{Io, terminal_at, pipe_bytes, kept_at, target_of, with_call, with_terminal}
+use Rattle.io_rules.specs.Io.{Io, terminal_at, pipe_bytes, pending_at, target_of, with_call, with_terminal}
 use Rattle.io_rules.specs.declared.io_call.Direction.{Direction}
 use Rattle.io_rules.specs.declared.io_call.Direction.TheVariants.{Reading, Writing}
 
@@ -22,7 +22,7 @@ pid p = record { 0 = p }
 
 -- the target of a process's pending call, if it has one
 abbrev pub wait_target : Io → ℕ → Option Target
-wait_target io p = option_and_then (λ kept. target_of io kept.path) (kept_at io p)
+wait_target io p = option_and_then (λ pending. target_of io pending.path) (pending_at io p)
 
 -- When they may go on.
 
@@ -37,20 +37,20 @@ can_move io pipe (Some Reading) = not (length (pipe_bytes io pipe) == 0)
 can_move io pipe (Some Writing) = not (pipe_room (pipe_bytes io pipe) == 0)
 
 -- a call of a process would be alone in its wait
-abbrev pub would_be_alone : Io → ℕ → Kept → Bool
-would_be_alone io p kept = option_map_or (is_alone io p kept.path.0) (direction_of kept.code) false
+abbrev pub would_be_alone : Io → ℕ → PendingCall → Bool
+would_be_alone io p pending = option_map_or (is_alone io p pending.path.0) (direction_of pending.code) false
 
 -- a pending call on this target may go on
-abbrev pub may_go_by : Io → ℕ → Kept → Option Target → Bool
-may_go_by io p kept None = false
-may_go_by io p kept (Some (File drive sector)) = false
-may_go_by io p kept (Some (Folder drive sector)) = false
-may_go_by io p kept (Some (Term terminal)) = may_read_terminal p (terminal_at io terminal)
-may_go_by io p kept (Some (Pipe pipe)) = can_move io pipe (direction_of kept.code) || would_be_alone io p kept
+abbrev pub may_go_by : Io → ℕ → PendingCall → Option Target → Bool
+may_go_by io p pending None = false
+may_go_by io p pending (Some (File drive sector)) = false
+may_go_by io p pending (Some (Folder drive sector)) = false
+may_go_by io p pending (Some (Term terminal)) = may_read_terminal p (terminal_at io terminal)
+may_go_by io p pending (Some (Pipe pipe)) = can_move io pipe (direction_of pending.code) || would_be_alone io p pending
 
 -- the pending call of a process on a terminal or a pipe may go on
 abbrev pub io_may_go : Io → ℕ → Bool
-io_may_go io p = option_map_or (λ kept. may_go_by io p kept (target_of io kept.path)) (kept_at io p) false
+io_may_go io p = option_map_or (λ pending. may_go_by io p pending (target_of io pending.path)) (pending_at io p) false
 
 -- What they wait for.
 
@@ -80,13 +80,13 @@ abbrev pub io_interrupted : Io → ℕ → Io
 io_interrupted io p = with_call (without_unfinished io p (wait_target io p)) p None
 
 -- the count that a broken-off call returns: the bytes that a write or a line read of a pipe has moved
-abbrev pub count_by : Kept → Option Target → Option ℕ
-count_by kept None = None
-count_by kept (Some (File drive sector)) = None
-count_by kept (Some (Folder drive sector)) = None
-count_by kept (Some (Term terminal)) = None
-count_by kept (Some (Pipe pipe)) = if kept.code == I_READ then None else Some kept.moved
+abbrev pub count_by : PendingCall → Option Target → Option ℕ
+count_by pending None = None
+count_by pending (Some (File drive sector)) = None
+count_by pending (Some (Folder drive sector)) = None
+count_by pending (Some (Term terminal)) = None
+count_by pending (Some (Pipe pipe)) = if pending.code == I_READ then None else Some pending.moved
 
 -- the count in Y of the broken-off call of a process, if it returns one
 abbrev pub interrupted_count : Io → ℕ → Option ℕ
-interrupted_count io p = option_and_then (λ kept. count_by kept (target_of io kept.path)) (kept_at io p)
+interrupted_count io p = option_and_then (λ pending. count_by pending (target_of io pending.path)) (pending_at io p)

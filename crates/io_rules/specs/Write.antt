@@ -10,11 +10,11 @@ use Rattle.os9_base.specs.declared.registers.Regs.{Regs}
 use Rattle.call_rules.specs.UserBytes.{user_bytes}
 use Rattle.io_model.specs.Line.{line_put}
 use Rattle.io_model.specs.declared.keys.TheConstants.{RETURN}
-use Rattle.io_model.specs.declared.kept.Kept.{Kept}
+use Rattle.io_model.specs.declared.pending.PendingCall.{PendingCall}
 use Rattle.io_model.specs.declared.path.Target.{Target}
 use Rattle.io_model.specs.declared.path.Target.TheVariants.{File, Folder, Term, Pipe}
 use Rattle.io_rules.specs.Alone.{is_alone}
-use Rattle.io_rules.specs.Io.{Io, OpenPath, kept_at}
+use Rattle.io_rules.specs.Io.{Io, OpenPath, pending_at}
 use Rattle.io_rules.specs.Modes.{can_write}
 use Rattle.io_rules.specs.Pipes.{count_regs, writes_pipe}
 use Rattle.io_rules.specs.Step.{Caller, IoStep, refused, comes, writes, needs}
@@ -29,7 +29,7 @@ pub record Sending : Type 0 where
   pub regs : Regs
 
 -- an attempt on the target of the path; no path is opened on a file or a directory
-abbrev pub writes_target : Sending → Caller → Io → Kept → Target → IoStep
+abbrev pub writes_target : Sending → Caller → Io → PendingCall → Target → IoStep
 writes_target sending caller io call (File drive sector) = refused E_UNKSVC
 writes_target sending caller io call (Folder drive sector) = refused E_UNKSVC
 writes_target sending caller io call (Term terminal) =
@@ -56,13 +56,13 @@ i_write caller io =
     (λ opened. unless_nothing caller io (sends_on (sent_bytes caller bytes) I_WRITE caller io opened)))
 
 -- the line that the call moves: a further attempt moves the number of bytes that the first one found
-abbrev pub line_bytes : Caller → Option Kept → Option (List ℕ)
+abbrev pub line_bytes : Caller → Option PendingCall → Option (List ℕ)
 line_bytes caller None = line_at caller.cells caller.regs.x caller.regs.y
-line_bytes caller (Some kept) = user_bytes caller.cells caller.regs.x kept.count
+line_bytes caller (Some pending) = user_bytes caller.cells caller.regs.x pending.count
 
 abbrev pub i_writln : Caller → Io → IoStep
 i_writln caller io =
-    needs (line_bytes caller (kept_at io caller.process.0)) E_BPADDR
+    needs (line_bytes caller (pending_at io caller.process.0)) E_BPADDR
     (λ line. on_path caller io caller.regs.a can_write
     (λ opened. unless_nothing caller io (sends_on (sent_line caller line) I_WRITLN caller io opened)))
 

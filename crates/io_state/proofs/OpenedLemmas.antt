@@ -2,20 +2,20 @@
 use Rattle.std.proofs.Common.{◌≡◌, ◌<◌, ◌∙◌, ℕ, Option, Some, None, IsSome, IfSome, option_map, option_and_then, unwrap_or, inl, sym, ap, refl, subst}
 use Rattle.os9_base.specs.declared.registers.Regs.{Regs}
 use Rattle.io_model.specs.Path.{slot_of, desc_of}
-use Rattle.io_model.specs.declared.kept.Kept.{Kept}
+use Rattle.io_model.specs.declared.pending.PendingCall.{PendingCall}
 use Rattle.io_model.specs.declared.path.Desc.{Desc}
 use Rattle.io_model.specs.declared.path.SysPath.{SysPath}
 use Rattle.io_model.specs.declared.path.Target.{Target}
 use Rattle.io_model.specs.declared.path.Target.TheVariants.{Term}
 use Rattle.io_model.specs.declared.terminal.ReadKind.{ReadKind}
 use Rattle.io_rules.specs.Codes.{io_call_of, direction_of}
-use Rattle.io_rules.specs.Io.{Io, OpenPath, kept_at, open_path}
+use Rattle.io_rules.specs.Io.{Io, OpenPath, pending_at, open_path}
 use Rattle.io_rules.specs.Transfer.{first_call}
 use Rattle.io_rules.specs.declared.io_call.Direction.TheVariants as Way
 use Rattle.io_rules.specs.declared.io_call.IoCall.{IoCall}
 use Rattle.io_state.proofs.HeldLemmas.{slot-held}
 use Rattle.io_state.proofs.WaitLemmas.{none-some, some-same, reading-moves}
-use Rattle.io_state.specs.Again.{IsAgain, IsKept, path_number}
+use Rattle.io_state.specs.Again.{IsAgain, IsPending, path_number}
 use Rattle.io_state.specs.Sound.{IsIo, MayWait, target_at, read_kind, read_kind_of}
 use Rattle.io_state.specs.Terminals.{MayRead}
 
@@ -63,8 +63,8 @@ something {X} o x e = subst (λ (o : Option X). IsSome o) (sym e) refl
 pub may-read : (io : Io) (p m number : ℕ) (kind : ReadKind) (call : IoCall) (regs : Regs) (opened : OpenPath)
     (code count : ℕ) → IsIo io → IsAgain call regs io p → path_number call regs ≡ number → open_path io p number ≡
     Some opened → opened.desc.target ≡ Term m → io_call_of code ≡ Some call → read_kind_of call ≡ Some kind
-    → 0 < count → MayRead io p m kind (unwrap_or (kept_at io p) (first_call code opened count))
-may-read io p m number kind call regs opened code count is again same named on coded reads some = by (kept_at io p) refl again
+    → 0 < count → MayRead io p m kind (unwrap_or (pending_at io p) (first_call code opened count))
+may-read io p m number kind call regs opened code count is again same named on coded reads some = by (pending_at io p) refl again
   where
     kind_is : read_kind code ≡ Some kind
     kind_is = ap (option_and_then read_kind_of) coded ∙ reads
@@ -75,19 +75,19 @@ may-read io p m number kind call regs opened code count is again same named on c
     here : target_at io.paths opened.path.0 ≡ Some (Term m)
     here = opened-target io p number opened named ∙ ap (λ (x : Target). Some x) on
 
-    by : (kept : Option Kept) → kept_at io p ≡ kept → IfSome kept (IsKept call regs io p) → MayRead io p m kind (unwrap_or kept (first_call code opened count))
+    by : (pending : Option PendingCall) → pending_at io p ≡ pending → IfSome pending (IsPending call regs io p) → MayRead io p m kind (unwrap_or pending (first_call code opened count))
     by None none again = record {
       may = may-wait io p number opened code 0 count named (something (direction_of code) Way.Reading moves) some (λ n e. moves);
       on = here;
       kind_is = kind_is;
-      same = subst (λ (o : Option Kept). IfSome o (λ (kept : Kept). kept ≡ first_call code opened count)) (sym none) tt;
+      same = subst (λ (o : Option PendingCall). IfSome o (λ (pending : PendingCall). pending ≡ first_call code opened count)) (sym none) tt;
     }
-    by (Some kept) found again =
-        let path : kept.path ≡ opened.path =
-        some-same kept.path opened.path (sym again.path ∙ ap (λ (k : ℕ). slot_of io.paths p k) same ∙ (opened-slot io p number opened named).0) in
+    by (Some pending) found again =
+        let path : pending.path ≡ opened.path =
+        some-same pending.path opened.path (sym again.path ∙ ap (λ (k : ℕ). slot_of io.paths p k) same ∙ (opened-slot io p number opened named).0) in
         record {
-          may = is.waits.calls p kept found;
+          may = is.waits.calls p pending found;
           on = ap (λ (s : SysPath). target_at io.paths s.0) path ∙ here;
           kind_is = ap (option_and_then read_kind_of) again.code ∙ reads;
-          same = subst (λ (o : Option Kept). IfSome o (λ (other : Kept). other ≡ kept)) (sym found) refl;
+          same = subst (λ (o : Option PendingCall). IfSome o (λ (other : PendingCall). other ≡ pending)) (sym found) refl;
         }

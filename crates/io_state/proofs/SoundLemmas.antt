@@ -7,7 +7,7 @@ use Rattle.std.proofs.lemmas.Bool.{cases_eq, cases_lt, ltb-true}
 use Rattle.std.proofs.lemmas.List.{length-set, length-replicate, get_or-set_same, get_or-set_other, get_or_past, get_or-replicate}
 use Rattle.io_model.specs.declared.path.Desc.{Desc}
 use Rattle.io_model.specs.Terminal.{Terminal, new_terminal}
-use Rattle.io_model.specs.declared.kept.Kept.{Kept}
+use Rattle.io_model.specs.declared.pending.PendingCall.{PendingCall}
 use Rattle.io_model.specs.declared.path.Target.{Target}
 use Rattle.io_model.specs.declared.path.Target.TheVariants.{File, Folder, Term, Pipe}
 use Rattle.io_model.specs.Path.{PathTable, ArePaths, desc_of, with_desc, with_slot, path_at, is_held, slot_of, paths_after_close, paths_after_begin, paths_after_dup, with_path, free_number, free_path, closed_desc}
@@ -127,19 +127,19 @@ first-target t x e = elim (cases_eq t 1) [
 
 -- the state at the start
 pub is-first : (paths : PathTable) (terminals : List Terminal) (pipes : List (Option (List ℕ)))
-    (calls : List (Option Kept)) → paths ≡ first_paths → ArePaths paths → terminals ≡ replicate 4 new_terminal
+    (calls : List (Option PendingCall)) → paths ≡ first_paths → ArePaths paths → terminals ≡ replicate 4 new_terminal
     → calls ≡ replicate 33 None → IsIo (record { paths = paths; terminals = terminals; pipes = pipes; calls = calls })
 is-first paths terminals pipes calls first are new none = record {
   paths = are;
   terminals = ap (length {A = Terminal}) new ∙ length-replicate 4 new_terminal;
-  calls = ap (length {A = Option Kept}) none ∙ length-replicate 33 (nothing {X = Kept});
+  calls = ap (length {A = Option PendingCall}) none ∙ length-replicate 33 (nothing {X = PendingCall});
   targets = record {
     pipes = λ s n e. absurd (let x : Pipe n ≡ Term 0 = at-first s (Pipe n) e in cc);
     one_path = λ s t n e f. absurd (let x : Pipe n ≡ Term 0 = at-first s (Pipe n) e in cc);
     terminals = λ s n e. (let x : Term n ≡ Term 0 = at-first s (Term n) e in let y : n ≡ 0 = cc in omega (arith, y));
   };
   waits = record {
-    calls = λ p call kept. absurd (none-some call (sym (ap (λ (calls : List (Option Kept)). get_or calls p None) none ∙ free-call p) ∙ kept));
+    calls = λ p call kept. absurd (none-some call (sym (ap (λ (calls : List (Option PendingCall)). get_or calls p None) none ∙ free-call p) ∙ kept));
     reads = λ n reading is. absurd (none-some reading (sym (ap (λ (terminals : List Terminal). (get_or terminals n new_terminal).reading) new ∙ ap (λ (t : Terminal). t.reading) (quiet n)) ∙ is));
   };
 }
@@ -147,10 +147,10 @@ is-first paths terminals pipes calls first are new none = record {
     at-first : (t : ℕ) (x : Target) → target_at paths t ≡ Some x → x ≡ Term 0
     at-first t x e = first-target t x (sym (ap (λ (paths : PathTable). target_at paths t) first) ∙ e)
 
-    free-call : (p : ℕ) → get_or (replicate 33 (nothing {X = Kept})) p None ≡ None
+    free-call : (p : ℕ) → get_or (replicate 33 (nothing {X = PendingCall})) p None ≡ None
     free-call p = elim (cases_lt p 33) [
       | inl within ↦ get_or-replicate 33 p None None within
-      | inr past ↦ get_or_past (replicate 33 (nothing {X = Kept})) p None (omega (arith, length-replicate 33 (nothing {X = Kept})))
+      | inr past ↦ get_or_past (replicate 33 (nothing {X = PendingCall})) p None (omega (arith, length-replicate 33 (nothing {X = PendingCall})))
     ]
 
     quiet : (n : ℕ) → get_or (replicate 4 new_terminal) n new_terminal ≡ new_terminal

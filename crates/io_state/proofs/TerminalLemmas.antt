@@ -9,17 +9,17 @@ use Rattle.io_model.specs.declared.path.Desc.{Desc}
 use Rattle.io_model.specs.declared.path.SysPath.{SysPath}
 use Rattle.io_model.specs.declared.path.Target.{Target}
 use Rattle.io_model.specs.declared.path.Target.TheVariants.{File, Folder, Term, Pipe}
-use Rattle.io_model.specs.declared.kept.Kept.{Kept}
+use Rattle.io_model.specs.declared.pending.PendingCall.{PendingCall}
 use Rattle.io_model.specs.declared.terminal.Progress.{Progress}
 use Rattle.io_model.specs.declared.terminal.ReadKind.{ReadKind}
-use Rattle.io_rules.specs.Io.{Io, kept_at, terminal_at, with_call, with_paths, with_terminal}
+use Rattle.io_rules.specs.Io.{Io, pending_at, terminal_at, with_call, with_paths, with_terminal}
 use Rattle.io_rules.specs.Close.{without_path, without_target}
 use Rattle.io_rules.specs.Processes.{closed_below, closed_if_open, without_user}
 use Rattle.io_rules.specs.Waiting.{pid, wait_target}
 use Rattle.io_state.proofs.HeldLemmas.{holder-within}
 use Rattle.io_state.proofs.WaitLemmas.{read-leaves, no-reader_off, waits-after_read, waits-after_write, waits-left, waits-released, waits-dropped, waits-forgotten}
 use Rattle.io_state.specs.Sound.{AreWaits, IsIo, IsNoRead, most_of}
-use Rattle.io_state.specs.Terminals.{MayRead, kept_after}
+use Rattle.io_state.specs.Terminals.{MayRead, pending_after}
 use Rattle.terminal_mgr.specs.Term.{read_of}
 
 -- a terminal changed, and its driver with it
@@ -36,15 +36,15 @@ terminal-changed screen change terms now drivers n t u old new same inside there
     (subst (λ (x : Terminal). change x u (screen old) (screen new)) (get_or_read terms n t inside here new_terminal) changed)))
 
 -- the state where a terminal and what is kept of a call changed
-pub is-io_changed : (io : Io) (p n : ℕ) (t : Terminal) (terminals : List Terminal) (kept now : Option Kept)
-    → terminals ≡ set io.terminals n t → now ≡ kept → AreWaits (with_call (with_terminal io n t) p kept) → IsIo io
+pub is-io_changed : (io : Io) (p n : ℕ) (t : Terminal) (terminals : List Terminal) (pending now : Option PendingCall)
+    → terminals ≡ set io.terminals n t → now ≡ pending → AreWaits (with_call (with_terminal io n t) p pending) → IsIo io
     → IsIo (record { paths = io.paths; terminals = terminals; pipes = io.pipes; calls = set io.calls p now })
-is-io_changed io p n t terminals kept now changed same waits is =
+is-io_changed io p n t terminals pending now changed same waits is =
     subst (λ (ts : List Terminal). IsIo (record { paths = io.paths; terminals = ts; pipes = io.pipes; calls = set io.calls p now })) (sym changed)
-    (subst (λ (k : Option Kept). IsIo (with_call (with_terminal io n t) p k)) (sym same) (record {
+    (subst (λ (k : Option PendingCall). IsIo (with_call (with_terminal io n t) p k)) (sym same) (record {
       paths = is.paths;
       terminals = length-set io.terminals n t ∙ is.terminals;
-      calls = length-set io.calls p kept ∙ is.calls;
+      calls = length-set io.calls p pending ∙ is.calls;
       targets = record { pipes = is.targets.pipes; one_path = is.targets.one_path; terminals = is.targets.terminals };
       waits = waits;
     }))
@@ -63,26 +63,26 @@ is-io_with_terminal io n t terminals changed leaves is =
     })
 
 -- after an attempt of a read
-pub is-io_read : (io : Io) (p n most : ℕ) (kind : ReadKind) (call : Kept) (answer : Progress)
-    (terminals : List Terminal) (kept : Option Kept) (before after : TerminalState) → IsIo io → MayRead io p n kind
+pub is-io_read : (io : Io) (p n most : ℕ) (kind : ReadKind) (call : PendingCall) (answer : Progress)
+    (terminals : List Terminal) (pending : Option PendingCall) (before after : TerminalState) → IsIo io → MayRead io p n kind
     call → most ≡ most_of call → terminals ≡ set io.terminals n (get_or terminals n new_terminal)
     → Reads (read_of (pid p) kind most) answer (terminal_at io n) (get_or terminals n new_terminal) before after
-    → kept ≡ kept_after answer call → IsIo (record {
+    → pending ≡ pending_after answer call → IsIo (record {
       paths = io.paths;
       terminals = terminals;
       pipes = io.pipes;
-      calls = set io.calls p kept;
+      calls = set io.calls p pending;
     })
-is-io_read io p n most kind call answer terminals kept before after is may same changed reads now =
+is-io_read io p n most kind call answer terminals pending before after is may same changed reads now =
     let t : Terminal = get_or terminals n new_terminal in
     let process : p < length io.calls = omega (arith, holder-within io.paths p call.path.0 is.paths may.may.held, is.calls) in
     let terminal : n < length io.terminals = omega (arith, is.targets.terminals call.path.0 n may.on, is.terminals) in
     let leaves = read-leaves (read_of (pid p) kind (most_of call)) answer (terminal_at io n) t before after
     (subst (λ (m : ℕ). Reads (read_of (pid p) kind m) answer (terminal_at io n) t before after) same reads) in
-    is-io_changed io p n t terminals (kept_after answer call) kept changed now (waits-after_read io p n kind call t answer process terminal may leaves is.waits) is
+    is-io_changed io p n t terminals (pending_after answer call) pending changed now (waits-after_read io p n kind call t answer process terminal may leaves is.waits) is
 
 -- after an attempt of a write
-pub is-io_written : (io : Io) (p n : ℕ) (terminals : List Terminal) → IsIo io → p < 33 → IfSome (kept_at io p)
+pub is-io_written : (io : Io) (p n : ℕ) (terminals : List Terminal) → IsIo io → p < 33 → IfSome (pending_at io p)
     (IsNoRead io) → terminals ≡ set io.terminals n (get_or terminals n new_terminal)
     → ((get_or terminals n new_terminal).reading ≡ None) ⊎ ((get_or terminals n new_terminal).reading ≡
     (terminal_at io n).reading) → IsIo (record {

@@ -6,12 +6,12 @@ use Rattle.std.proofs.lemmas.List.{length-set, get_or-set_same, get_or-set_other
 use Rattle.os9_base.specs.declared.registers.Pid.{Pid}
 use Rattle.os9_outer.specs.TerminalState.{TerminalState}
 use Rattle.io_model.specs.Edit.{Typing}
-use Rattle.io_model.specs.Kept.{kept_of, with_kept}
+use Rattle.io_model.specs.Pending.{pending_of, with_pending}
 use Rattle.io_model.specs.Path.{PathTable, ArePaths, desc_of, holds_path, paths_after_begin, paths_after_dup, paths_after_close, paths_after_inherit}
 use Rattle.io_model.specs.Terminal.{Terminal, new_terminal, Reads, Writes, IsCutShort, IsWritten, BreaksOff, Attempted, IsSameCall, is_refused, is_taken, read_attempt, kept_waiting, typed_attempt, attempt_by, typed, stored_bytes, stored_over, is_process, without_reading, released, forgotten}
 use Rattle.io_model.specs.declared.edit.LineEnd.{LineEnd}
 use Rattle.io_model.specs.declared.edit.LineEnd.TheVariants.{Line, EndOfFile}
-use Rattle.io_model.specs.declared.kept.Kept.{Kept}
+use Rattle.io_model.specs.declared.pending.PendingCall.{PendingCall}
 use Rattle.io_model.specs.declared.path.Desc.{Desc}
 use Rattle.io_model.specs.declared.path.Target.TheVariants.{Term}
 use Rattle.io_model.specs.declared.terminal.Progress.{Progress}
@@ -19,7 +19,7 @@ use Rattle.io_model.specs.declared.terminal.Progress.TheVariants as progress
 use Rattle.io_model.specs.declared.terminal.ReadKind.{ReadKind}
 use Rattle.io_model.specs.declared.terminal.Reading.{Reading}
 use Rattle.io_rules.specs.Codes.{io_call_of, direction_of, direction_of_call}
-use Rattle.io_rules.specs.Io.{Io, kept_at, terminal_at, target_of, with_paths, with_pipes, with_terminal, with_call}
+use Rattle.io_rules.specs.Io.{Io, pending_at, terminal_at, target_of, with_paths, with_pipes, with_terminal, with_call}
 use Rattle.io_rules.specs.Processes.{without_user}
 use Rattle.io_rules.specs.Waiting.{pid, wait_target}
 use Rattle.io_rules.specs.declared.io_call.Direction.TheVariants as Way
@@ -28,7 +28,7 @@ use Rattle.io_rules.specs.declared.io_call.IoCall.TheVariants as Call
 use Rattle.terminal_mgr.specs.Term.{read_of}
 use Rattle.io_state.proofs.HeldLemmas.{IsHeldStill, begun-still, doubled-still, closed-still, inherited-still, held-there}
 use Rattle.io_state.specs.Sound.{AreWaits, MayWait, SetsStatus, IsReadOf, IsWaitedFor, IsNoRead, read_kind, read_kind_of, most_of, target_at}
-use Rattle.io_state.specs.Terminals.{MayRead, count_of, kept_after}
+use Rattle.io_state.specs.Terminals.{MayRead, count_of, pending_after}
 
 abbrev nothing : {X : Type 0} → Option X
 nothing = None
@@ -42,7 +42,7 @@ some-same x y e = cc
 -- ---- paths and pipes
 
 -- a call on a path that is on the same moves bytes, or sets a status of it
-moves-still : {old : PathTable} (paths : PathTable) (call : Kept) → target_at paths call.path.0 ≡ target_at old
+moves-still : {old : PathTable} (paths : PathTable) (call : PendingCall) → target_at paths call.path.0 ≡ target_at old
     call.path.0 → IsSome (direction_of call.code) ⊎ SetsStatus old call → IsSome (direction_of call.code) ⊎ SetsStatus
     paths call
 moves-still paths call same (inl moves) = inl moves
@@ -50,7 +50,7 @@ moves-still paths call same (inr it) =
     inr (record { sets = it.sets; target = it.target; on = same ∙ it.on; on_disk = it.on_disk })
 
 -- each call that waits has its path still
-pub waits-with_paths : (io : Io) (paths : PathTable) → ((p : ℕ) (call : Kept) → kept_at io p ≡ Some call
+pub waits-with_paths : (io : Io) (paths : PathTable) → ((p : ℕ) (call : PendingCall) → pending_at io p ≡ Some call
     → holds_path io.paths p call.path.0 ≡ true → IsHeldStill io.paths paths p call.path.0) → AreWaits io
     → AreWaits (with_paths io paths)
 waits-with_paths io paths still are = record {
@@ -80,15 +80,15 @@ waits-doubled io p n are =
     waits-with_paths io (paths_after_dup io.paths p n) (λ q call kept held. doubled-still io.paths p n q call.path.0 held) are
 
 -- a process of which no call is kept is not one of which a call is kept
-pub apart-from : (io : Io) (p q : ℕ) (call : Kept) → kept_at io p ≡ None → kept_at io q ≡ Some call → q ≢ p
+pub apart-from : (io : Io) (p q : ℕ) (call : PendingCall) → pending_at io p ≡ None → pending_at io q ≡ Some call → q ≢ p
 apart-from io p q call none kept same =
-    none-some call (sym none ∙ ap (λ (k : ℕ). kept_at io k) (sym same) ∙ kept)
+    none-some call (sym none ∙ ap (λ (k : ℕ). pending_at io k) (sym same) ∙ kept)
 
-pub waits-closed : (io : Io) (p n : ℕ) → kept_at io p ≡ None → AreWaits io → AreWaits (with_paths io (paths_after_close io.paths p n))
+pub waits-closed : (io : Io) (p n : ℕ) → pending_at io p ≡ None → AreWaits io → AreWaits (with_paths io (paths_after_close io.paths p n))
 waits-closed io p n none are =
     waits-with_paths io (paths_after_close io.paths p n) (λ q call kept held. closed-still io.paths p n q call.path.0 (apart-from io p q call none kept) held) are
 
-pub waits-inherited : (io : Io) (parent child : ℕ) → kept_at io child ≡ None → AreWaits io → AreWaits (with_paths io (paths_after_inherit io.paths parent child))
+pub waits-inherited : (io : Io) (parent child : ℕ) → pending_at io child ≡ None → AreWaits io → AreWaits (with_paths io (paths_after_inherit io.paths parent child))
 waits-inherited io parent child none are =
     waits-with_paths io (paths_after_inherit io.paths parent child) (λ q call kept held. inherited-still io.paths parent child q call.path.0 (apart-from io child q call none kept) held) are
 
@@ -132,9 +132,9 @@ waits-read_gone io n t none are =
 
 -- ---- another call of a process is kept
 
-pub waits-with_call : (io : Io) (p : ℕ) (call : Option Kept) → p < length io.calls → ((now : Kept) → call ≡ Some now
+pub waits-with_call : (io : Io) (p : ℕ) (call : Option PendingCall) → p < length io.calls → ((now : PendingCall) → call ≡ Some now
     → MayWait io.paths p now) → ((n : ℕ) (reading : Reading) → (terminal_at io n).reading ≡ Some reading
-    → reading.process.0 ≡ p → IsWaitedFor io.paths (with_kept io.calls p call) n reading) → AreWaits io
+    → reading.process.0 ≡ p → IsWaitedFor io.paths (with_pending io.calls p call) n reading) → AreWaits io
     → AreWaits (with_call io p call)
 waits-with_call io p call within may reads are = record {
   calls = λ q now kept. elim (cases_eq q p) [
@@ -161,7 +161,7 @@ abbrev pub IsNoReader : Io → ℕ → Type 0
 IsNoReader io p = (n : ℕ) (reading : Reading) → (terminal_at io n).reading ≡ Some reading → reading.process.0 ≡ p → ⊥
 
 -- of a process without an unfinished read any call may be kept in which it may wait
-pub waits-kept : (io : Io) (p : ℕ) (call : Option Kept) → p < length io.calls → ((now : Kept) → call ≡ Some now
+pub waits-kept : (io : Io) (p : ℕ) (call : Option PendingCall) → p < length io.calls → ((now : PendingCall) → call ≡ Some now
     → MayWait io.paths p now) → IsNoReader io p → AreWaits io → AreWaits (with_call io p call)
 waits-kept io p call within may none are =
     waits-with_call io p call within may (λ n reading is same. absurd (none n reading is same)) are
@@ -190,16 +190,16 @@ if-some {X} (Some y) x P holds e = subst (λ (z : X). P z) (some-same y x e) hol
 
 -- the call that is kept of the process of an unfinished read
 kept-of : (io : Io) (p n : ℕ) (reading : Reading) → AreWaits io → (terminal_at io n).reading ≡ Some reading
-    → reading.process.0 ≡ p → (call : Kept) × (kept_at io p ≡ Some call) × IsReadOf io.paths n reading call
+    → reading.process.0 ≡ p → (call : PendingCall) × (pending_at io p ≡ Some call) × IsReadOf io.paths n reading call
 kept-of io p n reading are is same =
     let was = are.reads n reading is in
-    (was.call, ap (λ (k : ℕ). kept_at io k) (sym same) ∙ was.kept, was.read)
+    (was.call, ap (λ (k : ℕ). pending_at io k) (sym same) ∙ was.kept, was.read)
 
 -- a process whose kept call is no unfinished read has none
-pub no-reader : (io : Io) (p : ℕ) → IfSome (kept_at io p) (IsNoRead io) → AreWaits io → IsNoReader io p
+pub no-reader : (io : Io) (p : ℕ) → IfSome (pending_at io p) (IsNoRead io) → AreWaits io → IsNoReader io p
 no-reader io p free are n reading is same =
     let was = kept-of io p n reading are is same in
-    if-some (kept_at io p) was.0 (IsNoRead io) free was.1 n was.2.on (reading-moves was.0.code reading.kind was.2.kind)
+    if-some (pending_at io p) was.0 (IsNoRead io) free was.1 n was.2.on (reading-moves was.0.code reading.kind was.2.kind)
 
 -- ---- an attempt of a read
 
@@ -236,20 +236,20 @@ read-leaves request answer old new before now reads =
     outcome-leaves (is_refused answer) request answer old new before now reads.outcome
 
 -- the unfinished read of such a process is that of the call, and on that terminal
-reader-is : (io : Io) (p n m : ℕ) (kind : ReadKind) (call : Kept) (reading : Reading) → MayRead io p n kind call
+reader-is : (io : Io) (p n m : ℕ) (kind : ReadKind) (call : PendingCall) (reading : Reading) → MayRead io p n kind call
     → AreWaits io → (terminal_at io m).reading ≡ Some reading → reading.process.0 ≡ p → (m ≡ n) × IsReadOf io.paths m
     reading call
 reader-is io p n m kind call reading may are is same =
     let was = kept-of io p m reading are is same in
-    let here : was.0 ≡ call = if-some (kept_at io p) was.0 (λ (kept : Kept). kept ≡ call) may.same was.1 in
-    let read : IsReadOf io.paths m reading call = subst (λ (k : Kept). IsReadOf io.paths m reading k) here was.2 in
+    let here : was.0 ≡ call = if-some (pending_at io p) was.0 (λ (kept : PendingCall). kept ≡ call) may.same was.1 in
+    let read : IsReadOf io.paths m reading call = subst (λ (k : PendingCall). IsReadOf io.paths m reading k) here was.2 in
     ((let on : Some (Term m) ≡ Some (Term n) = sym read.on ∙ may.on in cc), read)
 
 reading-same : (reading : Reading) (process : Pid) (kind : ReadKind) (most : ℕ) → reading.process ≡ process → reading.kind ≡ kind → reading.most ≡ most → reading ≡ read_of process kind most
 reading-same reading process kind most a b c = λ i. record { process = a i; kind = b i; most = c i }
 
 -- it is the same read
-pub same-read : (io : Io) (p n : ℕ) (kind : ReadKind) (call : Kept) → MayRead io p n kind call → AreWaits io → IsSameCall (read_of (pid p) kind (most_of call)) (terminal_at io n)
+pub same-read : (io : Io) (p n : ℕ) (kind : ReadKind) (call : PendingCall) → MayRead io p n kind call → AreWaits io → IsSameCall (read_of (pid p) kind (most_of call)) (terminal_at io n)
 same-read io p n kind call may are = by (terminal_at io n).reading refl
   where
     by : (reading : Option Reading) → (terminal_at io n).reading ≡ reading → IfSome reading (λ reading. reading.process ≡ pid p → reading ≡ read_of (pid p) kind (most_of call))
@@ -258,21 +258,22 @@ same-read io p n kind call may are = by (terminal_at io n).reading refl
         let read = (reader-is io p n n kind call reading may are is (ap (λ (q : Pid). q.0) same)).1 in
         reading-same reading (pid p) kind (most_of call) same (some-same reading.kind kind (sym read.kind ∙ may.kind_is)) (sym read.most)
 
-call-same : (io : Io) (p q : ℕ) (call : Option Kept) → q ≡ p → p < length io.calls → kept_of (with_kept io.calls p call) q ≡ call
+call-same : (io : Io) (p q : ℕ) (call : Option PendingCall) → q ≡ p → p < length io.calls → pending_of (with_pending io.calls p call) q ≡ call
 call-same io p q call same within =
     ap (λ (k : ℕ). get_or (set io.calls p call) k None) same ∙ get_or-set_same io.calls p call None within
 
-kept-may : (io : Io) (p n : ℕ) (kind : ReadKind) (call : Kept) (answer : Progress) → MayRead io p n kind call → (now : Kept) → kept_after answer call ≡ Some now → MayWait io.paths p now
+kept-may : (io : Io) (p n : ℕ) (kind : ReadKind) (call : PendingCall) (answer : Progress) → MayRead io p n kind call → (now : PendingCall) → pending_after answer call ≡ Some now
+    → MayWait io.paths p now
 kept-may io p n kind call (progress.Done count) may now e = absurd (none-some now e)
 kept-may io p n kind call progress.Wait may now e =
-    subst (λ (k : Kept). MayWait io.paths p k) (some-same call now e) may.may
+    subst (λ (k : PendingCall). MayWait io.paths p k) (some-same call now e) may.may
 kept-may io p n kind call progress.End may now e = absurd (none-some now e)
 kept-may io p n kind call progress.Fault may now e = absurd (none-some now e)
 kept-may io p n kind call progress.NoMemory may now e = absurd (none-some now e)
 
 -- the read is over
-over-waits : (io : Io) (p n : ℕ) (kind : ReadKind) (call : Kept) (kept : Option Kept) (t : Terminal)
-    → p < length io.calls → n < length io.terminals → MayRead io p n kind call → ((now : Kept) → kept ≡ Some now
+over-waits : (io : Io) (p n : ℕ) (kind : ReadKind) (call : PendingCall) (kept : Option PendingCall) (t : Terminal)
+    → p < length io.calls → n < length io.terminals → MayRead io p n kind call → ((now : PendingCall) → kept ≡ Some now
     → MayWait io.paths p now) → t.reading ≡ None → AreWaits io → AreWaits (with_call (with_terminal io n t) p kept)
 over-waits io p n kind call kept t process terminal may allowed none are =
     let gone = waits-read_gone io n t none are in
@@ -283,14 +284,14 @@ over-waits io p n kind call kept t process terminal may allowed none are =
     none-some reading (sym none ∙ sym (ap (λ (x : Terminal). x.reading) (terminal-same io n m t here terminal)) ∙ is)) gone
 
 -- the read waits
-waiting-waits : (io : Io) (p n : ℕ) (kind : ReadKind) (call : Kept) (t : Terminal) → p < length io.calls
+waiting-waits : (io : Io) (p n : ℕ) (kind : ReadKind) (call : PendingCall) (t : Terminal) → p < length io.calls
     → MayRead io p n kind call → (t.reading ≡ Some (read_of (pid p) kind (most_of call))) ⊎
     (t.reading ≡ (terminal_at io n).reading) → AreWaits io → AreWaits (with_call (with_terminal io n t) p (Some call))
 waiting-waits io p n kind call t process may leaves are =
     waits-with_terminal (with_call io p (Some call)) n t (λ reading is. elim leaves [
       | inl new ↦
           let here : reading ≡ read_of (pid p) kind (most_of call) = some-same reading (read_of (pid p) kind (most_of call)) (sym is ∙ new) in
-          subst (λ (r : Reading). IsWaitedFor io.paths (with_kept io.calls p (Some call)) n r) (sym here) (record {
+          subst (λ (r : Reading). IsWaitedFor io.paths (with_pending io.calls p (Some call)) n r) (sym here) (record {
             call = call;
             kept = call-same io p p (Some call) refl process;
             read = record { on = may.on; kind = may.kind_is; most = refl };
@@ -300,23 +301,23 @@ waiting-waits io p n kind call t process may leaves are =
   where
     kept : AreWaits (with_call io p (Some call))
     kept =
-        waits-with_call io p (Some call) process (λ now e. subst (λ (k : Kept). MayWait io.paths p k) (some-same call now e) may.may) (λ m reading is same. record {
+        waits-with_call io p (Some call) process (λ now e. subst (λ (k : PendingCall). MayWait io.paths p k) (some-same call now e) may.may) (λ m reading is same. record {
           call = call;
           kept = call-same io p reading.process.0 (Some call) same process;
           read = (reader-is io p n m kind call reading may are is same).1;
         }) are
 
 -- after an attempt of a read
-pub waits-after_read : (io : Io) (p n : ℕ) (kind : ReadKind) (call : Kept) (t : Terminal) (answer : Progress)
+pub waits-after_read : (io : Io) (p n : ℕ) (kind : ReadKind) (call : PendingCall) (t : Terminal) (answer : Progress)
     → p < length io.calls → n < length io.terminals → MayRead io p n kind call
     → Leaves (read_of (pid p) kind (most_of call)) answer (terminal_at io n) t → AreWaits io
-    → AreWaits (with_call (with_terminal io n t) p (kept_after answer call))
+    → AreWaits (with_call (with_terminal io n t) p (pending_after answer call))
 waits-after_read io p n kind call t answer process terminal may (over none) are =
-    over-waits io p n kind call (kept_after answer call) t process terminal may (kept-may io p n kind call answer may) none are
+    over-waits io p n kind call (pending_after answer call) t process terminal may (kept-may io p n kind call answer may) none are
 waits-after_read io p n kind call t answer process terminal may (begun wait is) are =
-    subst (λ (a : Progress). AreWaits (with_call (with_terminal io n t) p (kept_after a call))) (sym wait) (waiting-waits io p n kind call t process may (inl is) are)
+    subst (λ (a : Progress). AreWaits (with_call (with_terminal io n t) p (pending_after a call))) (sym wait) (waiting-waits io p n kind call t process may (inl is) are)
 waits-after_read io p n kind call t answer process terminal may (waits wait is) are =
-    subst (λ (a : Progress). AreWaits (with_call (with_terminal io n t) p (kept_after a call))) (sym wait) (waiting-waits io p n kind call t process may (inr is) are)
+    subst (λ (a : Progress). AreWaits (with_call (with_terminal io n t) p (pending_after a call))) (sym wait) (waiting-waits io p n kind call t process may (inr is) are)
 
 -- ---- an attempt of a write
 
@@ -339,7 +340,7 @@ waits-left io n t leaves are = elim leaves [
 ]
 
 -- where no call of the process is kept then
-pub waits-after_write : (io : Io) (p n : ℕ) (t : Terminal) → p < length io.calls → IfSome (kept_at io p) (IsNoRead io)
+pub waits-after_write : (io : Io) (p n : ℕ) (t : Terminal) → p < length io.calls → IfSome (pending_at io p) (IsNoRead io)
     → (t.reading ≡ None) ⊎ (t.reading ≡ (terminal_at io n).reading) → AreWaits io
     → AreWaits (with_call (with_terminal io n t) p None)
 waits-after_write io p n t process free leaves are =
@@ -391,7 +392,7 @@ stored-front stored room into rest count counted is =
 reads-here : (io : Io) (p n : ℕ) (reading : Reading) → AreWaits io → (terminal_at io n).reading ≡ Some reading → reading.process.0 ≡ p → wait_target io p ≡ Some (Term n)
 reads-here io p n reading are is same =
     let was = kept-of io p n reading are is same in
-    ap (option_and_then (λ (kept : Kept). target_of io kept.path)) was.1 ∙ was.2.on
+    ap (option_and_then (λ (kept : PendingCall). target_of io kept.path)) was.1 ∙ was.2.on
 
 -- who waits on no terminal reads none
 pub no-reader_off : (io : Io) (p : ℕ) → ((n : ℕ) → wait_target io p ≡ Some (Term n) → ⊥) → AreWaits io → IsNoReader io p
@@ -455,5 +456,5 @@ waits-forgotten io p process are =
     })
 
 -- a call that waits is on a path that is there
-pub call-there : (io : Io) (p : ℕ) (call : Kept) → ArePaths io.paths → AreWaits io → kept_at io p ≡ Some call → IsSome (desc_of io.paths call.path.0)
+pub call-there : (io : Io) (p : ℕ) (call : PendingCall) → ArePaths io.paths → AreWaits io → pending_at io p ≡ Some call → IsSome (desc_of io.paths call.path.0)
 call-there io p call paths are kept = held-there io.paths p call.path.0 paths (are.calls p call kept).held

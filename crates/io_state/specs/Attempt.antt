@@ -3,7 +3,7 @@ use Rattle.std.specs.Prelude.{ℕ, List}
 use Rattle.os9_base.specs.declared.call.CallEnd.{CallEnd}
 use Rattle.os9_outer.specs.TerminalState.{TerminalState}
 use Rattle.call_rules.specs.CallResult.{CallResult}
-use Rattle.call_rules.specs.Inner.{Inner}
+use Rattle.call_rules.specs.Processes.{Processes}
 use Rattle.io_rules.specs.Attempts.{IoAttempts}
 use Rattle.io_rules.specs.Io.{Io}
 use Rattle.io_rules.specs.declared.io_call.IoCall.{IoCall}
@@ -12,7 +12,7 @@ use Rattle.proc_state.specs.declared.state.ProcState.{ProcState}
 
 -- an attempt of a call by a process on a machine with `drives` drives: its end, and the processes, the state and the
 -- terminals after it; the process does not have its result yet
-pub record Attempts (call : IoCall) (m : Inner) (io : Io) (drives p : ℕ) (end : CallEnd) (processes : ProcState)
+pub record Attempts (call : IoCall) (m : Processes) (io : Io) (drives p : ℕ) (end : CallEnd) (processes : ProcState)
     (new : Io) (before after : List TerminalState) : Type 0 where
   pub result : CallResult
   pub attempt : IoAttempts call m io drives p result new before after

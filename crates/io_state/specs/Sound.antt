@@ -1,10 +1,10 @@
 -- The invariant of the state of input and output.
 use Rattle.std.specs.Prelude.{◌≡◌, ◌⊎◌, ℕ, ◌<◌, min, true, ⊤, Option, Some, None, IsSome, List, option_map, option_and_then, length}
 use Rattle.std.specs.Option.{option_map_or}
-use Rattle.io_model.specs.Kept.{kept_of}
+use Rattle.io_model.specs.Pending.{pending_of}
 use Rattle.io_model.specs.Path.{PathTable, ArePaths, desc_of, holds_path, new_number, paths_after_begin}
 use Rattle.io_model.specs.Pipe.{IsPipe, free_pipe, pipes_after_begin}
-use Rattle.io_model.specs.declared.kept.Kept.{Kept}
+use Rattle.io_model.specs.declared.pending.PendingCall.{PendingCall}
 use Rattle.io_model.specs.declared.path.Target.{Target}
 use Rattle.io_model.specs.declared.path.Target.TheVariants.{File, Folder, Term, Pipe}
 use Rattle.io_model.specs.declared.terminal.ReadKind.{ReadKind}
@@ -12,7 +12,7 @@ use Rattle.io_model.specs.declared.terminal.ReadKind.TheVariants.{Bytes, WholeLi
 use Rattle.io_model.specs.declared.terminal.Reading.{Reading}
 use Rattle.io_model.specs.declared.terminal.TheConstants.{TYPE_AHEAD}
 use Rattle.io_rules.specs.Codes.{io_call_of, direction_of}
-use Rattle.io_rules.specs.Io.{Io, kept_at, terminal_at, new_desc, with_paths, with_pipes}
+use Rattle.io_rules.specs.Io.{Io, pending_at, terminal_at, new_desc, with_paths, with_pipes}
 use Rattle.io_rules.specs.declared.io_call.Direction.TheVariants as Way
 use Rattle.io_rules.specs.declared.io_call.IoCall.{IoCall}
 use Rattle.io_rules.specs.declared.io_call.IoCall.TheVariants as Call
@@ -49,11 +49,11 @@ abbrev pub read_kind : ℕ → Option ReadKind
 read_kind code = option_and_then read_kind_of (io_call_of code)
 
 -- the number of bytes that a call asks a terminal for
-abbrev pub most_of : Kept → ℕ
+abbrev pub most_of : PendingCall → ℕ
 most_of call = min call.count TYPE_AHEAD
 
 -- a call sets a status, and its path is on a file or a directory
-pub record SetsStatus (paths : PathTable) (call : Kept) : Type 0 where
+pub record SetsStatus (paths : PathTable) (call : PendingCall) : Type 0 where
   pub sets : io_call_of call.code ≡ Some Call.SetStt
   pub target : Target
   pub on : target_at paths call.path.0 ≡ Some target
@@ -61,32 +61,33 @@ pub record SetsStatus (paths : PathTable) (call : Kept) : Type 0 where
 
 -- a process may wait in this call: it moves bytes or sets the status of a file, not all of it was done, the process
 -- holds its path, and on a terminal it reads
-pub record MayWait (paths : PathTable) (p : ℕ) (call : Kept) : Type 0 where
+pub record MayWait (paths : PathTable) (p : ℕ) (call : PendingCall) : Type 0 where
   pub moves : IsSome (direction_of call.code) ⊎ SetsStatus paths call
   pub left : call.moved < call.count
   pub held : holds_path paths p call.path.0 ≡ true
   pub reads : (n : ℕ) → target_at paths call.path.0 ≡ Some (Term n) → direction_of call.code ≡ Some Way.Reading
 
 -- this call makes this read of a terminal
-pub record IsReadOf (paths : PathTable) (n : ℕ) (reading : Reading) (call : Kept) : Type 0 where
+pub record IsReadOf (paths : PathTable) (n : ℕ) (reading : Reading) (call : PendingCall) : Type 0 where
   pub on : target_at paths call.path.0 ≡ Some (Term n)
   pub kind : read_kind call.code ≡ Some reading.kind
   pub most : most_of call ≡ reading.most
 
 -- the process of an unfinished read of a terminal waits in the call that makes it
-pub record IsWaitedFor (paths : PathTable) (calls : List (Option Kept)) (n : ℕ) (reading : Reading) : Type 0 where
-  pub call : Kept
-  pub kept : kept_of calls reading.process.0 ≡ Some call
+pub record IsWaitedFor (paths : PathTable) (calls : List (Option PendingCall)) (n : ℕ) (reading : Reading) : Type
+    0 where
+  pub call : PendingCall
+  pub kept : pending_of calls reading.process.0 ≡ Some call
   pub read : IsReadOf paths n reading call
 
 -- the invariant of the pending calls and of the unfinished reads
 pub record AreWaits (io : Io) : Type 0 where
-  pub calls : (p : ℕ) (call : Kept) → kept_at io p ≡ Some call → MayWait io.paths p call
+  pub calls : (p : ℕ) (call : PendingCall) → pending_at io p ≡ Some call → MayWait io.paths p call
   pub reads : (n : ℕ) (reading : Reading) → (terminal_at io n).reading ≡ Some reading
       → IsWaitedFor io.paths io.calls n reading
 
 -- a call is not an unfinished read: it writes, or its path is on no terminal
-abbrev pub IsNoRead : Io → Kept → Type 0
+abbrev pub IsNoRead : Io → PendingCall → Type 0
 IsNoRead io call =
     (n : ℕ) → target_at io.paths call.path.0 ≡ Some (Term n) → direction_of call.code ≡ Some Way.Reading → ⊥
 

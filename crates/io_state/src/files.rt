@@ -3,9 +3,9 @@
 ghost use Rattle.std.specs.Prelude.{◌≡◌, ◌<◌, ◌&&◌, true, Some, IfSome, IsSome, is_some};
 ghost use Rattle.std.specs.Result.{result_ok};
 ghost use Rattle.io_model.specs.Path.{desc_of, new_number, paths_after_begin, with_desc};
-ghost use Rattle.io_rules.specs.Io.{new_desc as new_desc_lem, with_paths};
-ghost use Rattle.io_rules.specs.Modes.{has_bit_of as has_bit_of_lem};
-ghost use Rattle.io_state.specs.Files.{IsOnDisk, is_of_file as is_of_file_lem, is_path_on as is_path_on_lem, some_path_on};
+ghost use Rattle.io_rules.specs.Io.{new_desc as new_desc_model, with_paths};
+ghost use Rattle.io_rules.specs.Modes.{has_bit_of as has_bit_of_model};
+ghost use Rattle.io_state.specs.Files.{IsOnDisk, is_of_file as is_of_file_model, is_path_on as is_path_on_model, some_path_on};
 
 use crate::state::{IoState, new_desc};
 use io_model::path::{Desc, PathsFull, SysPath, Target};
@@ -33,7 +33,7 @@ impl IoState {
         requires disk { IsOnDisk target }
         ensures number { result_ok result ≡ new_number self.old.paths p.0 }
         ensures io { self.new ≡ with_paths self.old
-            (paths_after_begin self.old.paths p.0 (new_desc_lem target mode)) }
+            (paths_after_begin self.old.paths p.0 (new_desc_model target mode)) }
     {
         self.paths.begin(p, new_desc(target, mode))
     }
@@ -82,7 +82,7 @@ impl IoState {
     /// bits?
     pub fn is_on_path_of_mode(&self, drive: u8, number: u32, bits: u8) -> bool
         ensures { result
-            ≡ some_path_on self.now drive number (λ desc. has_bit_of_lem bits desc.mode) }
+            ≡ some_path_on self.now drive number (λ desc. has_bit_of_model bits desc.mode) }
     {
         self.paths
             .descs()
@@ -107,7 +107,7 @@ fn with_ticks(desc: Desc, ticks: u16) -> Desc
 
 /// Is a path on the file or directory of this number of a drive?
 fn is_path_on(drive: u8, number: u32, desc: &Option<Desc>) -> bool
-    ensures { result ≡ is_path_on_lem drive number (λ desc. true) desc.now }
+    ensures { result ≡ is_path_on_model drive number (λ desc. true) desc.now }
 {
     match desc {
         Some(desc) => is_of_file(drive, number, desc.target),
@@ -118,7 +118,7 @@ fn is_path_on(drive: u8, number: u32, desc: &Option<Desc>) -> bool
 /// Is a path on this file or directory, and has its mode one of these bits?
 fn is_path_of_mode_on(drive: u8, number: u32, bits: u8, desc: &Option<Desc>) -> bool
     ensures { result
-        ≡ is_path_on_lem drive number (λ desc. has_bit_of_lem bits desc.mode) desc.now }
+        ≡ is_path_on_model drive number (λ desc. has_bit_of_model bits desc.mode) desc.now }
 {
     match desc {
         Some(desc) => is_of_file(drive, number, desc.target) && has_bit_of(bits, desc.mode),
@@ -128,7 +128,7 @@ fn is_path_of_mode_on(drive: u8, number: u32, bits: u8, desc: &Option<Desc>) -> 
 
 /// Is this target the file or directory of this number of a drive?
 fn is_of_file(drive: u8, number: u32, target: Target) -> bool
-    ensures { result ≡ is_of_file_lem drive number target }
+    ensures { result ≡ is_of_file_model drive number target }
 {
     match target {
         Target::File(on, file) => drive == on && number == file,
@@ -139,7 +139,7 @@ fn is_of_file(drive: u8, number: u32, target: Target) -> bool
 
 /// Has a mode one of these bits?
 fn has_bit_of(bits: u8, mode: u8) -> bool
-    ensures { result ≡ has_bit_of_lem bits mode }
+    ensures { result ≡ has_bit_of_model bits mode }
 {
     mode & bits != 0
 }

@@ -2,7 +2,7 @@
 
 ghost use Rattle.std.specs.Prelude.{◌≡◌, ◌<◌, None};
 ghost use Rattle.io_model.specs.Path.{slot_of};
-ghost use Rattle.io_rules.specs.Io.{kept_at, with_call};
+ghost use Rattle.io_rules.specs.Io.{pending_at, with_call};
 ghost use Rattle.io_rules.specs.Processes.{closed_below, closed_if_open, io_ended, io_started, without_user};
 
 use crate::state::IoState;
@@ -11,11 +11,11 @@ use os9_base::registers::Pid;
 
 impl IoState {
     /// Gives a new process images of its parent's standard paths (System Programmer's Manual,
-    /// F$Fork). No call of it is kept.
+    /// F$Fork). No call of it is pending.
     pub fn start(&mut self, parent: Pid, child: Pid)
         requires parent { parent.0 < 33 }
         requires child { child.0 < 33 }
-        requires quiet { kept_at self.old child.0 ≡ None }
+        requires quiet { pending_at self.old child.0 ≡ None }
         ensures { self.new ≡ io_started self.old parent.0 child.0 }
     {
         self.paths.inherit(parent, child);
@@ -35,15 +35,15 @@ impl IoState {
     fn forget(&mut self, p: Pid)
         requires { p.0 < 33 }
         ensures io { self.new ≡ with_call (without_user self.old p.0) p.0 None }
-        ensures quiet { kept_at self.new p.0 ≡ None }
+        ensures quiet { pending_at self.new p.0 ≡ None }
     {
         self.terminals.forget(p);
         self.calls[p.0 as usize] = None;
     }
 
-    /// Closes the numbers of a process without a kept call.
+    /// Closes the numbers of a process without a pending call.
     fn close_all(&mut self, p: Pid)
-        requires { kept_at self.old p.0 ≡ None }
+        requires { pending_at self.old p.0 ≡ None }
         ensures { self.new ≡ closed_below self.old p.0 16 }
     {
         for number in 0..PROCESS_PATHS {
@@ -53,9 +53,9 @@ impl IoState {
 
     /// Closes a number of the process, if it names a path.
     fn close_if_open(&mut self, p: Pid, n: u8)
-        requires { kept_at self.old p.0 ≡ None }
+        requires { pending_at self.old p.0 ≡ None }
         ensures io { self.new ≡ closed_if_open self.old p.0 n (slot_of self.old.paths p.0 n) }
-        ensures quiet { kept_at self.new p.0 ≡ None }
+        ensures quiet { pending_at self.new p.0 ≡ None }
     {
         if self.slot(p, n).is_some() {
             self.close(p, n);

@@ -5,13 +5,13 @@ ghost use Rattle.std.specs.Result.{result_ok};
 ghost use Rattle.io_model.specs.Path.{ArePaths, IsOpen, slot_of, new_number, free_number, paths_after_begin, paths_after_dup};
 ghost use Rattle.io_model.specs.Pipe.{pipes_after_begin};
 ghost use Rattle.io_model.specs.declared.path.Target.TheVariants.{Term};
-ghost use Rattle.io_rules.specs.Status.{ready_count as ready_count_lem};
+ghost use Rattle.io_rules.specs.Status.{ready_count as ready_count_model};
 ghost use Rattle.io_state.specs.Sound.{IsThere, MayWait, IsNoRead, pipe_number, pipe_opened};
 ghost use Rattle.io_rules.specs.Close.{after_close};
-ghost use Rattle.io_rules.specs.Io.{first_io, first_paths as first_paths_lem, new_desc as new_desc_lem, open_path as open_path_lem, with_paths, with_pipes, with_call, kept_at};
+ghost use Rattle.io_rules.specs.Io.{first_io, first_paths as first_paths_model, new_desc as new_desc_model, open_path as open_path_model, with_paths, with_pipes, with_call, pending_at};
 
 use crate::terminals::Terminals;
-use io_model::kept::Kept;
+use io_model::pending::PendingCall;
 use io_model::path::{Desc, PathsFull, SysPath, Target};
 use io_model::pipe::PipeId;
 use os9_base::call::OutOfMemory;
@@ -31,7 +31,7 @@ pub struct IoState {
     pub(crate) paths: Paths,
     pub(crate) terminals: Terminals,
     pub(crate) pipes: Pipes,
-    pub(crate) calls: [Option<Kept>; PROCESSES],
+    pub(crate) calls: [Option<PendingCall>; PROCESSES],
 }
 
 impl Model for IoState {
@@ -69,7 +69,7 @@ impl IoState {
     /// The path that a number of a process names, and its descriptor; None if it names none.
     pub fn open_path(&self, p: Pid, n: u8) -> Option<(SysPath, Desc)>
         ensures path { option_map (λ found. record { path = found.0; desc = found.1 }) result
-            ≡ open_path_lem self.now p.0 n }
+            ≡ open_path_model self.now p.0 n }
         ensures there { IfSome result (λ found. IsThere self.now found.1.target) }
         ensures low { IfSome result (λ found. found.0.0 < 65) }
     {
@@ -81,7 +81,7 @@ impl IoState {
     /// The number of bytes that an existing terminal or pipe has for a read.
     pub fn ready_count(&self, target: Target) -> u16
         requires { IsThere self.now target }
-        ensures { result ≡ ready_count_lem self.now target }
+        ensures { result ≡ ready_count_model self.now target }
     {
         match target {
             Target::File(_, _) | Target::Folder(_, _) => 0,
@@ -101,7 +101,7 @@ impl IoState {
         requires terminal { terminal < 4 }
         ensures number { result_ok result ≡ new_number self.old.paths p.0 }
         ensures io { self.new ≡ with_paths self.old
-            (paths_after_begin self.old.paths p.0 (new_desc_lem (Term terminal) mode)) }
+            (paths_after_begin self.old.paths p.0 (new_desc_model (Term terminal) mode)) }
     {
         self.paths.begin(p, new_desc(Target::Term(terminal), mode))
     }
@@ -146,7 +146,7 @@ impl IoState {
     /// pipe with its path.
     pub fn close(&mut self, p: Pid, n: u8)
         requires open { IsOpen self.old.paths p.0 n }
-        requires quiet { kept_at self.old p.0 ≡ None }
+        requires quiet { pending_at self.old p.0 ≡ None }
         ensures { self.new ≡ after_close self.old p.0 n }
     {
         let Some(desc) = self.paths.close(p, n) else {
@@ -157,21 +157,21 @@ impl IoState {
         }
     }
 
-    /// Keeps a pending call of a process, or none, in place of the kept one, which must not be a
+    /// Keeps a pending call of a process, or none, in place of the old one, which must not be a
     /// read of a terminal.
-    pub fn keep(&mut self, p: Pid, kept: Option<Kept>)
+    pub fn keep(&mut self, p: Pid, pending: Option<PendingCall>)
         requires process { p.0 < 33 }
-        requires may { IfSome kept (MayWait self.old.paths p.0) }
-        requires no_read { IfSome (kept_at self.old p.0) (IsNoRead self.old) }
-        ensures { self.new ≡ with_call self.old p.0 kept }
+        requires may { IfSome pending (MayWait self.old.paths p.0) }
+        requires no_read { IfSome (pending_at self.old p.0) (IsNoRead self.old) }
+        ensures { self.new ≡ with_call self.old p.0 pending }
     {
-        self.calls[p.0 as usize] = kept;
+        self.calls[p.0 as usize] = pending;
     }
 }
 
 /// The paths of process 2: its numbers 0, 1 and 2 are images of one path on TERM.
 fn first_paths(alloc: Global) -> Result<Paths, OutOfMemory>
-    ensures paths { IfOk result (λ paths. paths ≡ first_paths_lem) }
+    ensures paths { IfOk result (λ paths. paths ≡ first_paths_model) }
     ensures shape { IfOk result ArePaths }
 {
     let mut paths = Paths::new(alloc)?;
@@ -186,7 +186,7 @@ fn first_paths(alloc: Global) -> Result<Paths, OutOfMemory>
 
 /// The descriptor of a new path: its position is 0, and its requests do not wait.
 pub fn new_desc(target: Target, mode: u8) -> Desc
-    ensures { result ≡ new_desc_lem target mode }
+    ensures { result ≡ new_desc_model target mode }
 {
     let at = 0;
     let ticks = 0;

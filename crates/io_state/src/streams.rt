@@ -2,14 +2,14 @@
 
 ghost use Rattle.std.specs.Prelude.{◌≡◌, ◌<◌, ◌≤◌, length, take};
 ghost use Rattle.io_model.specs.Pipe.{IsPipe, bytes_moved, moved_count, read_answer, read_line_answer, write_answer};
-ghost use Rattle.io_rules.specs.Alone.{is_alone as is_alone_lem, is_direction as is_direction_lem, is_in_wait as is_in_wait_lem, is_outside as is_outside_lem};
-ghost use Rattle.io_rules.specs.Codes.{direction_of as direction_of_lem};
-ghost use Rattle.io_rules.specs.Io.{kept_at, pipe_bytes};
+ghost use Rattle.io_rules.specs.Alone.{is_alone as is_alone_model, is_direction as is_direction_model, is_in_wait as is_in_wait_model, is_outside as is_outside_model};
+ghost use Rattle.io_rules.specs.Codes.{direction_of as direction_of_model};
+ghost use Rattle.io_rules.specs.Io.{pending_at, pipe_bytes};
 ghost use Rattle.io_rules.specs.Pipes.{after_taking, after_adding};
 ghost use Rattle.io_state.specs.Sound.{IsIo};
 
 use crate::state::IoState;
-use io_model::kept::Kept;
+use io_model::pending::PendingCall;
 use io_model::path::SysPath;
 use io_model::pipe::{PIPE_BYTES, PipeAns, PipeId};
 use io_rules::io_call::{Direction, io_call};
@@ -18,9 +18,9 @@ use os9_base::registers::Pid;
 
 impl IoState {
     /// The pending call of a process on a terminal or a pipe; None if there is none.
-    pub fn kept(&self, p: Pid) -> Option<Kept>
+    pub fn pending(&self, p: Pid) -> Option<PendingCall>
         requires { p.0 < 33 }
-        ensures kept { result ≡ kept_at self.now p.0 }
+        ensures kept { result ≡ pending_at self.now p.0 }
         ensures sound { IsIo self.now }
     {
         self.calls[p.0 as usize]
@@ -29,7 +29,7 @@ impl IoState {
     /// Would a process that waits on a path in this direction be alone: does every other process
     /// with the path wait on it in this direction too?
     pub fn is_alone(&self, p: Pid, path: SysPath, direction: Direction) -> bool
-        ensures { result ≡ is_alone_lem self.now p.0 path.0 direction }
+        ensures { result ≡ is_alone_model self.now p.0 path.0 direction }
     {
         for number in 0..PROCESS_PLACES {
             if self.is_outside(p, path, direction, Pid(number)) {
@@ -42,7 +42,7 @@ impl IoState {
     /// Does a process `q` other than `p` hold the path, without being in this wait on it?
     fn is_outside(&self, p: Pid, path: SysPath, direction: Direction, q: Pid) -> bool
         requires { q.0 < 33 }
-        ensures { result ≡ is_outside_lem self.now p.0 path.0 direction q.0 }
+        ensures { result ≡ is_outside_model self.now p.0 path.0 direction q.0 }
     {
         q != p
             && self.paths.holds(q, path)
@@ -109,18 +109,18 @@ impl IoState {
 }
 
 /// Is a pending call in this wait: does it move bytes in this direction, on this path?
-fn is_in_wait(path: SysPath, direction: Direction, kept: Option<Kept>) -> bool
-    ensures { result ≡ is_in_wait_lem path.0 direction kept }
+fn is_in_wait(path: SysPath, direction: Direction, pending: Option<PendingCall>) -> bool
+    ensures { result ≡ is_in_wait_model path.0 direction pending }
 {
-    match kept {
-        Some(kept) => kept.path == path && is_direction(direction, direction_of(kept.code)),
+    match pending {
+        Some(pending) => pending.path == path && is_direction(direction, direction_of(pending.code)),
         None => false,
     }
 }
 
 /// Is this the direction?
 fn is_direction(direction: Direction, other: Option<Direction>) -> bool
-    ensures { result ≡ is_direction_lem direction other }
+    ensures { result ≡ is_direction_model direction other }
 {
     matches!(
         (direction, other),
@@ -131,7 +131,7 @@ fn is_direction(direction: Direction, other: Option<Direction>) -> bool
 
 /// The direction in which the call of a code moves bytes; None if it moves none.
 pub(crate) fn direction_of(code: u8) -> Option<Direction>
-    ensures { result ≡ direction_of_lem code }
+    ensures { result ≡ direction_of_model code }
 {
     match io_call(code) {
         Some(call) => call.direction(),

@@ -3,14 +3,15 @@
 ghost use Rattle.std.specs.Prelude.{◌≡◌, ◌<◌, ◌≤◌, None, IfSome, length, take, vec_len};
 ghost use Rattle.io_model.specs.Line.{line_length, line_put};
 ghost use Rattle.io_model.specs.Terminal.{Arrives, Reads, Writes, stored_bytes};
-ghost use Rattle.io_rules.specs.Io.{kept_at, terminal_at, with_terminal};
+ghost use Rattle.io_rules.specs.Io.{pending_at, terminal_at, with_terminal};
 ghost use Rattle.io_state.specs.Sound.{IsNoRead, most_of};
-ghost use Rattle.io_state.specs.Terminals.{ChangesInCall, ChangesWithDriver, MayRead, count_of, kept_after as kept_after_lem};
+ghost use Rattle.io_state.specs.Terminals as model;
+ghost use Rattle.io_state.specs.Terminals.{ChangesInCall, ChangesWithDriver, MayRead, count_of};
 ghost use Rattle.terminal_mgr.specs.Term.{read_of};
 
 use crate::state::IoState;
 use device_table::devices::Devices;
-use io_model::kept::Kept;
+use io_model::pending::PendingCall;
 use io_model::terminal::{Arrival, Progress, ReadKind, Reading, TYPE_AHEAD};
 use os9_base::registers::Pid;
 use os9_outer::terminal::CharDriver;
@@ -18,13 +19,13 @@ use os9_outer::terminal::CharDriver;
 impl IoState {
     /// An attempt of a read of a terminal in this call (Level Two manual, SCF). It asks for the
     /// bytes of the call, but at most 256, and moves them to the front of `into`. If it waits, the
-    /// call is kept; if the read is over, no call of the process is kept.
+    /// call is pending; if the read is over, no call of the process is pending.
     pub fn read_terminal(
         &mut self,
         p: Pid,
         terminal: u8,
         kind: ReadKind,
-        call: Kept,
+        call: PendingCall,
         into: &mut [u8; TYPE_AHEAD],
         devices: &mut Devices,
     ) -> Progress
@@ -36,7 +37,8 @@ impl IoState {
         ensures stored { take (count_of result) into.new
             ≡ stored_bytes result (read_of p kind (most_of call)) (terminal_at self.old terminal) }
         ensures few { count_of result ≤ most_of call }
-        ensures io { ChangesInCall terminal p.0 (kept_after_lem result call) self.old self.new }
+        ensures io { ChangesInCall terminal p.0
+            (model.pending_after result call) self.old self.new }
         ensures drives { devices.new.drives ≡ devices.old.drives }
         ensures count { vec_len devices.new.terms ≡ vec_len devices.old.terms }
     {
@@ -47,12 +49,12 @@ impl IoState {
             most,
         };
         let answer = self.terminals.read(terminal, request, into, devices);
-        self.calls[p.0 as usize] = kept_after(answer, call);
+        self.calls[p.0 as usize] = pending_after(answer, call);
         answer
     }
 
     /// An attempt of a write of these bytes to a terminal (Level Two manual, SCF). It never waits,
-    /// and no call of the process is kept after it.
+    /// and no call of the process is pending after it.
     pub fn write_terminal(
         &mut self,
         p: Pid,
@@ -61,7 +63,7 @@ impl IoState {
         devices: &mut Devices,
     ) -> Progress
         requires process { p.0 < 33 }
-        requires no_read { IfSome (kept_at self.old p.0) (IsNoRead self.old) }
+        requires no_read { IfSome (pending_at self.old p.0) (IsNoRead self.old) }
         requires terminal { terminal < 4 }
         requires there { terminal < vec_len devices.old.terms }
         requires most { length bytes.now ≤ 65535 }
@@ -79,7 +81,7 @@ impl IoState {
 
     /// An attempt of a write of a line to a terminal, up to and with the first carriage return, and
     /// a line feed after it (Level Two manual, SCF). It never waits, and no call of the process is
-    /// kept after it.
+    /// pending after it.
     pub fn write_terminal_line(
         &mut self,
         p: Pid,
@@ -88,7 +90,7 @@ impl IoState {
         devices: &mut Devices,
     ) -> Progress
         requires process { p.0 < 33 }
-        requires no_read { IfSome (kept_at self.old p.0) (IsNoRead self.old) }
+        requires no_read { IfSome (pending_at self.old p.0) (IsNoRead self.old) }
         requires terminal { terminal < 4 }
         requires there { terminal < vec_len devices.old.terms }
         requires most { length bytes.now ≤ 65535 }
@@ -129,9 +131,9 @@ impl IoState {
     }
 }
 
-/// What is kept of a call after an attempt with this answer.
-fn kept_after(answer: Progress, call: Kept) -> Option<Kept>
-    ensures { result ≡ kept_after_lem answer call }
+/// The pending call after an attempt with this answer.
+fn pending_after(answer: Progress, call: PendingCall) -> Option<PendingCall>
+    ensures { result ≡ model.pending_after answer call }
 {
     match answer {
         Progress::Wait => Some(call),

@@ -5,13 +5,14 @@ ghost use Rattle.call_rules.specs.IoReady.{has_io};
 ghost use Rattle.io_model.specs.Path.{desc_of};
 ghost use Rattle.io_model.specs.Pipe.{IsPipe};
 ghost use Rattle.io_rules.specs.Io.{target_of};
-ghost use Rattle.io_rules.specs.Waiting.{can_move as can_move_lem, cause_by, count_by, interrupted_count, io_interrupted, io_may_go, io_waits_for, may_go_by, wait_target as wait_target_lem, would_be_alone as would_be_alone_lem};
+ghost use Rattle.io_rules.specs.Waiting as model;
+ghost use Rattle.io_rules.specs.Waiting.{cause_by, count_by, interrupted_count, io_interrupted, io_may_go, io_waits_for, may_go_by};
 ghost use Rattle.io_state.specs.Sound.{IsThere};
 
 use crate::state::IoState;
 use crate::streams::direction_of;
 use call_rules::io_ready::IoReady;
-use io_model::kept::Kept;
+use io_model::pending::PendingCall;
 use io_model::path::Target;
 use io_model::pipe::{PIPE_BYTES, PipeId};
 use io_rules::io_call::Direction;
@@ -46,7 +47,7 @@ impl IoState {
     }
 
     /// May this call of a process go on?
-    fn goes_on(&self, p: Pid, call: Kept) -> bool
+    fn goes_on(&self, p: Pid, call: PendingCall) -> bool
         requires { IsSome (desc_of self.now.paths call.path.0) }
         ensures { result ≡ may_go_by self.now p.0 call (target_of self.now call.path) }
     {
@@ -62,7 +63,7 @@ impl IoState {
     /// Has a pipe bytes to read, or room to write?
     fn can_move(&self, pipe: u8, direction: Option<Direction>) -> bool
         requires { IsPipe self.now.pipes pipe }
-        ensures { result ≡ can_move_lem self.now pipe direction }
+        ensures { result ≡ model.can_move self.now pipe direction }
     {
         let held = self.pipes.held(PipeId(pipe));
         match direction {
@@ -73,8 +74,8 @@ impl IoState {
     }
 
     /// Would a process be alone in its wait in this call?
-    fn would_be_alone(&self, p: Pid, call: Kept) -> bool
-        ensures { result ≡ would_be_alone_lem self.now p.0 call }
+    fn would_be_alone(&self, p: Pid, call: PendingCall) -> bool
+        ensures { result ≡ model.would_be_alone self.now p.0 call }
     {
         match direction_of(call.code) {
             Some(direction) => self.is_alone(p, call.path, direction),
@@ -96,7 +97,7 @@ impl IoState {
     /// The target of a process's pending call, if it has one.
     fn wait_target(&self, p: Pid) -> Option<Target>
         requires { p.0 < 33 }
-        ensures target { result ≡ wait_target_lem self.now p.0 }
+        ensures target { result ≡ model.wait_target self.now p.0 }
         ensures there { IfSome result (IsThere self.now) }
     {
         match self.calls[p.0 as usize] {
@@ -143,7 +144,7 @@ impl IoState {
     /// As `break_off`, for a pending call on this target.
     fn break_off_from(&mut self, p: Pid, target: Target)
         requires process { p.0 < 33 }
-        requires on { wait_target_lem self.old p.0 ≡ Some target }
+        requires on { model.wait_target self.old p.0 ≡ Some target }
         requires there { IsThere self.old target }
         ensures { self.new ≡ io_interrupted self.old p.0 }
     {
@@ -169,7 +170,7 @@ fn cause(target: Target) -> Option<Cause>
 }
 
 /// The count that a pending call on this target returns if it is broken off.
-fn moved_on(call: Kept, target: Target) -> Option<u16>
+fn moved_on(call: PendingCall, target: Target) -> Option<u16>
     ensures { result ≡ count_by call (Some target) }
 {
     match target {

@@ -7,7 +7,7 @@ use Rattle.proc_model.specs.MemoryChanges.{started}
 use Rattle.proc_rules.specs.Records.{IsLiving, free_process}
 use Rattle.call_rules.specs.CallResult.{CallResult, done, refuses, changes}
 use Rattle.call_rules.specs.Fork.{f_fork, forked_regs, with_child}
-use Rattle.call_rules.specs.Inner.{Inner, regs_at, with_memory, with_regs_of}
+use Rattle.call_rules.specs.Processes.{Processes, regs_at, with_memory, with_regs_of}
 use Rattle.call_rules.specs.ModuleLinks.{Entered}
 use Rattle.call_rules.specs.Program.{Program, blocks_of_pages, most_pages, program_kind}
 use Rattle.file_rules.specs.Files.{Asker, Files}
@@ -16,7 +16,7 @@ use Rattle.file_rules.specs.Program.{ForkAttempts, StartsFile, forks, loaded_pro
 use Rattle.file_rules.specs.ProgramFile.{ProgramFile}
 use Rattle.call_laws.proofs.ForkedChildren.{NamesChild, child-named, fork-names, of-changes, of-needs, of-refuses}
 
-module _ (m : Inner) (p : ℕ) (lives : IsLiving m.records p) where
+module _ (m : Processes) (p : ℕ) (lives : IsLiving m.records p) where
   forks-name : (program : Program) → NamesChild m p (forks m p program)
   forks-name program =
       of-needs m p (free_process m.records) E_PRCFUL (λ child. refuses (nat_lt most_pages program.pages) E_MEMFUL (making child))
@@ -32,7 +32,7 @@ module _ (m : Inner) (p : ℕ) (lives : IsLiving m.records p) where
       making child =
           changes (started m.memory child program.entered.number (blocks_of_pages program.pages)) (begun child)
 
-module _ (m : Inner) (p : ℕ) (lives : IsLiving m.records p) where
+module _ (m : Processes) (p : ℕ) (lives : IsLiving m.records p) where
   goes-name : (reading : Result ProgramFile ℕ) (result : CallResult) → GoesOnLoaded m reading (starts_first forks m p) result → NamesChild m p result
   goes-name (Err number) result is = subst (NamesChild m p) (sym is) tt
   goes-name (Ok file) result (Err number, loads, is) = subst (NamesChild m p) (sym is) tt

@@ -40,93 +40,93 @@ use Rattle.isolation_laws.proofs.Starts.{Leaves, chain-area, chain-file, fork-ar
 
 -- a process that starts no program
 abbrev StartsNone : State → ℕ → Type 0
-StartsNone s p = AttemptsCall s.inner p Call.Fork ⊎ AttemptsCall s.inner p Call.Chain → ⊥
+StartsNone s p = AttemptsCall s.processes p Call.Fork ⊎ AttemptsCall s.processes p Call.Chain → ⊥
 
-zeros-by : (s : State) (p first : ℕ) (n : MemoryState) → StartsNone s p → HoldParameters s.inner p first n → HoldZeros first n.objects
+zeros-by : (s : State) (p first : ℕ) (n : MemoryState) → StartsNone s p → HoldParameters s.processes p first n → HoldZeros first n.objects
 zeros-by s p first n none hold object bytes late there k byte at =
     elim (hold object bytes late there k byte at) [
       | inl is ↦ is
       | inr parameter ↦ absurd (none parameter.starts)
     ]
 
-none-started : (s t : State) (end : EventEnd) (p : ℕ) → s.chosen ≡ Some p → Event s end t → StartsNone s p → HoldNewObjects s p t.inner.memory.objects
+none-started : (s t : State) (end : EventEnd) (p : ℕ) → s.chosen ≡ Some p → Event s end t → StartsNone s p → HoldNewObjects s p t.processes.memory.objects
 none-started s t end p chosen event none =
     elim ((event-leaves s t end p chosen event).new_objects) [
-      | inl hold ↦ inr (inl (inl (inl none, zeros-by s p (length s.inner.memory.objects) t.inner.memory none hold)))
+      | inl hold ↦ inr (inl (inl (inl none, zeros-by s p (length s.processes.memory.objects) t.processes.memory none hold)))
       | inr first ↦ inr (inr (by_file first))
     ]
   where
-    by_file : HoldFile s p t.inner.memory → HoldFileFirst s p t.inner.memory.objects
+    by_file : HoldFile s p t.processes.memory → HoldFileFirst s p t.processes.memory.objects
     by_file first = record {
       file = first.file;
       loaded = first.loaded;
       loads = first.loads;
       blocks = first.blocks;
       rest =
-          inl (inl none, zeros-by s p (length s.inner.memory.objects + file_blocks first.file.bytes) t.inner.memory none first.rest);
+          inl (inl none, zeros-by s p (length s.processes.memory.objects + file_blocks first.file.bytes) t.processes.memory none first.rest);
     }
 
 -- ---- F$Fork and F$Chain
 
 module _ (s : State) (p : ℕ) where
   -- no object appears where none is behind those that were
-  none-new : HoldNewObjects s p s.inner.memory.objects
+  none-new : HoldNewObjects s p s.processes.memory.objects
   none-new = inl (omega arith)
 
   done-holds : (P : List (List ℕ) → Type 0) → ((objects : List (List ℕ)) → P objects → HoldNewObjects s p objects) → (result : CallResult) → Leaves P result
-      → HoldNewObjects s p (after_attempt s.inner p result).memory.objects
+      → HoldNewObjects s p (after_attempt s.processes p result).memory.objects
   done-holds P holds (done t) leaves = holds t.memory.objects leaves
   done-holds P holds (refused number) leaves = none-new
   done-holds P holds (waits t) leaves = absurd leaves
   done-holds P holds (ends status) leaves = absurd leaves
 
   abbrev Held : CallResult → Type 0
-  Held result = HoldNewObjects s p (after_attempt s.inner p result).memory.objects
+  Held result = HoldNewObjects s p (after_attempt s.processes p result).memory.objects
 
   module _ (now : TimePacket) (new : Files) where
-    forks-file : StartsFileBy s.inner p Call.Fork → (reading : Result ProgramFile ℕ)
-        → ReadsProgram (program_file (asker_of s.inner p now) s.files (length s.terms) (tests_program s.inner p)) reading s.files new → (result : CallResult)
-        → GoesOnLoaded s.inner reading (starts_first forks s.inner p) result → Held result
+    forks-file : StartsFileBy s.processes p Call.Fork → (reading : Result ProgramFile ℕ)
+        → ReadsProgram (program_file (asker_of s.processes p now) s.files (length s.terms) (tests_program s.processes p)) reading s.files new → (result : CallResult)
+        → GoesOnLoaded s.processes reading (starts_first forks s.processes p) result → Held result
     forks-file by (Err number) reads result is = subst Held (sym is) none-new
     forks-file by (Ok file) reads result (Err number, loading, is) = subst Held (sym is) none-new
     forks-file by (Ok file) reads result (Ok loaded, loading, is) =
-        let read : HasRead s.inner p file (program_file (asker_of s.inner p now) s.files (length s.terms) (λ step. step)) = program-found s p now file new reads in
+        let read : HasRead s.processes p file (program_file (asker_of s.processes p now) s.files (length s.terms) (λ step. step)) = program-found s p now file new reads in
         subst Held (sym is)
-        (done-holds (HoldFileFirst s p) (λ objects first. inr (inr first)) (starts_first forks s.inner p file loaded)
+        (done-holds (HoldFileFirst s p) (λ objects first. inr (inr first)) (starts_first forks s.processes p file loaded)
         (fork-file s p file loaded (record { call = inr (inl by); found = read.found; loads = loading }) (inl by.attempted) read.parameters read.given by.attempted))
 
-    chains-file : StartsFileBy s.inner p Call.Chain → (reading : Result ProgramFile ℕ)
-        → ReadsProgram (program_file (asker_of s.inner p now) s.files (length s.terms) (tests_program s.inner p)) reading s.files new → (result : CallResult)
-        → GoesOnLoaded s.inner reading (starts_first chains s.inner p) result → Held result
+    chains-file : StartsFileBy s.processes p Call.Chain → (reading : Result ProgramFile ℕ)
+        → ReadsProgram (program_file (asker_of s.processes p now) s.files (length s.terms) (tests_program s.processes p)) reading s.files new → (result : CallResult)
+        → GoesOnLoaded s.processes reading (starts_first chains s.processes p) result → Held result
     chains-file by (Err number) reads result is = subst Held (sym is) none-new
     chains-file by (Ok file) reads result (Err number, loading, is) = subst Held (sym is) none-new
     chains-file by (Ok file) reads result (Ok loaded, loading, is) =
-        let read : HasRead s.inner p file (program_file (asker_of s.inner p now) s.files (length s.terms) (λ step. step)) = program-found s p now file new reads in
+        let read : HasRead s.processes p file (program_file (asker_of s.processes p now) s.files (length s.terms) (λ step. step)) = program-found s p now file new reads in
         subst Held (sym is)
-        (done-holds (HoldFileFirst s p) (λ objects first. inr (inr first)) (starts_first chains s.inner p file loaded)
+        (done-holds (HoldFileFirst s p) (λ objects first. inr (inr first)) (starts_first chains s.processes p file loaded)
         (chain-file s p file loaded (record { call = inr (inr by); found = read.found; loads = loading }) (inr by.attempted) read.parameters read.given by.attempted))
 
-    fork-holds : AttemptsCall s.inner p Call.Fork → (result : CallResult) → ForkAttempts s.inner (asker_of s.inner p now) s.files (length s.terms) p result new → Held result
-    fork-holds call result it = by_named (named_program s.inner p) refl it
+    fork-holds : AttemptsCall s.processes p Call.Fork → (result : CallResult) → ForkAttempts s.processes (asker_of s.processes p now) s.files (length s.terms) p result new → Held result
+    fork-holds call result it = by_named (named_program s.processes p) refl it
       where
-        by_named : (named : Option Entered) → named_program s.inner p ≡ named
-            → MatchOption named (StartsFile forks s.inner (asker_of s.inner p now) s.files (length s.terms) p result new) (λ named. (result ≡ f_fork s.inner p) × (new ≡ s.files))
+        by_named : (named : Option Entered) → named_program s.processes p ≡ named
+            → MatchOption named (StartsFile forks s.processes (asker_of s.processes p now) s.files (length s.terms) p result new) (λ named. (result ≡ f_fork s.processes p) × (new ≡ s.files))
             → Held result
         by_named None unnamed it =
             forks-file (record { attempted = call; unnamed = unnamed }) it.reading it.reads result it.comes
         by_named (Some entered) named (is, same) =
-            subst Held (sym is) (done-holds _ (λ objects area. inr (inl area)) (f_fork s.inner p) (fork-area s.inner p call))
+            subst Held (sym is) (done-holds _ (λ objects area. inr (inl area)) (f_fork s.processes p) (fork-area s.processes p call))
 
-    chain-holds : AttemptsCall s.inner p Call.Chain → (result : CallResult) → ChainAttempts s.inner (asker_of s.inner p now) s.files (length s.terms) p result new → Held result
-    chain-holds call result it = by_named (named_program s.inner p) refl it
+    chain-holds : AttemptsCall s.processes p Call.Chain → (result : CallResult) → ChainAttempts s.processes (asker_of s.processes p now) s.files (length s.terms) p result new → Held result
+    chain-holds call result it = by_named (named_program s.processes p) refl it
       where
-        by_named : (named : Option Entered) → named_program s.inner p ≡ named
-            → MatchOption named (StartsFile chains s.inner (asker_of s.inner p now) s.files (length s.terms) p result new) (λ named. (result ≡ f_chain s.inner p) × (new ≡ s.files))
+        by_named : (named : Option Entered) → named_program s.processes p ≡ named
+            → MatchOption named (StartsFile chains s.processes (asker_of s.processes p now) s.files (length s.terms) p result new) (λ named. (result ≡ f_chain s.processes p) × (new ≡ s.files))
             → Held result
         by_named None unnamed it =
             chains-file (record { attempted = call; unnamed = unnamed }) it.reading it.reads result it.comes
         by_named (Some entered) named (is, same) =
-            subst Held (sym is) (done-holds _ (λ objects area. inr (inl area)) (f_chain s.inner p) (chain-area s.inner p call))
+            subst Held (sym is) (done-holds _ (λ objects area. inr (inl area)) (f_chain s.processes p) (chain-area s.processes p call))
 
 -- ---- the code of a call asks for it
 
@@ -144,11 +144,11 @@ call-service code call is = by_load (code == F_LOAD) refl
 -- ---- every event
 
 module _ (s t : State) (end : EventEnd) (p : ℕ) (chosen : s.chosen ≡ Some p) (event : Event s end t) where
-  none-by : StartsNone s p → HoldNewObjects s p t.inner.memory.objects
+  none-by : StartsNone s p → HoldNewObjects s p t.processes.memory.objects
   none-by none = none-started s t end p chosen event none
 
   -- a process that attempts another call starts no program
-  other-none : (code : ℕ) → act_of s.inner p ≡ attempts code → (service : Service) → service_of code ≡ service → (on_processes Call.Fork ≡ service → ⊥)
+  other-none : (code : ℕ) → act_of s.processes p ≡ attempts code → (service : Service) → service_of code ≡ service → (on_processes Call.Fork ≡ service → ⊥)
       → (on_processes Call.Chain ≡ service → ⊥) → StartsNone s p
   other-none code next service asks_it fork chain (inl (other, at, is)) =
       let same : other ≡ code = (let both : attempts other ≡ attempts code = sym at ∙ next in cc) in
@@ -157,9 +157,9 @@ module _ (s t : State) (end : EventEnd) (p : ℕ) (chosen : s.chosen ≡ Some p)
       let same : other ≡ code = (let both : attempts other ≡ attempts code = sym at ∙ next in cc) in
       chain (sym (call-service code Call.Chain (sym (ap call_of same) ∙ is)) ∙ asks_it)
 
-  module _ (code : ℕ) (next : act_of s.inner p ≡ attempts code) (now : TimePacket) (result : CallResult) (rest : Rest)
-      (is : t.inner.memory.objects ≡ (after_attempt s.inner p result).memory.objects) where
-    serves-hold : (service : Service) → service_of code ≡ service → Asks code service → Serves service s now p result rest → HoldNewObjects s p t.inner.memory.objects
+  module _ (code : ℕ) (next : act_of s.processes p ≡ attempts code) (now : TimePacket) (result : CallResult) (rest : Rest)
+      (is : t.processes.memory.objects ≡ (after_attempt s.processes p result).memory.objects) where
+    serves-hold : (service : Service) → service_of code ≡ service → Asks code service → Serves service s now p result rest → HoldNewObjects s p t.processes.memory.objects
     serves-hold loads at asked it = none-by (other-none code next loads at (λ clash. cc) (λ clash. cc))
     serves-hold (on_processes Call.Fork) at asked (files, it, same) =
         subst (HoldNewObjects s p) (sym is) (fork-holds s p now files (code, next, asked) result it)
@@ -170,18 +170,18 @@ module _ (s t : State) (end : EventEnd) (p : ℕ) (chosen : s.chosen ≡ Some p)
     serves-hold (on_paths call) at asked it = none-by (other-none code next (on_paths call) at (λ clash. cc) (λ clash. cc))
     serves-hold no_call at asked it = none-by (other-none code next no_call at (λ clash. cc) (λ clash. cc))
 
-  no-attempt : (act : Act) → act_of s.inner p ≡ act → ((code : ℕ) → act ≡ attempts code → ⊥) → StartsNone s p
+  no-attempt : (act : Act) → act_of s.processes p ≡ act → ((code : ℕ) → act ≡ attempts code → ⊥) → StartsNone s p
   no-attempt act next none (inl (code, at, is)) = none code (sym next ∙ at)
   no-attempt act next none (inr (code, at, is)) = none code (sym next ∙ at)
 
-  acts-hold : (act : Act) → act_of s.inner p ≡ act → Acts act s p end t → HoldNewObjects s p t.inner.memory.objects
+  acts-hold : (act : Act) → act_of s.processes p ≡ act → Acts act s p end t → HoldNewObjects s p t.processes.memory.objects
   acts-hold executes next acts = none-by (no-attempt executes next (λ code clash. cc))
   acts-hold (delivers signal) next acts = none-by (no-attempt (delivers signal) next (λ code clash. cc))
   acts-hold (attempts code) next (result, rest, (now, is_now, it), over, is) =
-      serves-hold code next now result rest (ap (λ (t : State). t.inner.memory.objects) is) (service_of code) refl (asks code) it
+      serves-hold code next now result rest (ap (λ (t : State). t.processes.memory.objects) is) (service_of code) refl (asks code) it
 
-pub event-holds : (s t : State) (end : EventEnd) (p : ℕ) → s.chosen ≡ Some p → Event s end t → HoldNewObjects s p t.inner.memory.objects
+pub event-holds : (s t : State) (end : EventEnd) (p : ℕ) → s.chosen ≡ Some p → Event s end t → HoldNewObjects s p t.processes.memory.objects
 event-holds s t end p chosen (q, chosen_too, lives, acts) =
     let same : q ≡ p = same_Some q p (sym chosen_too ∙ chosen) in
-    subst (λ (p : ℕ). HoldNewObjects s p t.inner.memory.objects) same
-    (acts-hold s t end q chosen_too (q, chosen_too, lives, acts) (act_of s.inner q) refl acts)
+    subst (λ (p : ℕ). HoldNewObjects s p t.processes.memory.objects) same
+    (acts-hold s t end q chosen_too (q, chosen_too, lives, acts) (act_of s.processes q) refl acts)

@@ -10,7 +10,7 @@ use Rattle.proc_model.specs.Objects.{file_blocks}
 use Rattle.proc_model.specs.Slots.{NamesBlock, Slots}
 use Rattle.proc_rules.specs.declared.record.Record.{Record}
 use Rattle.proc_rules.specs.Records.{record_of}
-use Rattle.call_rules.specs.Inner.{Inner, own_at, regs_at, with_memory}
+use Rattle.call_rules.specs.Processes.{Processes, own_at, regs_at, with_memory}
 use Rattle.call_rules.specs.declared.proc_call.ProcCall.{ProcCall}
 use Rattle.call_rules.specs.declared.proc_call.ProcCall.TheVariants as Call
 use Rattle.file_rules.specs.Load.{Loaded}
@@ -40,56 +40,57 @@ kept-length xs ys same =
 
 module _ (s : State) (p : ℕ) (file : ProgramFile) (loaded : Loaded) (loads : LoadsFile s p file loaded) where
   -- the processes, with the file in memory
-  abbrev pub with-file : Inner
-  with-file = with_memory s.inner loaded.memory
+  abbrev pub with-file : Processes
+  with-file = with_memory s.processes loaded.memory
 
-  pub is-loaded : IsLoaded s.inner.memory file.bytes loaded
-  is-loaded = loaded-is s.inner.memory file.bytes loaded loads.loads
+  pub is-loaded : IsLoaded s.processes.memory file.bytes loaded
+  is-loaded = loaded-is s.processes.memory file.bytes loaded loads.loads
 
   abbrev group : List ℕ
-  group = new_numbers s.inner.memory (file_blocks file.bytes)
+  group = new_numbers s.processes.memory (file_blocks file.bytes)
 
-  entered : (number : ℕ) → EnteredFrom group (module_entry_at s.inner.memory.modules number) (module_entry_at loaded.memory.modules number)
-  entered = entries-are s.inner.memory file.bytes loaded is-loaded
+  entered : (number : ℕ) → EnteredFrom group (module_entry_at s.processes.memory.modules number) (module_entry_at loaded.memory.modules number)
+  entered = entries-are s.processes.memory file.bytes loaded is-loaded
 
   -- ---- maps
 
-  module _ (n : Inner) (grows : length loaded.memory.objects ≤ length n.memory.objects) where
-    pub shared-comes : (object : ℕ) → IsNewOrShared loaded.memory n.memory object → IsNewOrShared s.inner.memory n.memory object
+  module _ (n : Processes) (grows : length loaded.memory.objects ≤ length n.memory.objects) where
+    pub shared-comes : (object : ℕ) → IsNewOrShared loaded.memory n.memory object → IsNewOrShared s.processes.memory n.memory object
     shared-comes object (inl (late, below)) =
-        inl (omega (arith, late, more-objects s.inner.memory file.bytes loaded is-loaded), below)
-    shared-comes object (inr shared) = by_entry (module_entry_at s.inner.memory.modules shared.number) refl (entered shared.number)
+        inl (omega (arith, late, more-objects s.processes.memory file.bytes loaded is-loaded), below)
+    shared-comes object (inr shared) = by_entry (module_entry_at s.processes.memory.modules shared.number) refl (entered shared.number)
       where
-        by_entry : (old : Option ModuleEntry) → module_entry_at s.inner.memory.modules shared.number ≡ old
+        by_entry : (old : Option ModuleEntry) → module_entry_at s.processes.memory.modules shared.number ≡ old
             → EnteredFrom group old (module_entry_at loaded.memory.modules shared.number)
-            → IsNewOrShared s.inner.memory n.memory object
+            → IsNewOrShared s.processes.memory n.memory object
         by_entry (Some old) at same =
             inr (record { number = shared.number; entry = shared.entry; is = at ∙ sym same ∙ shared.is; stands = shared.stands })
         by_entry None at new =
             let it = subst (EnteredFrom group None) shared.is new in
             let (k, stands) = shared.stands in
-            let (late, below) = group-new s.inner.memory file.bytes loaded is-loaded object k (ap (λ (group : List ℕ). slice_get group k) (sym it.0) ∙ stands) in
+            let (late, below) = group-new s.processes.memory file.bytes loaded is-loaded object k (ap (λ (group : List ℕ). slice_get group k) (sym it.0) ∙ stands) in
             inl (late, omega (arith, below, grows))
 
-    map-comes : KeepsToItself loaded.memory p n.memory → KeepsToItself s.inner.memory p n.memory
+    map-comes : KeepsToItself loaded.memory p n.memory → KeepsToItself s.processes.memory p n.memory
     map-comes keeps object names = by_place (keeps object names)
       where
-        by_place : NamesBlock (map_at loaded.memory p) object ⊎ IsNewOrShared loaded.memory n.memory object → NamesBlock (map_at s.inner.memory p) object ⊎ IsNewOrShared s.inner.memory n.memory object
+        by_place : NamesBlock (map_at loaded.memory p) object ⊎ IsNewOrShared loaded.memory n.memory object → NamesBlock (map_at s.processes.memory p) object
+            ⊎ IsNewOrShared s.processes.memory n.memory object
         by_place (inl old) =
-            inl (subst (λ (slots : Slots ℕ). NamesBlock slots object) (map-same s.inner.memory file.bytes loaded is-loaded p) old)
+            inl (subst (λ (slots : Slots ℕ). NamesBlock slots object) (map-same s.processes.memory file.bytes loaded is-loaded p) old)
         by_place (inr new) = inr (shared-comes object new)
 
     -- ---- the other processes
 
-    calls-on : (call : ProcCall) (q : ℕ) → CallsOn with-file p call q → CallsOn s.inner p call q
+    calls-on : (call : ProcCall) (q : ℕ) → CallsOn with-file p call q → CallsOn s.processes p call q
     calls-on call q on = record { attempted = on.attempted; named = on.named; reached = on.reached }
 
-    wake-comes : (q : ℕ) (old new : Bool) → (new ≡ old) ⊎ GetsWake with-file p q new → (new ≡ old) ⊎ GetsWake s.inner p q new
+    wake-comes : (q : ℕ) (old new : Bool) → (new ≡ old) ⊎ GetsWake with-file p q new → (new ≡ old) ⊎ GetsWake s.processes p q new
     wake-comes q old new (inl same) = inl same
     wake-comes q old new (inr wake) =
         inr (record { sent = calls-on Call.Send q wake.sent; wake = wake.wake; asleep = wake.asleep; woken = wake.woken })
 
-    signal-comes : (q : ℕ) (old new : Option ℕ) → (new ≡ old) ⊎ GetsSignal with-file p q old new → (new ≡ old) ⊎ GetsSignal s.inner p q old new
+    signal-comes : (q : ℕ) (old new : Option ℕ) → (new ≡ old) ⊎ GetsSignal with-file p q old new → (new ≡ old) ⊎ GetsSignal s.processes p q old new
     signal-comes q old new (inl same) = inl same
     signal-comes q old new (inr signal) = inr (record {
       sent = calls-on Call.Send q signal.sent;
@@ -98,15 +99,16 @@ module _ (s : State) (p : ℕ) (file : ProgramFile) (loaded : Loaded) (loads : L
       pending = signal.pending;
     })
 
-    priority-comes : (q old new : ℕ) → (new ≡ old) ⊎ CallsOn with-file p Call.SPrior q × (new ≡ (regs_at s.inner p).b) → (new ≡ old) ⊎ CallsOn s.inner p Call.SPrior q × (new ≡ (regs_at s.inner p).b)
+    priority-comes : (q old new : ℕ) → (new ≡ old) ⊎ CallsOn with-file p Call.SPrior q × (new ≡ (regs_at s.processes p).b) → (new ≡ old) ⊎ CallsOn s.processes p Call.SPrior q
+        × (new ≡ (regs_at s.processes p).b)
     priority-comes q old new (inl same) = inl same
     priority-comes q old new (inr (on, is)) = inr (calls-on Call.SPrior q on, is)
 
-    other-comes : (q : ℕ) (old new : Option Record) → ComesOf with-file p Ran n q old new → ComesOf s.inner p Ran n q old new
+    other-comes : (q : ℕ) (old new : Option Record) → ComesOf with-file p Ran n q old new → ComesOf s.processes p Ran n q old new
     other-comes q (Some old) (Some new) stays = record {
-      map = stays.map ∙ map-same s.inner.memory file.bytes loaded is-loaded q;
+      map = stays.map ∙ map-same s.processes.memory file.bytes loaded is-loaded q;
       own = record {
-        woken = wake-comes q (own_at s.inner q).woken (own_at n q).woken stays.own.woken;
+        woken = wake-comes q (own_at s.processes q).woken (own_at n q).woken stays.own.woken;
         primary = stays.own.primary;
         others = stays.own.others;
       };
@@ -128,7 +130,7 @@ module _ (s : State) (p : ℕ) (file : ProgramFile) (loaded : Loaded) (loads : L
       no_intercept = begins.no_intercept;
       no_signal = begins.no_signal;
       map = λ object names. shared-comes object (begins.map object names);
-      parent_map = begins.parent_map ∙ map-same s.inner.memory file.bytes loaded is-loaded p;
+      parent_map = begins.parent_map ∙ map-same s.processes.memory file.bytes loaded is-loaded p;
     }
     other-comes q None None nothing = tt
 
@@ -137,7 +139,7 @@ module _ (s : State) (p : ℕ) (file : ProgramFile) (loaded : Loaded) (loads : L
   -- what comes of a module from the loaded file on: none appears, and one leaves by F$Chain alone
   abbrev pub ComesLoaded : Option ModuleEntry → Option ModuleEntry → Type 0
   ComesLoaded (Some old) (Some new) = StaysEntered old new
-  ComesLoaded (Some old) None = LeavesMemory loaded.memory.modules old × AttemptsCall s.inner p Call.Chain
+  ComesLoaded (Some old) None = LeavesMemory loaded.memory.modules old × AttemptsCall s.processes p Call.Chain
   ComesLoaded None (Some new) = ⊥
   ComesLoaded None None = Unit {0}
 
@@ -147,18 +149,18 @@ module _ (s : State) (p : ℕ) (file : ProgramFile) (loaded : Loaded) (loads : L
   loaded-more None (Some new) more = absurd more
   loaded-more None None more = tt
 
-  pub loaded-chained : AttemptsCall s.inner p Call.Chain → (old new : Option ModuleEntry) → ComesOfEntered loaded.memory.modules old new → ComesLoaded old new
+  pub loaded-chained : AttemptsCall s.processes p Call.Chain → (old new : Option ModuleEntry) → ComesOfEntered loaded.memory.modules old new → ComesLoaded old new
   loaded-chained call (Some old) (Some new) stays = stays
   loaded-chained call (Some old) None leaves = (leaves, call)
   loaded-chained call None (Some new) comes = absurd comes
   loaded-chained call None None comes = tt
 
-  module-leaves : (old : ModuleEntry) → LeavesMemory loaded.memory.modules old → AttemptsCall s.inner p Call.Chain → LeavesMemory s.inner.memory.modules old ⊎ LeavesWithFile s p old
-  module-leaves old gone call = by_entry (module_entry_at s.inner.memory.modules gone.number) refl (entered gone.number)
+  module-leaves : (old : ModuleEntry) → LeavesMemory loaded.memory.modules old → AttemptsCall s.processes p Call.Chain → LeavesMemory s.processes.memory.modules old ⊎ LeavesWithFile s p old
+  module-leaves old gone call = by_entry (module_entry_at s.processes.memory.modules gone.number) refl (entered gone.number)
     where
-      by_entry : (there : Option ModuleEntry) → module_entry_at s.inner.memory.modules gone.number ≡ there
+      by_entry : (there : Option ModuleEntry) → module_entry_at s.processes.memory.modules gone.number ≡ there
           → EnteredFrom group there (module_entry_at loaded.memory.modules gone.number)
-          → LeavesMemory s.inner.memory.modules old ⊎ LeavesWithFile s p old
+          → LeavesMemory s.processes.memory.modules old ⊎ LeavesWithFile s p old
       by_entry (Some there) at same = inl (record {
         number = gone.number;
         entry = gone.entry;
@@ -175,8 +177,8 @@ module _ (s : State) (p : ℕ) (file : ProgramFile) (loaded : Loaded) (loads : L
             loads = loads;
             call = call;
             of_group = sym gone.of_group ∙ it.0;
-            object = length s.inner.memory.objects;
-            stands = (0, ap (λ (group : List ℕ). slice_get group 0) (sym gone.of_group ∙ it.0) ∙ group-some s.inner.memory file.bytes loaded is-loaded);
+            object = length s.processes.memory.objects;
+            stands = (0, ap (λ (group : List ℕ). slice_get group 0) (sym gone.of_group ∙ it.0) ∙ group-some s.processes.memory file.bytes loaded is-loaded);
             absent = omega arith;
             last_link = gone.last_link;
           })
@@ -205,34 +207,34 @@ module _ (s : State) (p : ℕ) (file : ProgramFile) (loaded : Loaded) (loads : L
   -- ---- all of it
 
   -- what is left from the loaded file on
-  pub record FileLeft (n : Inner) : Type 0 where
+  pub record FileLeft (n : Processes) : Type 0 where
     pub objects : (object : ℕ) → object < length loaded.memory.objects → slice_get n.memory.objects object ≡ slice_get loaded.memory.objects object
-    pub new_objects : HoldOnly (IsParameter s.inner p) loaded.memory n.memory
+    pub new_objects : HoldOnly (IsParameter s.processes p) loaded.memory n.memory
     pub map : KeepsToItself loaded.memory p n.memory
-    pub others : (q : ℕ) → q ≢ p → ComesOf with-file p Ran n q (record_of s.inner.records q) (record_of n.records q)
-    pub turns : turns_of_others s.inner p n.order ≡ turns_of_others s.inner p s.inner.order
+    pub others : (q : ℕ) → q ≢ p → ComesOf with-file p Ran n q (record_of s.processes.records q) (record_of n.records q)
+    pub turns : turns_of_others s.processes p n.order ≡ turns_of_others s.processes p s.processes.order
     pub modules : (number : ℕ) → ComesLoaded (module_entry_at loaded.memory.modules number) (module_entry_at n.memory.modules number)
     pub links : ChangesLinks s p Ran n.memory
 
-  module _ (t : State) (left : FileLeft t.inner) where
-    object-kept : (object : ℕ) → object < length s.inner.memory.objects → slice_get t.inner.memory.objects object ≡ slice_get s.inner.memory.objects object
+  module _ (t : State) (left : FileLeft t.processes) where
+    object-kept : (object : ℕ) → object < length s.processes.memory.objects → slice_get t.processes.memory.objects object ≡ slice_get s.processes.memory.objects object
     object-kept object there =
-        left.objects object (omega (arith, there, more-objects s.inner.memory file.bytes loaded is-loaded))
-        ∙ old-object s.inner.memory file.bytes loaded is-loaded object there
+        left.objects object (omega (arith, there, more-objects s.processes.memory file.bytes loaded is-loaded))
+        ∙ old-object s.processes.memory file.bytes loaded is-loaded object there
 
-    grows : length loaded.memory.objects ≤ length t.inner.memory.objects
-    grows = kept-length loaded.memory.objects t.inner.memory.objects left.objects
+    grows : length loaded.memory.objects ≤ length t.processes.memory.objects
+    grows = kept-length loaded.memory.objects t.processes.memory.objects left.objects
 
-    pub file-there : HoldFile s p t.inner.memory
+    pub file-there : HoldFile s p t.processes.memory
     file-there = record {
       file = file;
       loaded = loaded;
       loads = loads;
       blocks =
-          λ k within. left.objects (length s.inner.memory.objects + k) (omega (arith, within, more-objects s.inner.memory file.bytes loaded is-loaded))
-          ∙ file-block-at s.inner.memory file.bytes loaded is-loaded k within;
+          λ k within. left.objects (length s.processes.memory.objects + k) (omega (arith, within, more-objects s.processes.memory file.bytes loaded is-loaded))
+          ∙ file-block-at s.processes.memory file.bytes loaded is-loaded k within;
       rest =
-          λ object bytes late at k byte here. left.new_objects object bytes (omega (arith, late, more-objects s.inner.memory file.bytes loaded is-loaded)) at k byte here;
+          λ object bytes late at k byte here. left.new_objects object bytes (omega (arith, late, more-objects s.processes.memory file.bytes loaded is-loaded)) at k byte here;
     }
 
     pub file-leaves : LeavesOthers s p Ran t
@@ -240,13 +242,13 @@ module _ (s : State) (p : ℕ) (file : ProgramFile) (loaded : Loaded) (loads : L
       sizes = λ object there. ap (option_map length) (object-kept object there);
       objects = λ object there unnamed. object-kept object there;
       new_objects = inr file-there;
-      map = map-comes t.inner grows left.map;
+      map = map-comes t.processes grows left.map;
       others =
-          λ q differ. other-comes t.inner grows q (record_of s.inner.records q) (record_of t.inner.records q) (left.others q differ);
+          λ q differ. other-comes t.processes grows q (record_of s.processes.records q) (record_of t.processes.records q) (left.others q differ);
       turns = left.turns;
       modules =
-          λ number. module-comes number (module_entry_at s.inner.memory.modules number)
-          (module_entry_at loaded.memory.modules number) (module_entry_at t.inner.memory.modules number)
+          λ number. module-comes number (module_entry_at s.processes.memory.modules number)
+          (module_entry_at loaded.memory.modules number) (module_entry_at t.processes.memory.modules number)
           (entered number) refl (left.modules number);
       links = left.links;
     }

@@ -4,25 +4,25 @@ use Rattle.os9_base.specs.declared.errors.TheConstants.{E_BPADDR, E_BPNAM, E_NEM
 use Rattle.os9_base.specs.declared.registers.TimePacket.{TimePacket}
 use Rattle.user_names.specs.declared.name_fault.NameFault.{NameFault}
 use Rattle.user_names.specs.declared.name_fault.NameFault.TheVariants.{Unreadable, NoName}
-use Rattle.call_rules.specs.Inner.{Inner, regs_at}
+use Rattle.call_rules.specs.Processes.{Processes, regs_at}
 use Rattle.call_rules.specs.Program.{asks_for_program}
 use Rattle.io_rules.specs.PathList.{PathList}
 use Rattle.file_rules.specs.Attempts.{asker_of}
 use Rattle.file_rules.specs.Files.{Files, NoneFailed}
 use Rattle.file_rules.specs.Program.{parameters_of, tests_program}
-use Rattle.file_rules.specs.ProgramFile.{ProgramFile, ReadingIsBroken, ReadsProgram, program_file, program_on_way, reading_of}
+use Rattle.file_rules.specs.ProgramFile.{ProgramFile, ReadingIsBroken, ReadsProgram, program_file, program_on_route, reading_of}
 use Rattle.file_rules.specs.Step.{Step, refused, refuses}
-use Rattle.file_rules.specs.Way.{list_of, reads_list, way_of}
+use Rattle.file_rules.specs.Route.{list_of, reads_list, route_of}
 use Rattle.machine_model.specs.State.{State}
 use Rattle.isolation_laws.specs.Loading.{file_at_x}
 
 -- a step comes to a file where no drive fails, and the parameters are all there
-pub record HasRead (m : Inner) (p : ℕ) (file : ProgramFile) (step : Step ProgramFile) : Type 0 where
+pub record HasRead (m : Processes) (p : ℕ) (file : ProgramFile) (step : Step ProgramFile) : Type 0 where
   pub parameters : List ℕ
   pub given : parameters_of m p ≡ Some parameters
   pub found : reading_of step ≡ Ok file
 
-module _ (m : Inner) (p : ℕ) (file : ProgramFile) where
+module _ (m : Processes) (p : ℕ) (file : ProgramFile) where
   tests-passed : (step : Step ProgramFile) → reading_of (tests_program m p step) ≡ Ok file → HasRead m p file step
   tests-passed step is = by_tests (parameters_of m p) refl (asks_for_program (regs_at m p).a) is
     where
@@ -50,12 +50,13 @@ module _ (s : State) (p : ℕ) (now : TimePacket) (file : ProgramFile) (new : Fi
       by_outcome (inr broken) = let is = broken.is in absurd cc
 
   -- the time is not asked for
-  pub file-found : ReadsProgram (program_file (asker_of s.inner p now) s.files (length s.terms) (λ step. step)) (Ok file) s.files new → file_at_x s p ≡ Ok file
-  file-found it = reading-is (program_file (asker_of s.inner p now) s.files (length s.terms) (λ step. step)) it
+  pub file-found : ReadsProgram (program_file (asker_of s.processes p now) s.files (length s.terms) (λ step. step)) (Ok file) s.files new → file_at_x s p ≡ Ok file
+  file-found it = reading-is (program_file (asker_of s.processes p now) s.files (length s.terms) (λ step. step)) it
 
-  pub program-found : ReadsProgram (program_file (asker_of s.inner p now) s.files (length s.terms)
-      (tests_program s.inner p)) (Ok file) s.files new → HasRead s.inner p file (program_file (asker_of s.inner p now)
+  pub program-found : ReadsProgram (program_file (asker_of s.processes p now) s.files (length s.terms)
+      (tests_program s.processes p)) (Ok file) s.files new → HasRead s.processes p file (program_file (asker_of s.processes p now)
       s.files (length s.terms) (λ step. step))
   program-found it =
-      list-passed s.inner p file (list_of (asker_of s.inner p now)) (λ list. program_on_way (asker_of s.inner p now) s.files list (way_of (asker_of s.inner p now) s.files (length s.terms) true list))
-      (reading-is (program_file (asker_of s.inner p now) s.files (length s.terms) (tests_program s.inner p)) it)
+      list-passed s.processes p file (list_of (asker_of s.processes p now))
+          (λ list. program_on_route (asker_of s.processes p now) s.files list (route_of (asker_of s.processes p now) s.files (length s.terms) true list))
+      (reading-is (program_file (asker_of s.processes p now) s.files (length s.terms) (tests_program s.processes p)) it)

@@ -11,7 +11,7 @@ use Rattle.proc_rules.specs.Records.{IsLiving, free_process, record_at, record_o
 use Rattle.call_rules.specs.Attempts.{after_attempt}
 use Rattle.call_rules.specs.CallResult.{CallResult, done, refused, waits, ends}
 use Rattle.call_rules.specs.Delivery.{delivered}
-use Rattle.call_rules.specs.Inner.{Inner, regs_at}
+use Rattle.call_rules.specs.Processes.{Processes, regs_at}
 use Rattle.call_rules.specs.Ready.{Act, attempts, delivers, executes, act_of}
 use Rattle.call_rules.specs.declared.proc_call.ProcCall.TheVariants as Call
 use Rattle.io_model.specs.Path.{PathTable, desc_of, free_number, free_path, inherited_numbers, numbers_of, paths_after_begin, paths_after_inherit, slot_of, with_desc, with_path}
@@ -20,7 +20,7 @@ use Rattle.io_model.specs.declared.path.Desc.{Desc}
 use Rattle.io_model.specs.declared.path.SysPath.{SysPath}
 use Rattle.io_rules.specs.Attempts.{IoAttempts}
 use Rattle.io_rules.specs.Codes.{direction_of, direction_of_call, io_call_of}
-use Rattle.io_rules.specs.Io.{Io, OpenPath, kept_at, open_path, terminal_at}
+use Rattle.io_rules.specs.Io.{Io, OpenPath, pending_at, open_path, terminal_at}
 use Rattle.io_rules.specs.Processes.{io_started}
 use Rattle.io_rules.specs.Waiting.{pid}
 use Rattle.io_rules.specs.declared.io_call.Direction.TheVariants.{Writing}
@@ -99,13 +99,13 @@ begun-desc paths p new path desc was = by_places (free_number paths p) (free_pat
         get_or-set_other paths.descs free path (Some new) None (apart free at) ∙ was
 
 -- the number of a path that a call takes is the same at all times
-number-same : (call : PathCall) (m : Inner) (p : ℕ) (now other : TimePacket) → number_in call (asker_of m p now) ≡ number_in call (asker_of m p other)
+number-same : (call : PathCall) (m : Processes) (p : ℕ) (now other : TimePacket) → number_in call (asker_of m p now) ≡ number_in call (asker_of m p other)
 number-same OnPath.PErr m p now other = refl
 number-same call m p now other = refl
 
 module _ (s : State) (p : ℕ) (call : PathCall) (attempted : AttemptsService s p (on_paths call)) (now : TimePacket) where
   abbrev asker : Asker
-  asker = asker_of s.inner p now
+  asker = asker_of s.processes p now
 
   -- its descriptor stays, or the call moves its position
   abbrev DescComes : PathTable → OpenPath → Type 0
@@ -130,7 +130,7 @@ module _ (s : State) (p : ℕ) (call : PathCall) (attempted : AttemptsService s 
               attempted = attempted;
               moves = changes;
               found = found;
-              named = ap (open_file s.files p) (number-same call s.inner p s.clock.from now) ∙ named;
+              named = ap (open_file s.files p) (number-same call s.processes p s.clock.from now) ∙ named;
               same = λ i. record { path = path i; desc = desc i };
             })
         by_path (inr differ) =
@@ -194,17 +194,17 @@ leaves-same : (s : State) (p : ℕ) (t : State) → t.files.io ≡ s.files.io �
 leaves-same s p t same = leaves-by s p t (subst (IoLeft p s.files.io) (sym same) (io-same p s.files.io))
 
 -- a call on a terminal or a pipe
-module _ (s : State) (p code : ℕ) (call : IoCall) (next : act_of s.inner p ≡ attempts code)
+module _ (s : State) (p code : ℕ) (call : IoCall) (next : act_of s.processes p ≡ attempts code)
     (coded : io_call_of code ≡ Some call) (drives : ℕ) (result : CallResult) (t : State)
-    (attempt : IoAttempts call s.inner s.files.io drives p result t.files.io s.terms t.terms) where
+    (attempt : IoAttempts call s.processes s.files.io drives p result t.files.io s.terms t.terms) where
   direction : direction_of_call call ≡ Some Writing → direction_of code ≡ Some Writing
   direction is = ap (option_and_then direction_of_call) coded ∙ is
 
   left : EffectLeft call p s.files.io attempt.effect.io s.terms t.terms
-  left = effect-left call s.inner s.files.io t.files.io drives p result s.terms t.terms attempt
+  left = effect-left call s.processes s.files.io t.files.io drives p result s.terms t.terms attempt
 
   leaves : LeavesPaths p s.files.io t.files.io
-  leaves = attempt-leaves call s.inner s.files.io t.files.io drives p result s.terms t.terms attempt
+  leaves = attempt-leaves call s.processes s.files.io t.files.io drives p result s.terms t.terms attempt
 
   same-terminal : (n : ℕ) → terminal_at t.files.io n ≡ terminal_at attempt.effect.io n
   same-terminal n = ap (λ (io : Io). terminal_at io n) attempt.state
@@ -228,16 +228,16 @@ module _ (s : State) (p code : ℕ) (call : IoCall) (next : act_of s.inner p ≡
 
 -- ---- a child is given the standard paths
 
-module _ (s : State) (p : ℕ) (call : AttemptsCall s.inner p Call.Fork) (child : ℕ) (free : free_process s.inner.records ≡ Some child) where
+module _ (s : State) (p : ℕ) (call : AttemptsCall s.processes p Call.Fork) (child : ℕ) (free : free_process s.processes.records ≡ Some child) where
   abbrev begun : Io
   begun = io_started s.files.io p child
 
   begun-left : PathsLeft child s.files.io.paths (paths_after_inherit s.files.io.paths p child)
   begun-left = left-numbers child s.files.io.paths (inherited_numbers (numbers_of s.files.io.paths p))
 
-  not-child : (q : ℕ) → IsLiving s.inner.records q → q ≢ child
+  not-child : (q : ℕ) → IsLiving s.processes.records q → q ≢ child
   not-child q lives same =
-      none-some (record_at s.inner.records q) (sym (free-is s.inner.records child free).none ∙ ap (record_of s.inner.records) (sym same) ∙ living-record s.inner.records q lives)
+      none-some (record_at s.processes.records q) (sym (free-is s.processes.records child free).none ∙ ap (record_of s.processes.records) (sym same) ∙ living-record s.processes.records q lives)
 
   abbrev NumbersCome : ℕ → Io → Type 0
   NumbersCome q io = (numbers_of io.paths q ≡ numbers_of s.files.io.paths q) ⊎ IsGivenPaths s p q (numbers_of io.paths q)
@@ -261,18 +261,18 @@ module _ (s : State) (p : ℕ) (call : AttemptsCall s.inner p Call.Fork) (child 
     paths =
         λ q n opened differ lives was. stays-open s p t q n opened (ap (λ (io : Io). open_path io q n) is ∙ open-stays
         s.files.io begun q n opened (begun-left.numbers q (not-child q lives)) (λ path d named there. there) was);
-    calls = λ q differ. ap (λ (io : Io). kept_at io q) is;
+    calls = λ q differ. ap (λ (io : Io). pending_at io q) is;
     readings = λ n q differ reads.
         inl (subst (KeepsReading (terminal_at s.files.io n)) (ap (λ (io : Io). terminal_at io n) (sym is)) refl);
   }
 
 -- ---- an attempt of a call
 
-module _ (s : State) (p code : ℕ) (next : act_of s.inner p ≡ attempts code) (lives : IsLiving s.inner.records p) (now : TimePacket) (rest : Rest) (inner : Inner) where
+module _ (s : State) (p code : ℕ) (next : act_of s.processes p ≡ attempts code) (lives : IsLiving s.processes.records p) (now : TimePacket) (rest : Rest) (processes : Processes) where
   abbrev then : State
-  then = with_rest s inner rest
+  then = with_rest s processes rest
 
-  fork-leaves-io : AttemptsCall s.inner p Call.Fork → (files : Files) (result : CallResult) → NamesChild s.inner p
+  fork-leaves-io : AttemptsCall s.processes p Call.Fork → (files : Files) (result : CallResult) → NamesChild s.processes p
       result → files.io ≡ s.files.io → rest ≡ with_files s (files_after_fork files p result) → LeavesIo s p then
   fork-leaves-io call files (done t) names same is =
       started-leaves s p call (regs_at t p).a names then
@@ -294,26 +294,26 @@ module _ (s : State) (p code : ℕ) (next : act_of s.inner p ≡ attempts code) 
 
   serves-io : (service : Service) (result : CallResult) → service_of code ≡ service → Asks code service → Serves service s now p result rest → LeavesIo s p then
   serves-io loads result serves asked (files, it, is) =
-      let left = load-leaves s.inner (asker_of s.inner p now) s.files (length s.terms) p result files it in
+      let left = load-leaves s.processes (asker_of s.processes p now) s.files (length s.terms) p result files it in
       leaves-same s p then (ap (λ (rest : Rest). rest.files.io) is ∙ left.io)
   serves-io (on_processes Call.Fork) result serves asked (files, it, is) =
-      let left = fork-leaves s.inner (asker_of s.inner p now) s.files (length s.terms) p result files it in
-      fork-leaves-io (code, next, asked) files result (fork-attempt-names s.inner p lives (asker_of s.inner p now) s.files (length s.terms) result files it) left.io is
+      let left = fork-leaves s.processes (asker_of s.processes p now) s.files (length s.terms) p result files it in
+      fork-leaves-io (code, next, asked) files result (fork-attempt-names s.processes p lives (asker_of s.processes p now) s.files (length s.terms) result files it) left.io is
   serves-io (on_processes Call.Chain) result serves asked (files, it, is) =
-      let left = chain-leaves s.inner (asker_of s.inner p now) s.files (length s.terms) p result files it in
+      let left = chain-leaves s.processes (asker_of s.processes p now) s.files (length s.terms) p result files it in
       leaves-same s p then (ap (λ (rest : Rest). rest.files.io) is ∙ left.io)
   serves-io (on_processes call) result serves asked it = call-leaves-io result it.1
   serves-io (on_time call) result serves asked (clock, it, is) = leaves-same s p then (ap (λ (rest : Rest). rest.files.io) is)
   serves-io (on_paths call) result serves asked (it, same) =
-      by_device (attempt-comes call s.inner s.files now p result rest.files s.terms rest.terms it)
+      by_device (attempt-comes call s.processes s.files now p result rest.files s.terms rest.terms it)
     where
-      by_device : IsOnDevice call s.inner s.files p result rest.files s.terms rest.terms ⊎ LeavesDevices call s.inner
-          s.files now p result rest.files s.terms rest.terms ⊎ WaitsForRecord call s.inner s.files now p result
+      by_device : IsOnDevice call s.processes s.files p result rest.files s.terms rest.terms ⊎ LeavesDevices call s.processes
+          s.files now p result rest.files s.terms rest.terms ⊎ WaitsForRecord call s.processes s.files now p result
           rest.files s.terms rest.terms → LeavesIo s p then
       by_device (inl on) =
           device-leaves s p code on.device next (code-there code call asked ∙ on.device_is) (length s.files.drives) result then on.attempted
       by_device (inr (inl none)) =
-          leaves-by-kept s p call (code, next, serves) now then none.paths (io-kept s.inner s.files p result rest.files s.terms rest.terms none)
+          leaves-by-kept s p call (code, next, serves) now then none.paths (io-kept s.processes s.files p result rest.files s.terms rest.terms none)
       by_device (inr (inr waiting)) =
           leaves-by s p then (subst (IoLeft p s.files.io) (sym waiting.io) (io-call p s.files.io (Some (call_of waiting.request))))
   serves-io no_call result serves asked (result_is, is) = leaves-same s p then (ap (λ (rest : Rest). rest.files.io) is)
@@ -325,20 +325,20 @@ after-instruction s p (Done effect) = io-same p s.files.io
 after-instruction s p (Calls code regs) = io-same p s.files.io
 after-instruction s p (Aborts status) = io-ended p s.files.io
 
-after-delivery : (s : State) (p : ℕ) (result : Result Inner ℕ) → IoLeft p s.files.io (files_after_delivery s.files p result).io
+after-delivery : (s : State) (p : ℕ) (result : Result Processes ℕ) → IoLeft p s.files.io (files_after_delivery s.files p result).io
 after-delivery s p (Ok t) = io-interrupted p s.files.io
 after-delivery s p (Err status) = io-ended p s.files.io
 
-acts-leave-io : (act : Act) (s : State) (p : ℕ) (end : EventEnd) (t : State) → IsLiving s.inner.records p → act_of s.inner p ≡ act → Acts act s p end t → LeavesIo s p t
+acts-leave-io : (act : Act) (s : State) (p : ℕ) (end : EventEnd) (t : State) → IsLiving s.processes.records p → act_of s.processes p ≡ act → Acts act s p end t → LeavesIo s p t
 acts-leave-io executes s p end t lives next (over, is) =
-    subst (LeavesIo s p) (sym is) (leaves-by s p _ (after-instruction s p (next_instruction s.inner p)))
+    subst (LeavesIo s p) (sym is) (leaves-by s p _ (after-instruction s p (next_instruction s.processes p)))
 acts-leave-io (delivers signal) s p end t lives next (over, is) =
     subst (LeavesIo s p) (sym is) (leaves-by s p _ (after-delivery s p (delivered (before_delivery s p) p signal)))
 acts-leave-io (attempts code) s p end t lives next (result, rest, (now, is_now, it), over, is) =
-    subst (LeavesIo s p) (sym is) (serves-io s p code next lives now rest (after_attempt s.inner p result) (service_of code) result refl (asks code) it)
+    subst (LeavesIo s p) (sym is) (serves-io s p code next lives now rest (after_attempt s.processes p result) (service_of code) result refl (asks code) it)
 
 -- the process of an event is the one that was chosen
 pub event-leaves-io : (s t : State) (end : EventEnd) (p : ℕ) → s.chosen ≡ Some p → Event s end t → LeavesIo s p t
 event-leaves-io s t end p chosen (q, chosen_too, lives, acts) =
     let same : q ≡ p = same_Some q p (sym chosen_too ∙ chosen) in
-    subst (λ (p : ℕ). LeavesIo s p t) same (acts-leave-io (act_of s.inner q) s q end t lives refl acts)
+    subst (λ (p : ℕ). LeavesIo s p t) same (acts-leave-io (act_of s.processes q) s q end t lives refl acts)

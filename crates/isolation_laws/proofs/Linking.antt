@@ -21,7 +21,7 @@ use Rattle.call_rules.specs.CallResult.{CallResult, changes, done, needs, reads_
 use Rattle.call_rules.specs.Chain.{begun_anew, f_chain, with_program}
 use Rattle.call_rules.specs.Codes.{call_of}
 use Rattle.call_rules.specs.Fork.{f_fork, forked_regs, with_child}
-use Rattle.call_rules.specs.Inner.{Inner, cells_at, own_at, regs_at, with_regs_of}
+use Rattle.call_rules.specs.Processes.{Processes, cells_at, own_at, regs_at, with_regs_of}
 use Rattle.call_rules.specs.Link.{Mapped, after_link, f_link, links_at, mapped_group}
 use Rattle.call_rules.specs.ModuleLinks.{Entered, found_entry, module_at, without_module_link, without_primary_link}
 use Rattle.call_rules.specs.Program.{Program, area_pages, asks_for_program, blocks_of_pages, most_pages, program_kind, is_unreadable, module_name, name_at_x, reads_program}
@@ -50,10 +50,10 @@ is_on_modules Call.UnLoad = true
 is_on_modules call = false
 
 -- the process attempts no such call
-abbrev pub IsNotOnModules : Inner → ℕ → Type 0
+abbrev pub IsNotOnModules : Processes → ℕ → Type 0
 IsNotOnModules m p = (call : ProcCall) → is_on_modules call ≡ true → AttemptsCall m p call → ⊥
 
-module _ (m : Inner) (p : ℕ) where
+module _ (m : Processes) (p : ℕ) where
   pub other-links : (end : EventEnd) (n : MemoryState) → IsNotOnModules m p → ChangesLinksAsBefore m p end n → ChangesEntered m p end n
   other-links end n none (inl same) = inl same
   other-links end n none (inr (inl gains)) = absurd (by_call gains.call)
@@ -201,7 +201,7 @@ module _ (m : Inner) (p : ℕ) where
           needs (free_process m.records) E_PRCFUL (λ child. refuses (nat_lt most_pages program.pages) E_MEMFUL (making program child))
 
   module _ (program : Program) (memory : MemoryState) (is : started m.memory p program.entered.number (blocks_of_pages program.pages) ≡ Ok memory) where
-    abbrev anew : Inner
+    abbrev anew : Processes
     anew = begun_anew (with_program m p program memory) p program
 
     linked-anew : anew.memory.modules ≡ (linked m.memory program.entered.number).modules

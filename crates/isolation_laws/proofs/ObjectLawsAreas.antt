@@ -7,7 +7,7 @@ use Rattle.proc_model.specs.Memory.{MemoryState, map_at}
 use Rattle.proc_model.specs.MemoryChanges.{first_slots, linked, new_numbers, started, with_first_slots, writes_from}
 use Rattle.proc_model.specs.Objects.{slot_of, with_cell, with_object_byte, with_writes, zero_object}
 use Rattle.proc_model.specs.Slots.{Slots, no_slots}
-use Rattle.call_rules.specs.Inner.{Inner}
+use Rattle.call_rules.specs.Processes.{Processes}
 use Rattle.call_rules.specs.ModuleLinks.{Entered}
 use Rattle.call_rules.specs.Program.{Program, area_size, blocks_of_pages, parameters_at, with_parameters}
 use Rattle.call_laws.proofs.Lists.{replicate-is, right-some}
@@ -51,7 +51,7 @@ module _ (base n : MemoryState) (c : ℕ) (program : Program) (is : started base
       (subst (HoldZeros (length base.objects)) (sym (none-written (base.objects ++ replicate count zero_object) (replicate 8 None) (none-slot 8) (parameters_at program) program.parameters))
       (zeros-new base.objects count)))
 
-  pub begun-area : (m : Inner) (p : ℕ) (which : Option Entered) → BeginsIn m p c → length base.maps ≡ length m.memory.maps → StartsProgram m p which program
+  pub begun-area : (m : Processes) (p : ℕ) (which : Option Entered) → BeginsIn m p c → length base.maps ≡ length m.memory.maps → StartsProgram m p which program
       → length program.parameters ≤ area_size program
       → HoldArea m p which (length base.objects) (with_parameters (linked n program.entered.number) c program).objects
   begun-area m p which begins maps starts fits = by_map (cases_lt c (length base.maps))

@@ -17,7 +17,7 @@ use Rattle.call_rules.specs.Attempts.{after_attempt, attempted, done_regs, goes_
 use Rattle.call_rules.specs.CallResult.{CallResult, done, refused, needs, refuses, changes}
 use Rattle.call_rules.specs.Chain.{begun_anew, f_chain, with_program}
 use Rattle.call_rules.specs.Fork.{f_fork, forked_regs, with_child}
-use Rattle.call_rules.specs.Inner.{Inner, cells_at, own_at, regs_at, with_regs_of}
+use Rattle.call_rules.specs.Processes.{Processes, cells_at, own_at, regs_at, with_regs_of}
 use Rattle.call_rules.specs.Link.{Mapped, after_link, links_at, mapped_group}
 use Rattle.call_rules.specs.ModuleLinks.{Entered, without_module_link, without_primary_link}
 use Rattle.call_rules.specs.Program.{Program, blocks_of_pages, most_pages, parameters_at, program_kind, with_parameters}
@@ -56,13 +56,13 @@ use Rattle.isolation_laws.proofs.Loaded.{cell-same, first-there, user-length, us
 -- ---- what is left as before
 
 module _ (s : State) (p : ℕ) where
-  module-as-before : (number : ℕ) (old new : Option ModuleEntry) → ComesOfEntered s.inner.memory.modules old new → ModuleComesOf s p number old new
+  module-as-before : (number : ℕ) (old new : Option ModuleEntry) → ComesOfEntered s.processes.memory.modules old new → ModuleComesOf s p number old new
   module-as-before number (Some old) (Some new) stays = stays
   module-as-before number (Some old) None leaves = inl leaves
   module-as-before number None (Some new) comes = absurd comes
   module-as-before number None None comes = tt
 
-  pub as-before : (end : EventEnd) (t : State) → LeavesOthersAsBefore s.inner p end t.inner → ChangesEntered s.inner p end t.inner.memory → LeavesOthers s p end t
+  pub as-before : (end : EventEnd) (t : State) → LeavesOthersAsBefore s.processes p end t.processes → ChangesEntered s.processes p end t.processes.memory → LeavesOthers s p end t
   as-before end t left links = record {
     sizes = left.sizes;
     objects = left.objects;
@@ -71,26 +71,26 @@ module _ (s : State) (p : ℕ) where
     others = left.others;
     turns = left.turns;
     modules =
-        λ number. module-as-before number (module_entry_at s.inner.memory.modules number) (module_entry_at t.inner.memory.modules number) (left.modules number);
+        λ number. module-as-before number (module_entry_at s.processes.memory.modules number) (module_entry_at t.processes.memory.modules number) (left.modules number);
     links = inl links;
   }
 
 -- what an attempt that comes to this leaves
 abbrev pub AttemptLeaves : State → ℕ → Rest → CallResult → Type 0
 AttemptLeaves s p rest result =
-    LeavesOthers s p (call_event_end result) (with_rest s (after_attempt s.inner p result) rest)
+    LeavesOthers s p (call_event_end result) (with_rest s (after_attempt s.processes p result) rest)
 
 module _ (s : State) (p : ℕ) (rest : Rest) where
-  pub as-left : (result : CallResult) → AttemptLeft s.inner p result → ResultLinks s.inner p result → AttemptLeaves s p rest result
+  pub as-left : (result : CallResult) → AttemptLeft s.processes p result → ResultLinks s.processes p result → AttemptLeaves s p rest result
   as-left result left links =
-      as-before s p (call_event_end result) (with_rest s (after_attempt s.inner p result) rest) left.leaves links
+      as-before s p (call_event_end result) (with_rest s (after_attempt s.processes p result) rest) left.leaves links
 
   pub refused-leaves : (number : ℕ) → AttemptLeaves s p rest (refused number)
-  refused-leaves number = as-left (refused number) (left-refused s.inner p number) (inl refl)
+  refused-leaves number = as-left (refused number) (left-refused s.processes p number) (inl refl)
 
-  pub call-leaves : (call : ProcCall) → IsLiving s.inner.records p → AttemptsCall s.inner p call → AttemptLeaves s p rest (attempted call s.inner p)
+  pub call-leaves : (call : ProcCall) → IsLiving s.processes.records p → AttemptsCall s.processes p call → AttemptLeaves s p rest (attempted call s.processes p)
   call-leaves call lives did =
-      as-left (attempted call s.inner p) (attempt-left s.inner p call lives did) (attempt-links s.inner p call did (attempt-left s.inner p call lives did))
+      as-left (attempted call s.processes p) (attempt-left s.processes p call lives did) (attempt-links s.processes p call did (attempt-left s.processes p call lives did))
 
   of-needs : {A : Type 0} (some : Option A) (number : ℕ) (next : A → CallResult) → ((a : A) → some ≡ Some a → AttemptLeaves s p rest (next a)) → AttemptLeaves s p rest (needs some number next)
   of-needs None number next leaves = refused-leaves number
@@ -124,19 +124,19 @@ mapped-objects m p group mapped is =
     by_slot None None is = cc
 
 module _ (s : State) (p : ℕ) (file : ProgramFile) (loaded : Loaded) (loads : LoadsFile s p file loaded) where
-  abbrev before : Inner
+  abbrev before : Processes
   before = with-file s p file loaded loads
 
-  module _ (mapped : Mapped) (is : mapped_group loaded.memory p loaded.first.entry.group ≡ Some mapped) (count : ℕ) (next : act_of s.inner p ≡ attempts F_LOAD) where
-    abbrev linked-then : Inner
-    linked-then = after_link s.inner p loaded.first mapped count
+  module _ (mapped : Mapped) (is : mapped_group loaded.memory p loaded.first.entry.group ≡ Some mapped) (count : ℕ) (next : act_of s.processes p ≡ attempts F_LOAD) where
+    abbrev linked-then : Processes
+    linked-then = after_link s.processes p loaded.first mapped count
 
-    abbrev after : Inner
+    abbrev after : Processes
     after = goes_on linked-then p (done_regs (regs_at linked-then p))
 
-    grows : Grows loaded.memory (IsParameter s.inner p) p mapped.memory
+    grows : Grows loaded.memory (IsParameter s.processes p) p mapped.memory
     grows =
-        mapped-grows loaded.memory p loaded.first.number loaded.first.entry mapped (first-there s.inner.memory file.bytes loaded (is-loaded s p file loaded loads)) is
+        mapped-grows loaded.memory p loaded.first.number loaded.first.entry mapped (first-there s.processes.memory file.bytes loaded (is-loaded s p file loaded loads)) is
 
     still : mapped.memory.modules ≡ loaded.memory.modules
     still = mapped-modules loaded.memory p loaded.first.entry.group mapped is
@@ -145,12 +145,12 @@ module _ (s : State) (p : ℕ) (file : ProgramFile) (loaded : Loaded) (loads : L
     more =
         subst (λ (entries : List (Option ModuleEntry)). HaveMore entries (linked mapped.memory loaded.first.number).modules) still (more-linked mapped.memory loaded.first.number)
 
-    record-is : (q : ℕ) → q ≢ p → record_of after.records q ≡ record_of s.inner.records q
+    record-is : (q : ℕ) → q ≢ p → record_of after.records q ≡ record_of s.processes.records q
     record-is q differ =
-        record-other _ p _ q differ ∙ record-other _ p _ q differ ∙ record-other s.inner.records p _ q differ
+        record-other _ p _ q differ ∙ record-other _ p _ q differ ∙ record-other s.processes.records p _ q differ
 
-    own-is : (q : ℕ) → q ≢ p → own_at after q ≡ own_at s.inner q
-    own-is q differ = own-other linked-then p _ q differ ∙ own-other s.inner p _ q differ
+    own-is : (q : ℕ) → q ≢ p → own_at after q ≡ own_at s.processes q
+    own-is q differ = own-other linked-then p _ q differ ∙ own-other s.processes p _ q differ
 
     linked-left : FileLeft s p file loaded loads after
     linked-left = record {
@@ -159,10 +159,10 @@ module _ (s : State) (p : ℕ) (file : ProgramFile) (loaded : Loaded) (loads : L
       new_objects = grows.kept.new_objects;
       map = grows.itself;
       others =
-          λ q differ. subst (ComesOf before p Ran after q (record_of s.inner.records q)) (sym (record-is q differ))
-          (comes-of before p Ran after q (record_of s.inner.records q) (record_of s.inner.records q) (grows.kept.maps q differ)
-          (subst (KeepsOwn before p after.memory q (own_at s.inner q)) (sym (own-is q differ)) (own-same before p Ran q after.memory (own_at s.inner q)))
-          (record-same before p Ran q (record_of s.inner.records q)));
+          λ q differ. subst (ComesOf before p Ran after q (record_of s.processes.records q)) (sym (record-is q differ))
+          (comes-of before p Ran after q (record_of s.processes.records q) (record_of s.processes.records q) (grows.kept.maps q differ)
+          (subst (KeepsOwn before p after.memory q (own_at s.processes q)) (sym (own-is q differ)) (own-same before p Ran q after.memory (own_at s.processes q)))
+          (record-same before p Ran q (record_of s.processes.records q)));
       turns = refl;
       modules =
           λ number. loaded-more s p file loaded loads (module_entry_at loaded.memory.modules number) (module_entry_at after.memory.modules number) (more number);
@@ -175,38 +175,39 @@ module _ (s : State) (p : ℕ) (file : ProgramFile) (loaded : Loaded) (loads : L
       }));
     }
 
-  link-leaves : act_of s.inner p ≡ attempts F_LOAD → (rest : Rest) → AttemptLeaves s p rest (links_first s.inner p file loaded)
+  link-leaves : act_of s.processes p ≡ attempts F_LOAD → (rest : Rest) → AttemptLeaves s p rest (links_first s.processes p file loaded)
   link-leaves next rest =
       of-needs s p rest (mapped_group loaded.memory p loaded.first.entry.group) E_MEMFUL
-      (λ mapped. refuses (nat_le MOST_LINKS (links_at (own_at s.inner p) mapped.slot)) E_MEMFUL
-      (done (after_link s.inner p loaded.first mapped count)))
-      (λ mapped is. of-refuses s p rest (nat_le MOST_LINKS (links_at (own_at s.inner p) mapped.slot)) E_MEMFUL (done (after_link s.inner p loaded.first mapped count))
+      (λ mapped. refuses (nat_le MOST_LINKS (links_at (own_at s.processes p) mapped.slot)) E_MEMFUL
+      (done (after_link s.processes p loaded.first mapped count)))
+      (λ mapped is. of-refuses s p rest (nat_le MOST_LINKS (links_at (own_at s.processes p) mapped.slot)) E_MEMFUL (done (after_link s.processes p loaded.first mapped count))
       (file-leaves s p file loaded loads (with_rest s (after mapped is count next) rest) (linked-left mapped is count next)))
     where
       count : ℕ
-      count = file.next - (regs_at s.inner p).x
+      count = file.next - (regs_at s.processes p).x
 
   -- ---- a file that is started
 
-  module _ (starts : AttemptsCall s.inner p Call.Fork ⊎ AttemptsCall s.inner p Call.Chain) (parameters : List ℕ) (given : parameters_of s.inner p ≡ Some parameters) where
+  module _ (starts : AttemptsCall s.processes p Call.Fork ⊎ AttemptsCall s.processes p Call.Chain) (parameters : List ℕ) (given : parameters_of s.processes p ≡ Some parameters) where
     abbrev program : Program
-    program = loaded_program s.inner p file loaded.first
+    program = loaded_program s.processes p file loaded.first
 
     parameters-are : program.parameters ≡ parameters
     parameters-are = ap (λ (some : Option (List ℕ)). unwrap_or some []) given
 
     -- they are still seen where the file is in memory
-    seen-before : user_bytes (cells_at before p) (regs_at s.inner p).u (regs_at s.inner p).y ≡ Some parameters
+    seen-before : user_bytes (cells_at before p) (regs_at s.processes p).u (regs_at s.processes p).y ≡ Some parameters
     seen-before =
-        user-more (cells_at s.inner p) (cells_at before p) (cell-same s.inner.memory file.bytes loaded (is-loaded s p file loaded loads) p) (regs_at s.inner p).u (regs_at s.inner p).y parameters given
+        user-more (cells_at s.processes p) (cells_at before p) (cell-same s.processes.memory file.bytes loaded (is-loaded s p file loaded loads) p) (regs_at s.processes p).u (regs_at s.processes p).y
+            parameters given
 
     pub room : HasRoom before p program
     room = record {
       fits =
           subst (λ (n : ℕ). n ≤ 256 * program.pages)
-          (sym (ap (length {A = ℕ}) parameters-are ∙ user-length (cells_at s.inner p) (regs_at s.inner p).u
-          (regs_at s.inner p).y parameters given)) (room-of before p loaded.first.entry (regs_at s.inner p).b
-          (regs_at s.inner p).y);
+          (sym (ap (length {A = ℕ}) parameters-are ∙ user-length (cells_at s.processes p) (regs_at s.processes p).u
+          (regs_at s.processes p).y parameters given)) (room-of before p loaded.first.entry (regs_at s.processes p).b
+          (regs_at s.processes p).y);
       given = λ k byte at. record {
         starts = starts;
         parameters = parameters;
@@ -215,7 +216,7 @@ module _ (s : State) (p : ℕ) (file : ProgramFile) (loaded : Loaded) (loads : L
       };
     }
 
-    parameter-is : (byte : ℕ) → IsParameter before p byte → IsParameter s.inner p byte
+    parameter-is : (byte : ℕ) → IsParameter before p byte → IsParameter s.processes p byte
     parameter-is byte it =
         let same : it.parameters ≡ parameters = same_Some it.parameters parameters (sym it.given ∙ seen-before) in
         let (k, member) = it.member in
@@ -226,7 +227,7 @@ module _ (s : State) (p : ℕ) (file : ProgramFile) (loaded : Loaded) (loads : L
           member = (k, subst (λ (bytes : List ℕ). slice_get bytes k ≡ Some byte) same member);
         }
 
-    new-objects : (n : MemoryState) → HoldOnly (IsParameter before p) loaded.memory n → HoldOnly (IsParameter s.inner p) loaded.memory n
+    new-objects : (n : MemoryState) → HoldOnly (IsParameter before p) loaded.memory n → HoldOnly (IsParameter s.processes p) loaded.memory n
     new-objects n hold object bytes late at k byte here =
         elim (hold object bytes late at k byte here) [
           | inl none ↦ inl none
@@ -259,7 +260,7 @@ module _ (s : State) (p : ℕ) (file : ProgramFile) (loaded : Loaded) (loads : L
       begun-modules = linked-modules loaded.memory memory loaded.first.number begun-still
 
     -- from what is left of the others where the file is in memory
-    from-left : (n : Inner) → Left before p Ran n → ((object : ℕ) → object < length loaded.memory.objects
+    from-left : (n : Processes) → Left before p Ran n → ((object : ℕ) → object < length loaded.memory.objects
         → slice_get n.memory.objects object ≡ slice_get loaded.memory.objects object)
         → ((number : ℕ) → ComesLoaded s p file loaded loads (module_entry_at loaded.memory.modules number)
         (module_entry_at n.memory.modules number)) → ChangesLinks s p Ran n.memory → FileLeft s p file loaded loads n
@@ -274,10 +275,10 @@ module _ (s : State) (p : ℕ) (file : ProgramFile) (loaded : Loaded) (loads : L
     }
 
     -- a child begins
-    module _ (lives : IsLiving s.inner.records p) (call : AttemptsCall s.inner p Call.Fork) (child : ℕ)
-        (free : free_process s.inner.records ≡ Some child) (memory : MemoryState) (is : started loaded.memory child
+    module _ (lives : IsLiving s.processes.records p) (call : AttemptsCall s.processes p Call.Fork) (child : ℕ)
+        (free : free_process s.processes.records ≡ Some child) (memory : MemoryState) (is : started loaded.memory child
         loaded.first.number (blocks_of_pages program.pages) ≡ Ok memory) where
-      abbrev made : Inner
+      abbrev made : Processes
       made = with_regs_of (with_child before p child program memory) p (forked_regs (regs_at before p) child program)
 
       fork-file : (rest : Rest) → AttemptLeaves s p rest (done made)
@@ -287,10 +288,10 @@ module _ (s : State) (p : ℕ) (file : ProgramFile) (loaded : Loaded) (loads : L
           (λ number. loaded-more s p file loaded loads (module_entry_at loaded.memory.modules number) (module_entry_at (begun child memory is).modules number) (begun-more child memory is number))
           (inr (inl (record { call = inr call; file = file; loaded = loaded; loads = loads; linked_then = begun-modules child memory is }))))
 
-    forks-leave : IsLiving s.inner.records p → AttemptsCall s.inner p Call.Fork → (rest : Rest) → AttemptLeaves s p rest (starts_first forks s.inner p file loaded)
+    forks-leave : IsLiving s.processes.records p → AttemptsCall s.processes p Call.Fork → (rest : Rest) → AttemptLeaves s p rest (starts_first forks s.processes p file loaded)
     forks-leave lives call rest =
         of-refuses s p rest (not (loaded.first.entry.info.kind == program_kind)) E_NEMOD (forks before p program)
-        (of-needs s p rest (free_process s.inner.records) E_PRCFUL (λ child. refuses (nat_lt most_pages program.pages) E_MEMFUL (making child))
+        (of-needs s p rest (free_process s.processes.records) E_PRCFUL (λ child. refuses (nat_lt most_pages program.pages) E_MEMFUL (making child))
         (λ child free. of-refuses s p rest (nat_lt most_pages program.pages) E_MEMFUL (making child)
         (of-changes s p rest (started loaded.memory child loaded.first.number (blocks_of_pages program.pages)) (begins child)
         (λ memory is. fork-file lives call child free memory is rest))))
@@ -304,12 +305,12 @@ module _ (s : State) (p : ℕ) (file : ProgramFile) (loaded : Loaded) (loads : L
             changes (started loaded.memory child loaded.first.number (blocks_of_pages program.pages)) (begins child)
 
     -- the process begins anew
-    module _ (call : AttemptsCall s.inner p Call.Chain) (memory : MemoryState) (is : started loaded.memory p loaded.first.number (blocks_of_pages program.pages) ≡ Ok memory) where
-      abbrev anew : Inner
+    module _ (call : AttemptsCall s.processes p Call.Chain) (memory : MemoryState) (is : started loaded.memory p loaded.first.number (blocks_of_pages program.pages) ≡ Ok memory) where
+      abbrev anew : Processes
       anew = begun_anew (with_program before p program memory) p program
 
-      abbrev chained : Inner
-      chained = without_primary_link anew (own_at s.inner p)
+      abbrev chained : Processes
+      chained = without_primary_link anew (own_at s.processes p)
 
       chained-objects : (primary : Option ModId) → (option_map_or (λ (id : ModId). without_module_link anew id.0) primary anew).memory.objects ≡ (begun p memory is).objects
       chained-objects None = refl
@@ -326,14 +327,14 @@ module _ (s : State) (p : ℕ) (file : ProgramFile) (loaded : Loaded) (loads : L
       chain-file rest =
           file-leaves s p file loaded loads (with_rest s (goes_on chained p (done_regs (regs_at chained p))) rest)
           (from-left (goes_on chained p (done_regs (regs_at chained p))) left
-          (λ object there. ap (λ (objects : List (List ℕ)). slice_get objects object) (chained-objects (own_at s.inner p).primary) ∙ begun-objects p memory is object there)
+          (λ object there. ap (λ (objects : List (List ℕ)). slice_get objects object) (chained-objects (own_at s.processes p).primary) ∙ begun-objects p memory is object there)
           (λ number. loaded-chained s p file loaded loads call (module_entry_at loaded.memory.modules number) (module_entry_at chained.memory.modules number) (left.leaves.modules number))
-          (inr (inr (record { file = file; loaded = loaded; loads = loads; call = call; relinked = chained-modules (own_at s.inner p).primary }))))
+          (inr (inr (record { file = file; loaded = loaded; loads = loads; call = call; relinked = chained-modules (own_at s.processes p).primary }))))
         where
           left : Left before p Ran (goes_on chained p (done_regs (regs_at chained p)))
           left = chain-done before p call program memory room is
 
-    chains-leave : AttemptsCall s.inner p Call.Chain → (rest : Rest) → AttemptLeaves s p rest (starts_first chains s.inner p file loaded)
+    chains-leave : AttemptsCall s.processes p Call.Chain → (rest : Rest) → AttemptLeaves s p rest (starts_first chains s.processes p file loaded)
     chains-leave call rest =
         of-refuses s p rest (not (loaded.first.entry.info.kind == program_kind)) E_NEMOD (chains before p program)
         (of-refuses s p rest (nat_lt most_pages program.pages) E_MEMFUL (changes (started loaded.memory p loaded.first.number (blocks_of_pages program.pages)) begins)
@@ -347,9 +348,9 @@ module _ (s : State) (p : ℕ) (file : ProgramFile) (loaded : Loaded) (loads : L
 -- ---- attempts
 
 module _ (s : State) (p : ℕ) (now : TimePacket) (rest : Rest) (result : CallResult) (new : Files) where
-  loads-leave : act_of s.inner p ≡ attempts F_LOAD → (reading : Result ProgramFile ℕ)
-      → ReadsProgram (program_file (asker_of s.inner p now) s.files (length s.terms) (λ step. step)) reading s.files
-      new → GoesOnLoaded s.inner reading (links_first s.inner p) result → AttemptLeaves s p rest result
+  loads-leave : act_of s.processes p ≡ attempts F_LOAD → (reading : Result ProgramFile ℕ)
+      → ReadsProgram (program_file (asker_of s.processes p now) s.files (length s.terms) (λ step. step)) reading s.files
+      new → GoesOnLoaded s.processes reading (links_first s.processes p) result → AttemptLeaves s p rest result
   loads-leave next (Err number) reads is =
       subst (AttemptLeaves s p rest) (sym is) (refused-leaves s p rest number)
   loads-leave next (Ok file) reads (Err number, loads, is) =
@@ -358,56 +359,56 @@ module _ (s : State) (p : ℕ) (now : TimePacket) (rest : Rest) (result : CallRe
       subst (AttemptLeaves s p rest) (sym is)
       (link-leaves s p file loaded (record { call = inl next; found = file-found s p now file new reads; loads = loads }) next rest)
 
-  pub load-leaves-others : act_of s.inner p ≡ attempts F_LOAD → LoadAttempts s.inner (asker_of s.inner p now) s.files (length s.terms) p result new → AttemptLeaves s p rest result
+  pub load-leaves-others : act_of s.processes p ≡ attempts F_LOAD → LoadAttempts s.processes (asker_of s.processes p now) s.files (length s.terms) p result new → AttemptLeaves s p rest result
   load-leaves-others next it = loads-leave next it.reading it.reads it.comes
 
   -- a program of a file
 
-  forks-file : IsLiving s.inner.records p → StartsFileBy s.inner p Call.Fork → (reading : Result ProgramFile ℕ)
-      → ReadsProgram (program_file (asker_of s.inner p now) s.files (length s.terms) (tests_program s.inner p))
-      reading s.files new → GoesOnLoaded s.inner reading (starts_first forks s.inner p) result → AttemptLeaves s p
+  forks-file : IsLiving s.processes.records p → StartsFileBy s.processes p Call.Fork → (reading : Result ProgramFile ℕ)
+      → ReadsProgram (program_file (asker_of s.processes p now) s.files (length s.terms) (tests_program s.processes p))
+      reading s.files new → GoesOnLoaded s.processes reading (starts_first forks s.processes p) result → AttemptLeaves s p
       rest result
   forks-file lives by (Err number) reads is =
       subst (AttemptLeaves s p rest) (sym is) (refused-leaves s p rest number)
   forks-file lives by (Ok file) reads (Err number, loads, is) =
       subst (AttemptLeaves s p rest) (sym is) (refused-leaves s p rest number)
   forks-file lives by (Ok file) reads (Ok loaded, loads, is) =
-      let read : HasRead s.inner p file (program_file (asker_of s.inner p now) s.files (length s.terms) (λ step. step)) = program-found s p now file new reads in
+      let read : HasRead s.processes p file (program_file (asker_of s.processes p now) s.files (length s.terms) (λ step. step)) = program-found s p now file new reads in
       subst (AttemptLeaves s p rest) (sym is)
       (forks-leave s p file loaded (record { call = inr (inl by); found = read.found; loads = loads }) (inl by.attempted) read.parameters read.given lives by.attempted rest)
 
-  pub fork-leaves-others : IsLiving s.inner.records p → AttemptsCall s.inner p Call.Fork → ForkAttempts s.inner
-      (asker_of s.inner p now) s.files (length s.terms) p result new → AttemptLeaves s p rest result
-  fork-leaves-others lives call it = by_named (named_program s.inner p) refl it
+  pub fork-leaves-others : IsLiving s.processes.records p → AttemptsCall s.processes p Call.Fork → ForkAttempts s.processes
+      (asker_of s.processes p now) s.files (length s.terms) p result new → AttemptLeaves s p rest result
+  fork-leaves-others lives call it = by_named (named_program s.processes p) refl it
     where
-      by_named : (named : Option Entered) → named_program s.inner p ≡ named → MatchOption named
-          (StartsFile forks s.inner (asker_of s.inner p now) s.files (length s.terms) p result new)
-          (λ named. (result ≡ f_fork s.inner p) × (new ≡ s.files)) → AttemptLeaves s p rest result
+      by_named : (named : Option Entered) → named_program s.processes p ≡ named → MatchOption named
+          (StartsFile forks s.processes (asker_of s.processes p now) s.files (length s.terms) p result new)
+          (λ named. (result ≡ f_fork s.processes p) × (new ≡ s.files)) → AttemptLeaves s p rest result
       by_named None unnamed it =
           forks-file lives (record { attempted = call; unnamed = unnamed }) it.reading it.reads it.comes
       by_named (Some entered) named (is, same) =
           subst (AttemptLeaves s p rest) (sym is) (call-leaves s p rest Call.Fork lives call)
 
-  chains-file : StartsFileBy s.inner p Call.Chain → (reading : Result ProgramFile ℕ)
-      → ReadsProgram (program_file (asker_of s.inner p now) s.files (length s.terms) (tests_program s.inner p))
-      reading s.files new → GoesOnLoaded s.inner reading (starts_first chains s.inner p) result → AttemptLeaves s p
+  chains-file : StartsFileBy s.processes p Call.Chain → (reading : Result ProgramFile ℕ)
+      → ReadsProgram (program_file (asker_of s.processes p now) s.files (length s.terms) (tests_program s.processes p))
+      reading s.files new → GoesOnLoaded s.processes reading (starts_first chains s.processes p) result → AttemptLeaves s p
       rest result
   chains-file by (Err number) reads is =
       subst (AttemptLeaves s p rest) (sym is) (refused-leaves s p rest number)
   chains-file by (Ok file) reads (Err number, loads, is) =
       subst (AttemptLeaves s p rest) (sym is) (refused-leaves s p rest number)
   chains-file by (Ok file) reads (Ok loaded, loads, is) =
-      let read : HasRead s.inner p file (program_file (asker_of s.inner p now) s.files (length s.terms) (λ step. step)) = program-found s p now file new reads in
+      let read : HasRead s.processes p file (program_file (asker_of s.processes p now) s.files (length s.terms) (λ step. step)) = program-found s p now file new reads in
       subst (AttemptLeaves s p rest) (sym is)
       (chains-leave s p file loaded (record { call = inr (inr by); found = read.found; loads = loads }) (inr by.attempted) read.parameters read.given by.attempted rest)
 
-  pub chain-leaves-others : IsLiving s.inner.records p → AttemptsCall s.inner p Call.Chain → ChainAttempts s.inner
-      (asker_of s.inner p now) s.files (length s.terms) p result new → AttemptLeaves s p rest result
-  chain-leaves-others lives call it = by_named (named_program s.inner p) refl it
+  pub chain-leaves-others : IsLiving s.processes.records p → AttemptsCall s.processes p Call.Chain → ChainAttempts s.processes
+      (asker_of s.processes p now) s.files (length s.terms) p result new → AttemptLeaves s p rest result
+  chain-leaves-others lives call it = by_named (named_program s.processes p) refl it
     where
-      by_named : (named : Option Entered) → named_program s.inner p ≡ named → MatchOption named
-          (StartsFile chains s.inner (asker_of s.inner p now) s.files (length s.terms) p result new)
-          (λ named. (result ≡ f_chain s.inner p) × (new ≡ s.files)) → AttemptLeaves s p rest result
+      by_named : (named : Option Entered) → named_program s.processes p ≡ named → MatchOption named
+          (StartsFile chains s.processes (asker_of s.processes p now) s.files (length s.terms) p result new)
+          (λ named. (result ≡ f_chain s.processes p) × (new ≡ s.files)) → AttemptLeaves s p rest result
       by_named None unnamed it =
           chains-file (record { attempted = call; unnamed = unnamed }) it.reading it.reads it.comes
       by_named (Some entered) named (is, same) =

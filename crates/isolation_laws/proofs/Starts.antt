@@ -12,7 +12,7 @@ use Rattle.proc_rules.specs.Records.{free_process}
 use Rattle.call_rules.specs.CallResult.{CallResult, changes, done, ends, needs, refused, refuses, waits}
 use Rattle.call_rules.specs.Chain.{begun_anew, f_chain, with_program}
 use Rattle.call_rules.specs.Fork.{f_fork, forked_regs, with_child}
-use Rattle.call_rules.specs.Inner.{Inner, cells_at, own_at, regs_at, with_memory, with_regs_of}
+use Rattle.call_rules.specs.Processes.{Processes, cells_at, own_at, regs_at, with_memory, with_regs_of}
 use Rattle.call_rules.specs.ModuleLinks.{Entered, found_entry, without_module_link, without_primary_link}
 use Rattle.call_rules.specs.Program.{Program, area_pages, area_size, asks_for_program, blocks_of_pages, is_unreadable, module_name, most_pages, name_at_x, parameters_at, program_kind, reads_program, with_parameters}
 use Rattle.call_rules.specs.UserBytes.{user_bytes}
@@ -53,13 +53,13 @@ module _ (P : List (List ℕ) → Type 0) where
   of-changes (Err fault) next leaves = tt
 
 -- the primary module's link changes no object
-unlinked-objects : (t : Inner) (primary : Option ModId) → (option_map_or (λ (id : ModId). without_module_link t id.0) primary t).memory.objects ≡ t.memory.objects
+unlinked-objects : (t : Processes) (primary : Option ModId) → (option_map_or (λ (id : ModId). without_module_link t id.0) primary t).memory.objects ≡ t.memory.objects
 unlinked-objects t None = refl
 unlinked-objects t (Some id) = refl
 
 -- ---- a program that is started from a state
 
-module _ (from : Inner) (p : ℕ) (P : List (List ℕ) → Type 0) (program : Program) (In : ℕ → Type 0) (begins : (c : ℕ) → In c → (memory : MemoryState)
+module _ (from : Processes) (p : ℕ) (P : List (List ℕ) → Type 0) (program : Program) (In : ℕ → Type 0) (begins : (c : ℕ) → In c → (memory : MemoryState)
     → started from.memory c program.entered.number (blocks_of_pages program.pages) ≡ Ok memory → P (with_parameters (linked memory program.entered.number) c program).objects) where
   pub forks-leave : ((child : ℕ) → free_process from.records ≡ Some child → In child) → Leaves P (forks from p program)
   forks-leave in_child =
@@ -87,7 +87,7 @@ module _ (from : Inner) (p : ℕ) (P : List (List ℕ) → Type 0) (program : Pr
 
 -- ---- an entered module is started
 
-module _ (m : Inner) (p : ℕ) (P : List (List ℕ) → Type 0) (starts : AttemptsCall m p Call.Fork ⊎ AttemptsCall m p Call.Chain) (next : Program → CallResult) (leaves : (program : Program)
+module _ (m : Processes) (p : ℕ) (P : List (List ℕ) → Type 0) (starts : AttemptsCall m p Call.Fork ⊎ AttemptsCall m p Call.Chain) (next : Program → CallResult) (leaves : (program : Program)
     → StartsProgram m p (named_program m p) program → length program.parameters ≤ area_size program → Leaves P (next program)) where
   abbrev program-of : Entered → List ℕ → ℕ → Program
   program-of found parameters count = record {
@@ -135,7 +135,7 @@ module _ (m : Inner) (p : ℕ) (P : List (List ℕ) → Type 0) (starts : Attemp
       named : List ℕ → Option Entered
       named name = found_entry m.memory.modules name (regs_at m p).a
 
-module _ (m : Inner) (p : ℕ) where
+module _ (m : Processes) (p : ℕ) where
   abbrev Area : List (List ℕ) → Type 0
   Area objects = HoldArea m p (named_program m p) (length m.memory.objects) objects
 
@@ -153,45 +153,45 @@ module _ (m : Inner) (p : ℕ) where
 
 -- ---- a program of a file is started
 
-module _ (s : State) (p : ℕ) (file : ProgramFile) (loaded : Loaded) (loads : LoadsFile s p file loaded) (starts : AttemptsCall s.inner p Call.Fork ⊎ AttemptsCall s.inner p Call.Chain)
-    (parameters : List ℕ) (given : parameters_of s.inner p ≡ Some parameters) where
-  abbrev before : Inner
-  before = with_memory s.inner loaded.memory
+module _ (s : State) (p : ℕ) (file : ProgramFile) (loaded : Loaded) (loads : LoadsFile s p file loaded) (starts : AttemptsCall s.processes p Call.Fork ⊎ AttemptsCall s.processes p Call.Chain)
+    (parameters : List ℕ) (given : parameters_of s.processes p ≡ Some parameters) where
+  abbrev before : Processes
+  before = with_memory s.processes loaded.memory
 
   abbrev program : Program
-  program = loaded_program s.inner p file loaded.first
+  program = loaded_program s.processes p file loaded.first
 
   parameters-are : program.parameters ≡ parameters
   parameters-are = ap (λ (some : Option (List ℕ)). unwrap_or some []) given
 
-  starts-it : StartsProgram s.inner p (Some loaded.first) program
+  starts-it : StartsProgram s.processes p (Some loaded.first) program
   starts-it = record { call = starts; entered = refl; pages = refl; parameters = given ∙ ap Some (sym parameters-are) }
 
   fits : length program.parameters ≤ area_size program
   fits =
-      let all : length program.parameters ≡ (regs_at s.inner p).y =
-      ap (length {A = ℕ}) parameters-are ∙ user-length (cells_at s.inner p) (regs_at s.inner p).u (regs_at s.inner p).y parameters given in
-      subst (λ (n : ℕ). n ≤ 256 * program.pages) (sym all) (room-of before p loaded.first.entry (regs_at s.inner p).b (regs_at s.inner p).y)
+      let all : length program.parameters ≡ (regs_at s.processes p).y =
+      ap (length {A = ℕ}) parameters-are ∙ user-length (cells_at s.processes p) (regs_at s.processes p).u (regs_at s.processes p).y parameters given in
+      subst (λ (n : ℕ). n ≤ 256 * program.pages) (sym all) (room-of before p loaded.first.entry (regs_at s.processes p).b (regs_at s.processes p).y)
 
-  long : length loaded.memory.objects ≡ length s.inner.memory.objects + file_blocks file.bytes
-  long = more-objects s.inner.memory file.bytes loaded (is-loaded s p file loaded loads)
+  long : length loaded.memory.objects ≡ length s.processes.memory.objects + file_blocks file.bytes
+  long = more-objects s.processes.memory file.bytes loaded (is-loaded s p file loaded loads)
 
-  maps-same : length loaded.memory.maps ≡ length s.inner.memory.maps
+  maps-same : length loaded.memory.maps ≡ length s.processes.memory.maps
   maps-same = ap (λ (n : MemoryState). length n.maps) (is-loaded s p file loaded loads).memory
 
   -- the file is still there
-  file-first : (c : ℕ) → BeginsIn s.inner p c → (memory : MemoryState) → started loaded.memory c loaded.first.number (blocks_of_pages program.pages) ≡ Ok memory
+  file-first : (c : ℕ) → BeginsIn s.processes p c → (memory : MemoryState) → started loaded.memory c loaded.first.number (blocks_of_pages program.pages) ≡ Ok memory
       → HoldFileFirst s p (with_parameters (linked memory loaded.first.number) c program).objects
   file-first c begins memory is = record {
     file = file;
     loaded = loaded;
     loads = loads;
     blocks = λ k within.
-        still (length s.inner.memory.objects + k) (subst (λ (n : ℕ). length s.inner.memory.objects + k < n) (sym long) (omega (arith, within)))
-        ∙ file-block-at s.inner.memory file.bytes loaded (is-loaded s p file loaded loads) k within;
+        still (length s.processes.memory.objects + k) (subst (λ (n : ℕ). length s.processes.memory.objects + k < n) (sym long) (omega (arith, within)))
+        ∙ file-block-at s.processes.memory file.bytes loaded (is-loaded s p file loaded loads) k within;
     rest =
-        subst (λ (first : ℕ). HoldArea s.inner p (Some loaded.first) first (with_parameters (linked memory loaded.first.number) c program).objects) long
-        (begun-area loaded.memory memory c program is s.inner p (Some loaded.first) begins maps-same starts-it fits);
+        subst (λ (first : ℕ). HoldArea s.processes p (Some loaded.first) first (with_parameters (linked memory loaded.first.number) c program).objects) long
+        (begun-area loaded.memory memory c program is s.processes p (Some loaded.first) begins maps-same starts-it fits);
   }
     where
       still : (object : ℕ) → object < length loaded.memory.objects → slice_get (with_parameters (linked memory loaded.first.number) c program).objects object ≡ slice_get loaded.memory.objects object
@@ -202,12 +202,12 @@ module _ (s : State) (p : ℕ) (file : ProgramFile) (loaded : Loaded) (loads : L
           (old-kept loaded.memory c (blocks_of_pages program.pages) it.entry.group it.fits loaded.first.number (parameters_at program) program.parameters
           (within-area before p program.pages (length program.parameters) fits) object there)
 
-  pub fork-file : AttemptsCall s.inner p Call.Fork → Leaves (HoldFileFirst s p) (starts_first forks s.inner p file loaded)
+  pub fork-file : AttemptsCall s.processes p Call.Fork → Leaves (HoldFileFirst s p) (starts_first forks s.processes p file loaded)
   fork-file call =
       of-refuses (HoldFileFirst s p) (not (loaded.first.entry.info.kind == program_kind)) E_NEMOD (forks before p program)
-      (forks-leave before p (HoldFileFirst s p) program (BeginsIn s.inner p) file-first (λ child free. inl (call, free)))
+      (forks-leave before p (HoldFileFirst s p) program (BeginsIn s.processes p) file-first (λ child free. inl (call, free)))
 
-  pub chain-file : AttemptsCall s.inner p Call.Chain → Leaves (HoldFileFirst s p) (starts_first chains s.inner p file loaded)
+  pub chain-file : AttemptsCall s.processes p Call.Chain → Leaves (HoldFileFirst s p) (starts_first chains s.processes p file loaded)
   chain-file call =
       of-refuses (HoldFileFirst s p) (not (loaded.first.entry.info.kind == program_kind)) E_NEMOD (chains before p program)
-      (chains-leave before p (HoldFileFirst s p) program (BeginsIn s.inner p) file-first (inr (call, refl)))
+      (chains-leave before p (HoldFileFirst s p) program (BeginsIn s.processes p) file-first (inr (call, refl)))

@@ -14,7 +14,7 @@ use Rattle.call_rules.specs.CallResult.{CallResult, done, refused, waits, ends}
 use Rattle.call_rules.specs.Chain.{f_chain}
 use Rattle.call_rules.specs.Delivery.{delivered}
 use Rattle.call_rules.specs.Fork.{f_fork}
-use Rattle.call_rules.specs.Inner.{Inner, cells_at, regs_at}
+use Rattle.call_rules.specs.Processes.{Processes, cells_at, regs_at}
 use Rattle.call_rules.specs.ModuleLinks.{Entered}
 use Rattle.call_rules.specs.Program.{Program}
 use Rattle.call_rules.specs.Ready.{Act, attempts, delivers, executes, act_of}
@@ -87,8 +87,8 @@ leaves-by s p t stay drives clock = record {
 
 -- ---- a child is given the directories
 
-module _ (s : State) (p : ℕ) (call : AttemptsCall s.inner p Call.Fork) (child : ℕ)
-    (free : free_process s.inner.records ≡ Some child) (files : Files) (same : files.directories ≡
+module _ (s : State) (p : ℕ) (call : AttemptsCall s.processes p Call.Fork) (child : ℕ)
+    (free : free_process s.processes.records ≡ Some child) (files : Files) (same : files.directories ≡
     s.files.directories) where
   abbrev begun : Files
   begun = files_started files p child
@@ -115,17 +115,18 @@ module _ (s : State) (p : ℕ) (call : AttemptsCall s.inner p Call.Fork) (child 
 
 -- ---- an attempt of a call
 
-module _ (s : State) (p code : ℕ) (next : act_of s.inner p ≡ attempts code) (lives : IsLiving s.inner.records p) (now : TimePacket) (is_now : IsNow s.clock s.inner.tick now) (inner : Inner) where
+module _ (s : State) (p code : ℕ) (next : act_of s.processes p ≡ attempts code) (lives : IsLiving s.processes.records p) (now : TimePacket) (is_now : IsNow s.clock s.processes.tick now)
+    (processes : Processes) where
   abbrev then : Rest → State
-  then rest = with_rest s inner rest
+  then rest = with_rest s processes rest
 
   -- the files are these, and the clock stays
   files-leave : (rest : Rest) (files : Files) → FilesStay p s.files files → DrivesCome s p files.drives → rest ≡ with_files s files → LeavesVolumes s p (then rest)
   files-leave rest files stay drives is =
       subst (λ (rest : Rest). LeavesVolumes s p (then rest)) (sym is) (leaves-by s p (then (with_files s files)) stay drives (inl refl))
 
-  fork-leaves-volumes : {reached : Option ℕ} → AttemptsCall s.inner p Call.Fork → (rest : Rest) (files : Files)
-      (result : CallResult) → NamesChild s.inner p result → LeavesFiles reached s.files result files
+  fork-leaves-volumes : {reached : Option ℕ} → AttemptsCall s.processes p Call.Fork → (rest : Rest) (files : Files)
+      (result : CallResult) → NamesChild s.processes p result → LeavesFiles reached s.files result files
       → DrivesCome s p files.drives → rest ≡ with_files s (files_after_fork files p result) → LeavesVolumes s p
       (then rest)
   fork-leaves-volumes call rest files (done t) names left drives is =
@@ -169,15 +170,15 @@ module _ (s : State) (p code : ℕ) (next : act_of s.inner p ≡ attempts code) 
 
   -- the drive of a program in a file
   abbrev list_drive : Option ℕ
-  list_drive = drive_of (program_file (asker_of s.inner p now) s.files (length s.terms) (tests_program s.inner p))
+  list_drive = drive_of (program_file (asker_of s.processes p now) s.files (length s.terms) (tests_program s.processes p))
 
   abbrev drive_by_name : Option Entered → Option ℕ
   drive_by_name named = option_map_or (λ (entered : Entered). None) named list_drive
 
   program-drives : (service : Service) → service_of code ≡ service → drive_by service s p now ≡ drive_of_program s p
-      now → (start : Inner → ℕ → Program → CallResult) (entered_is : CallResult) (named : Option Entered)
-      → named_program s.inner p ≡ named → (result : CallResult) (files : Files) → MatchOption named
-      (StartsFile start s.inner (asker_of s.inner p now) s.files (length s.terms) p result files)
+      now → (start : Processes → ℕ → Program → CallResult) (entered_is : CallResult) (named : Option Entered)
+      → named_program s.processes p ≡ named → (result : CallResult) (files : Files) → MatchOption named
+      (StartsFile start s.processes (asker_of s.processes p now) s.files (length s.terms) p result files)
       (λ named. (result ≡ entered_is) × (files ≡ s.files)) → NoneFailed s.files.drives files.drives ⊎ FaultAnswers
       list_drive s.files result files → DrivesCome s p files.drives
   program-drives service serves by start entered_is None unnamed result files it come =
@@ -230,35 +231,35 @@ module _ (s : State) (p code : ℕ) (next : act_of s.inner p ≡ attempts code) 
 
   serves-volumes : (service : Service) (result : CallResult) (rest : Rest) → service_of code ≡ service → Asks code service → Serves service s now p result rest → LeavesVolumes s p (then rest)
   serves-volumes loads result rest serves asked (files, it, is) =
-      let left = load-leaves s.inner (asker_of s.inner p now) s.files (length s.terms) p result files it in
+      let left = load-leaves s.processes (asker_of s.processes p now) s.files (length s.terms) p result files it in
       files-leave rest files (stay-lists p s.files files left.volumes left.directories) (drives-come loads serves result files left.drives) is
   serves-volumes (on_processes Call.Fork) result rest serves asked (files, it, is) =
-      let left = fork-leaves s.inner (asker_of s.inner p now) s.files (length s.terms) p result files it in
-      fork-leaves-volumes (code, next, asked) rest files result (fork-attempt-names s.inner p lives
-      (asker_of s.inner p now) s.files (length s.terms) result files it) left
-      (program-drives (on_processes Call.Fork) serves refl forks (f_fork s.inner p) (named_program s.inner p) refl
+      let left = fork-leaves s.processes (asker_of s.processes p now) s.files (length s.terms) p result files it in
+      fork-leaves-volumes (code, next, asked) rest files result (fork-attempt-names s.processes p lives
+      (asker_of s.processes p now) s.files (length s.terms) result files it) left
+      (program-drives (on_processes Call.Fork) serves refl forks (f_fork s.processes p) (named_program s.processes p) refl
       result files it left.drives) is
   serves-volumes (on_processes Call.Chain) result rest serves asked (files, it, is) =
-      let left = chain-leaves s.inner (asker_of s.inner p now) s.files (length s.terms) p result files it in
+      let left = chain-leaves s.processes (asker_of s.processes p now) s.files (length s.terms) p result files it in
       files-leave rest files (stay-lists p s.files files left.volumes left.directories)
-      (program-drives (on_processes Call.Chain) serves refl chains (f_chain s.inner p) (named_program s.inner p)
+      (program-drives (on_processes Call.Chain) serves refl chains (f_chain s.processes p) (named_program s.processes p)
       refl result files it left.drives) is
   serves-volumes (on_processes call) result rest serves asked it = call-leaves-volumes rest result it.1
   serves-volumes (on_time Time.Time) result rest serves asked (clock, it, is) =
       subst (λ (rest : Rest). LeavesVolumes s p (then rest)) (sym is)
-      (leaves-by s p _ (stay-same p s.files) (inl refl) (inl (it.clock_is ∙ by_missing (is_none (user_bytes (cells_at s.inner p) (regs_at s.inner p).x PACKET_BYTES)))))
+      (leaves-by s p _ (stay-same p s.files) (inl refl) (inl (it.clock_is ∙ by_missing (is_none (user_bytes (cells_at s.processes p) (regs_at s.processes p).x PACKET_BYTES)))))
     where
-      by_missing : (missing : Bool) → clock_after s.clock (refuses missing E_BPADDR (tells (regs_at s.inner p).x now)) ≡ s.clock
+      by_missing : (missing : Bool) → clock_after s.clock (refuses missing E_BPADDR (tells (regs_at s.processes p).x now)) ≡ s.clock
       by_missing true = refl
       by_missing false = refl
   serves-volumes (on_time Time.STime) result rest serves asked (clock, it, is) =
       subst (λ (rest : Rest). LeavesVolumes s p (then rest)) (sym is)
       (leaves-by s p _ (stay-same p s.files) (inl refl) (inr (code, next, asked)))
   serves-volumes (on_paths call) result rest serves asked (it, same) =
-      by_device (attempt-comes call s.inner s.files now p result rest.files s.terms rest.terms it)
+      by_device (attempt-comes call s.processes s.files now p result rest.files s.terms rest.terms it)
     where
-      by_device : IsOnDevice call s.inner s.files p result rest.files s.terms rest.terms ⊎ LeavesDevices call s.inner
-          s.files now p result rest.files s.terms rest.terms ⊎ WaitsForRecord call s.inner s.files now p result
+      by_device : IsOnDevice call s.processes s.files p result rest.files s.terms rest.terms ⊎ LeavesDevices call s.processes
+          s.files now p result rest.files s.terms rest.terms ⊎ WaitsForRecord call s.processes s.files now p result
           rest.files s.terms rest.terms → LeavesVolumes s p (then rest)
       by_device (inl on) =
           leaves-by s p (then rest) (stay-lists p s.files rest.files on.volumes on.directories) (inl on.none_failed) (inl same)
@@ -280,7 +281,7 @@ after-instruction p files (Done effect) = stay-same p files
 after-instruction p files (Calls code regs) = stay-same p files
 after-instruction p files (Aborts status) = stay-ended p files
 
-after-delivery : (p : ℕ) (files : Files) (result : Result Inner ℕ) → FilesStay p files (files_after_delivery files p result)
+after-delivery : (p : ℕ) (files : Files) (result : Result Processes ℕ) → FilesStay p files (files_after_delivery files p result)
 after-delivery p files (Ok t) = record { volumes = refl; directories = λ q differ. refl }
 after-delivery p files (Err status) = stay-ended p files
 
@@ -290,22 +291,23 @@ instruction-drives p files (Done effect) = refl
 instruction-drives p files (Calls code regs) = refl
 instruction-drives p files (Aborts status) = refl
 
-delivery-drives : (p : ℕ) (files : Files) (result : Result Inner ℕ) → NoneFailed files.drives (files_after_delivery files p result).drives
+delivery-drives : (p : ℕ) (files : Files) (result : Result Processes ℕ) → NoneFailed files.drives (files_after_delivery files p result).drives
 delivery-drives p files (Ok t) = refl
 delivery-drives p files (Err status) = refl
 
-acts-leave-volumes : (act : Act) (s : State) (p : ℕ) (end : EventEnd) (t : State) → IsLiving s.inner.records p → act_of s.inner p ≡ act → Acts act s p end t → LeavesVolumes s p t
+acts-leave-volumes : (act : Act) (s : State) (p : ℕ) (end : EventEnd) (t : State) → IsLiving s.processes.records p → act_of s.processes p ≡ act → Acts act s p end t → LeavesVolumes s p t
 acts-leave-volumes executes s p end t lives next (over, is) =
-    subst (LeavesVolumes s p) (sym is) (leaves-by s p _ (after-instruction p s.files (next_instruction s.inner p)) (inl (instruction-drives p s.files (next_instruction s.inner p))) (inl refl))
+    subst (LeavesVolumes s p) (sym is) (leaves-by s p _ (after-instruction p s.files (next_instruction s.processes p)) (inl (instruction-drives p s.files (next_instruction s.processes p)))
+        (inl refl))
 acts-leave-volumes (delivers signal) s p end t lives next (over, is) =
     subst (LeavesVolumes s p) (sym is)
     (leaves-by s p _ (after-delivery p s.files (delivered (before_delivery s p) p signal))
     (inl (delivery-drives p s.files (delivered (before_delivery s p) p signal))) (inl refl))
 acts-leave-volumes (attempts code) s p end t lives next (result, rest, (now, is_now, it), over, is) =
-    subst (LeavesVolumes s p) (sym is) (serves-volumes s p code next lives now is_now (after_attempt s.inner p result) (service_of code) result rest refl (asks code) it)
+    subst (LeavesVolumes s p) (sym is) (serves-volumes s p code next lives now is_now (after_attempt s.processes p result) (service_of code) result rest refl (asks code) it)
 
 -- the process of an event is the one that was chosen
 pub event-leaves-volumes : (s t : State) (end : EventEnd) (p : ℕ) → s.chosen ≡ Some p → Event s end t → LeavesVolumes s p t
 event-leaves-volumes s t end p chosen (q, chosen_too, lives, acts) =
     let same : q ≡ p = same_Some q p (sym chosen_too ∙ chosen) in
-    subst (λ (p : ℕ). LeavesVolumes s p t) same (acts-leave-volumes (act_of s.inner q) s q end t lives refl acts)
+    subst (λ (p : ℕ). LeavesVolumes s p t) same (acts-leave-volumes (act_of s.processes q) s q end t lives refl acts)

@@ -16,28 +16,28 @@ use Rattle.machine_model.specs.State.{State}
 
 -- a process attempts the call of a code that asks for this
 abbrev pub AttemptsService : State → ℕ → Service → Type 0
-AttemptsService s p service = (code : ℕ) × (act_of s.inner p ≡ attempts code) × (service_of code ≡ service)
+AttemptsService s p service = (code : ℕ) × (act_of s.processes p ≡ attempts code) × (service_of code ≡ service)
 
 -- the drive that F$Fork and F$Chain reach: none if the bytes at X are the name of an entered module, else the one to
 -- which they lead as a path list
 abbrev pub drive_of_program : State → ℕ → TimePacket → Option ℕ
 drive_of_program s p now =
-    option_map_or (λ entered. None) (named_program s.inner p)
-    (drive_of (program_file (asker_of s.inner p now) s.files (length s.terms) (tests_program s.inner p)))
+    option_map_or (λ entered. None) (named_program s.processes p)
+    (drive_of (program_file (asker_of s.processes p now) s.files (length s.terms) (tests_program s.processes p)))
 
 -- the drive that an attempt of this service reaches, if any
 abbrev pub drive_by : Service → State → ℕ → TimePacket → Option ℕ
-drive_by loads s p now = drive_of (program_file (asker_of s.inner p now) s.files (length s.terms) (λ step. step))
+drive_by loads s p now = drive_of (program_file (asker_of s.processes p now) s.files (length s.terms) (λ step. step))
 drive_by (on_processes Call.Fork) s p now = drive_of_program s p now
 drive_by (on_processes Call.Chain) s p now = drive_of_program s p now
 drive_by (on_processes call) s p now = None
 drive_by (on_time call) s p now = None
-drive_by (on_paths call) s p now = drive_reached call (asker_of s.inner p now) s.files (length s.terms)
+drive_by (on_paths call) s p now = drive_reached call (asker_of s.processes p now) s.files (length s.terms)
 drive_by no_call s p now = None
 
 -- a process attempts a call, at the current time, and reaches this drive
 pub record Reaches (s : State) (p : ℕ) (service : Service) (drive : ℕ) : Type 0 where
   pub attempted : AttemptsService s p service
   pub now : TimePacket
-  pub is_now : IsNow s.clock s.inner.tick now
+  pub is_now : IsNow s.clock s.processes.tick now
   pub reached : drive_by service s p now ≡ Some drive

@@ -10,7 +10,7 @@ use Rattle.io_model.specs.Path.{numbers_of, inherited_numbers}
 use Rattle.io_model.specs.Terminal.{reader, used_by, without_reading}
 use Rattle.io_model.specs.declared.path.SysPath.{SysPath}
 use Rattle.io_rules.specs.Codes.{direction_of}
-use Rattle.io_rules.specs.Io.{OpenPath, terminal_at, kept_at, open_path}
+use Rattle.io_rules.specs.Io.{OpenPath, terminal_at, pending_at, open_path}
 use Rattle.io_rules.specs.Waiting.{pid}
 use Rattle.io_rules.specs.declared.io_call.Direction.TheVariants.{Writing}
 use Rattle.file_rules.specs.Attempts.{asker_of}
@@ -26,25 +26,25 @@ use Rattle.machine_model.specs.State.{State}
 
 -- F$Fork makes a process, and gives it the standard paths of its parent
 pub record IsGivenPaths (s : State) (p q : ℕ) (numbers : List (Option SysPath)) : Type 0 where
-  pub call : AttemptsCall s.inner p Call.Fork
-  pub number : free_process s.inner.records ≡ Some q
+  pub call : AttemptsCall s.processes p Call.Fork
+  pub number : free_process s.processes.records ≡ Some q
   pub given : numbers ≡ inherited_numbers (numbers_of s.files.io.paths p)
 
 -- a process writes to a terminal, which fails in it
 pub record FailsInWrite (s : State) (p n : ℕ) (t : State) : Type 0 where
-  pub writes : (code : ℕ) × (act_of s.inner p ≡ attempts code) × (direction_of code ≡ Some Writing)
+  pub writes : (code : ℕ) × (act_of s.processes p ≡ attempts code) × (direction_of code ≡ Some Writing)
   pub failed : ChangesOneTerminal (λ before now. Rose before.faults now.faults) n s.terms t.terms
 
 -- the path number of a call of a process; it does not depend on the time
 abbrev pub number_of_call : State → ℕ → PathCall → ℕ
-number_of_call s p call = number_in call (asker_of s.inner p s.clock.from)
+number_of_call s p call = number_in call (asker_of s.processes p s.clock.from)
 
 -- a process attempts a call that moves the position of the path on a file which its number names, or sets its ticks:
 -- this path
 pub record MovesPath (s : State) (p : ℕ) (opened : OpenPath) : Type 0 where
   pub call : PathCall
   pub attempted : AttemptsService s p (on_paths call)
-  pub moves : ChangesPath call (asker_of s.inner p s.clock.from)
+  pub moves : ChangesPath call (asker_of s.processes p s.clock.from)
   pub found : OpenFile
   pub named : open_file s.files p (number_of_call s p call) ≡ Some found
   pub same : found.opened ≡ opened
@@ -65,10 +65,10 @@ pub record LeavesIo (s : State) (p : ℕ) (t : State) : Type 0 where
   pub numbers : (q : ℕ) → q ≢ p → (numbers_of t.files.io.paths q ≡ numbers_of s.files.io.paths q)
       ⊎ IsGivenPaths s p q (numbers_of t.files.io.paths q)
   -- a path of another living process stays
-  pub paths : (q n : ℕ) (opened : OpenPath) → q ≢ p → IsLiving s.inner.records q
+  pub paths : (q n : ℕ) (opened : OpenPath) → q ≢ p → IsLiving s.processes.records q
       → open_path s.files.io q n ≡ Some opened → StaysOpen s p t q n opened
   -- the pending call of another process stays
-  pub calls : (q : ℕ) → q ≢ p → kept_at t.files.io q ≡ kept_at s.files.io q
+  pub calls : (q : ℕ) → q ≢ p → pending_at t.files.io q ≡ pending_at s.files.io q
   -- a terminal stays while a read of another process is unfinished there, unless a write fails, which drops the read
   pub readings : (n q : ℕ) → q ≢ p → reader (terminal_at s.files.io n) ≡ Some (pid q)
       → KeepsReading (terminal_at s.files.io n) (terminal_at t.files.io n)

@@ -11,12 +11,12 @@ use Rattle.machine_model.specs.State.{State}
 
 -- an event of a process with this end leaves unchanged what is not its own of memory and of the processes
 pub record LeavesOthers (s : State) (p : ℕ) (end : EventEnd) (t : State) : Type 0 where
-  pub sizes : KeepsSizes s.inner.memory t.inner.memory
-  pub objects : KeepsObjects s.inner.memory p t.inner.memory
-  pub new_objects : HoldNothingElse s p t.inner.memory
-  pub map : KeepsToItself s.inner.memory p t.inner.memory
+  pub sizes : KeepsSizes s.processes.memory t.processes.memory
+  pub objects : KeepsObjects s.processes.memory p t.processes.memory
+  pub new_objects : HoldNothingElse s p t.processes.memory
+  pub map : KeepsToItself s.processes.memory p t.processes.memory
   pub others : (q : ℕ) → q ≢ p
-      → ComesOf s.inner p end t.inner q (record_of s.inner.records q) (record_of t.inner.records q)
-  pub turns : turns_of_others s.inner p t.inner.order ≡ turns_of_others s.inner p s.inner.order
-  pub modules : KeepsModules s p t.inner.memory  -- the change of each
-  pub links : ChangesLinks s p end t.inner.memory  -- which of their links change
+      → ComesOf s.processes p end t.processes q (record_of s.processes.records q) (record_of t.processes.records q)
+  pub turns : turns_of_others s.processes p t.processes.order ≡ turns_of_others s.processes p s.processes.order
+  pub modules : KeepsModules s p t.processes.memory  -- the change of each
+  pub links : ChangesLinks s p end t.processes.memory  -- which of their links change

@@ -6,7 +6,7 @@ use Rattle.proc_model.specs.Memory.{MemoryState, map_at}
 use Rattle.proc_model.specs.MemoryChanges.{linked, unlinked}
 use Rattle.proc_model.specs.ModuleList.{without_link}
 use Rattle.user_names.specs.UserNames.{name_at}
-use Rattle.call_rules.specs.Inner.{Inner, cells_at, regs_at}
+use Rattle.call_rules.specs.Processes.{Processes, cells_at, regs_at}
 use Rattle.call_rules.specs.ModuleLinks.{Entered, found_entry, module_at}
 use Rattle.call_rules.specs.Ready.{attempts, act_of}
 use Rattle.call_rules.specs.declared.proc_call.ProcCall.TheVariants as Call
@@ -22,38 +22,38 @@ use Rattle.machine_model.specs.State.{State}
 -- ---- modules that are entered
 
 -- a process names this module: the name is at X, and its type and language are in A
-pub record NamesModule (m : Inner) (p : ℕ) (found : Entered) : Type 0 where
+pub record NamesModule (m : Processes) (p : ℕ) (found : Entered) : Type 0 where
   pub name : List ℕ
   pub read : name_at (cells_at m p) (regs_at m p).x ≡ Ok name
   pub is : found_entry m.memory.modules name (regs_at m p).a ≡ Some found
 
 -- F$Link or F$Fork: the module that the call names has one more link
-pub record GainsLink (m : Inner) (p : ℕ) (n : MemoryState) : Type 0 where
+pub record GainsLink (m : Processes) (p : ℕ) (n : MemoryState) : Type 0 where
   pub found : Entered
   pub call : AttemptsCall m p Call.Link × NamesModule m p found
       ⊎ AttemptsCall m p Call.Fork × (named_program m p ≡ Some found)
   pub more : n.modules ≡ (linked m.memory found.number).modules
 
 -- the process has this module in its map, and the address of its header is in U
-abbrev pub HasModuleAtU : Inner → ℕ → Entered → Type 0
+abbrev pub HasModuleAtU : Processes → ℕ → Entered → Type 0
 HasModuleAtU m p found = module_at m.memory.modules (map_at m.memory p) (regs_at m p).u ≡ Some found
 
 -- F$UnLink or F$UnLoad: the module that the call names has one link less; its group leaves if it has no link then
-pub record LosesLink (m : Inner) (p : ℕ) (n : MemoryState) : Type 0 where
+pub record LosesLink (m : Processes) (p : ℕ) (n : MemoryState) : Type 0 where
   pub found : Entered
   pub call : AttemptsCall m p Call.UnLink × HasModuleAtU m p found
       ⊎ AttemptsCall m p Call.UnLoad × NamesModule m p found
   pub less : n.modules ≡ (unlinked m.memory found.number).modules
 
 -- F$Chain: the module that the call names has one more link, and then the old primary module has one less
-pub record ChangesPrimary (m : Inner) (p : ℕ) (n : MemoryState) : Type 0 where
+pub record ChangesPrimary (m : Processes) (p : ℕ) (n : MemoryState) : Type 0 where
   pub call : AttemptsCall m p Call.Chain
   pub found : Entered
   pub named : named_program m p ≡ Some found
   pub relinked : n.modules ≡ without_link (linked m.memory found.number).modules (primary_of m p)
 
 -- the links of entered modules are as before, or one of these changes them
-abbrev pub ChangesEntered : Inner → ℕ → EventEnd → MemoryState → Type 0
+abbrev pub ChangesEntered : Processes → ℕ → EventEnd → MemoryState → Type 0
 ChangesEntered m p end n =
     (n.modules ≡ m.memory.modules) ⊎ GainsLink m p n ⊎ LosesLink m p n ⊎ ChangesPrimary m p n
     ⊎ LosesPrimary m p end n
@@ -62,7 +62,7 @@ ChangesEntered m p end n =
 
 -- F$Load or F$Fork of a file: its first module has a link then
 pub record LinksLoaded (s : State) (p : ℕ) (n : MemoryState) : Type 0 where
-  pub call : (act_of s.inner p ≡ attempts F_LOAD) ⊎ AttemptsCall s.inner p Call.Fork
+  pub call : (act_of s.processes p ≡ attempts F_LOAD) ⊎ AttemptsCall s.processes p Call.Fork
   pub file : ProgramFile
   pub loaded : Loaded
   pub loads : LoadsFile s p file loaded
@@ -73,10 +73,10 @@ pub record ChainsLoaded (s : State) (p : ℕ) (n : MemoryState) : Type 0 where
   pub file : ProgramFile
   pub loaded : Loaded
   pub loads : LoadsFile s p file loaded
-  pub call : AttemptsCall s.inner p Call.Chain
+  pub call : AttemptsCall s.processes p Call.Chain
   pub relinked : n.modules
-      ≡ without_link (linked loaded.memory loaded.first.number).modules (primary_of s.inner p)
+      ≡ without_link (linked loaded.memory loaded.first.number).modules (primary_of s.processes p)
 
 -- the links of entered modules change as without files, or a file is loaded
 abbrev pub ChangesLinks : State → ℕ → EventEnd → MemoryState → Type 0
-ChangesLinks s p end n = ChangesEntered s.inner p end n ⊎ LinksLoaded s p n ⊎ ChainsLoaded s p n
+ChangesLinks s p end n = ChangesEntered s.processes p end n ⊎ LinksLoaded s p n ⊎ ChainsLoaded s p n

@@ -29,18 +29,18 @@ pub record LeavesWithFile (s : State) (p : ℕ) (old : ModuleEntry) : Type 0 whe
   pub file : ProgramFile
   pub loaded : Loaded
   pub loads : LoadsFile s p file loaded
-  pub call : AttemptsCall s.inner p Call.Chain
-  pub of_group : old.group ≡ new_numbers s.inner.memory (file_blocks file.bytes)
+  pub call : AttemptsCall s.processes p Call.Chain
+  pub of_group : old.group ≡ new_numbers s.processes.memory (file_blocks file.bytes)
   -- an object of it has not appeared before
   pub object : ℕ
   pub stands : (k : ℕ) × (slice_get old.group k ≡ Some object)
-  pub absent : length s.inner.memory.objects ≤ object
+  pub absent : length s.processes.memory.objects ≤ object
   pub last_link : old.links ≤ 1
 
 -- the change of an entry of the module directory: an entered module stays or leaves, or a new one appears
 abbrev pub ModuleComesOf : State → ℕ → ℕ → Option ModuleEntry → Option ModuleEntry → Type 0
 ModuleComesOf s p number (Some old) (Some new) = StaysEntered old new
-ModuleComesOf s p number (Some old) None = LeavesMemory s.inner.memory.modules old ⊎ LeavesWithFile s p old
+ModuleComesOf s p number (Some old) None = LeavesMemory s.processes.memory.modules old ⊎ LeavesWithFile s p old
 ModuleComesOf s p number None (Some new) = IsEntered s p number new
 ModuleComesOf s p number None None = Unit {0}
 
@@ -48,4 +48,4 @@ ModuleComesOf s p number None None = Unit {0}
 abbrev pub KeepsModules : State → ℕ → MemoryState → Type 0
 KeepsModules s p n =
     (number : ℕ)
-    → ModuleComesOf s p number (module_entry_at s.inner.memory.modules number) (module_entry_at n.modules number)
+    → ModuleComesOf s p number (module_entry_at s.processes.memory.modules number) (module_entry_at n.modules number)

@@ -3,7 +3,7 @@
 use Rattle.std.specs.Prelude.{◌≡◌, ◌⊎◌, ℕ, ◌+◌, ◌<◌, ◌≤◌, Some, List, length, slice_get}
 use Rattle.proc_model.specs.Memory.{MemoryState}
 use Rattle.proc_model.specs.Objects.{file_block, file_blocks}
-use Rattle.call_rules.specs.Inner.{Inner}
+use Rattle.call_rules.specs.Processes.{Processes}
 use Rattle.file_rules.specs.Load.{Loaded}
 use Rattle.file_rules.specs.ProgramFile.{ProgramFile}
 use Rattle.call_laws.specs.NewObjects.{IsParameter}
@@ -11,7 +11,7 @@ use Rattle.isolation_laws.specs.Loading.{LoadsFile}
 use Rattle.machine_model.specs.State.{State}
 
 -- the objects from this number on hold only zeros, and parameters that the process gives a program
-abbrev pub HoldParameters : Inner → ℕ → ℕ → MemoryState → Type 0
+abbrev pub HoldParameters : Processes → ℕ → ℕ → MemoryState → Type 0
 HoldParameters m p first n =
     (object : ℕ) (bytes : List ℕ) → first ≤ object → slice_get n.objects object ≡ Some bytes
     → (k byte : ℕ) → slice_get bytes k ≡ Some byte → (byte ≡ 0) ⊎ IsParameter m p byte
@@ -22,9 +22,9 @@ pub record HoldFile (s : State) (p : ℕ) (n : MemoryState) : Type 0 where
   pub loaded : Loaded
   pub loads : LoadsFile s p file loaded
   pub blocks : (k : ℕ) → k < file_blocks file.bytes
-      → slice_get n.objects (length s.inner.memory.objects + k) ≡ Some (file_block file.bytes k)
-  pub rest : HoldParameters s.inner p (length s.inner.memory.objects + file_blocks file.bytes) n
+      → slice_get n.objects (length s.processes.memory.objects + k) ≡ Some (file_block file.bytes k)
+  pub rest : HoldParameters s.processes p (length s.processes.memory.objects + file_blocks file.bytes) n
 
 -- objects that appear hold nothing else
 abbrev pub HoldNothingElse : State → ℕ → MemoryState → Type 0
-HoldNothingElse s p n = HoldParameters s.inner p (length s.inner.memory.objects) n ⊎ HoldFile s p n
+HoldNothingElse s p n = HoldParameters s.processes p (length s.processes.memory.objects) n ⊎ HoldFile s p n

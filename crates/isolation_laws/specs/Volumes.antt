@@ -33,13 +33,13 @@ pub record FailsOneDrive (s : State) (p : ℕ) (drives : List DriveState) : Type
 
 -- F$Fork gives a child the directories of its parent
 pub record IsGivenDirectories (s : State) (p q : ℕ) (directories : Directories) : Type 0 where
-  pub call : AttemptsCall s.inner p Call.Fork
-  pub number : free_process s.inner.records ≡ Some q
+  pub call : AttemptsCall s.processes p Call.Fork
+  pub number : free_process s.processes.records ≡ Some q
   pub given : directories ≡ directories_at s.files p
 
 -- only F$STime sets the clock
 abbrev pub SetsClock : State → ℕ → Type 0
-SetsClock s p = (code : ℕ) × (act_of s.inner p ≡ attempts code) × (time_call_of code ≡ Some Time.STime)
+SetsClock s p = (code : ℕ) × (act_of s.processes p ≡ attempts code) × (time_call_of code ≡ Some Time.STime)
 
 -- an event of a process leaves unchanged the directories of the others, the volumes, the counts of faults and the
 -- clock, except for these changes

@@ -1,7 +1,7 @@
 //! Isolation: what an event of a process leaves unchanged for the others.
 
 ghost use Rattle.std.specs.Prelude.{◌≡◌, ℕ, Some};
-ghost use Rattle.call_rules.specs.Inner.{Inner, cells_at, regs_at};
+ghost use Rattle.call_rules.specs.Processes.{Processes, cells_at, regs_at};
 ghost use Rattle.event_rules.specs.declared.ends.EventEnd.{EventEnd};
 ghost use Rattle.event_rules.specs.Event.{next_instruction};
 ghost use Rattle.isolation_laws.specs.InputOutput.{LeavesIo};
@@ -24,7 +24,8 @@ ghost use Rattle.machine_model.specs.State.{State};
 pub fn an_event_leaves_what_it_does_not_name()
     ensures event { (s t : State) (end : EventEnd) (p : ℕ) → s.chosen ≡ Some p → Event s end t
         → LeavesOthers s p end t }
-    ensures instruction { (m n : Inner) (p q : ℕ) → ((at : ℕ) → cells_at m p at ≡ cells_at n q at)
+    ensures instruction { (m n : Processes) (p q : ℕ)
+        → ((at : ℕ) → cells_at m p at ≡ cells_at n q at)
         → regs_at m p ≡ regs_at n q → next_instruction m p ≡ next_instruction n q }
 {}
 

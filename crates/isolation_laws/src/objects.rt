@@ -13,5 +13,5 @@ ghost use Rattle.isolation_laws.specs.NewBytes.{HoldNewObjects};
 /// are only zeros if the number of the new process is past the maps of memory.
 pub fn new_objects_hold_a_file_zeros_and_parameters()
     ensures event { (s t : State) (end : EventEnd) (p : ℕ) → s.chosen ≡ Some p → Event s end t
-        → HoldNewObjects s p t.inner.memory.objects }
+        → HoldNewObjects s p t.processes.memory.objects }
 {}

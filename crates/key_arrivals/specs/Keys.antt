@@ -1,7 +1,7 @@
 -- Keys that arrive: the part of the kernel's processes and of its state of input and output.
 use Rattle.std.specs.Prelude.{◌≡◌, ℕ, ◌+◌, false, List}
 use Rattle.os9_outer.specs.TerminalState.{TerminalState, ChangesOneTerminal}
-use Rattle.call_rules.specs.Inner.{Inner}
+use Rattle.call_rules.specs.Processes.{Processes}
 use Rattle.io_model.specs.Terminal.{Terminal, Arrives}
 use Rattle.io_model.specs.declared.terminal.Arrival.{Arrival}
 use Rattle.io_rules.specs.Arrivals.{Desk, Arrivals, ArrivesAt, ArrivesFrom}
@@ -10,26 +10,26 @@ use Rattle.proc_state.specs.Tie.{Represents}
 use Rattle.proc_state.specs.declared.state.ProcState.{ProcState}
 
 -- what arriving keys may change
-abbrev pub desk : Inner → Io → List TerminalState → Desk
-desk inner io terms = record { inner = inner; io = io; terms = terms }
+abbrev pub desk : Processes → Io → List TerminalState → Desk
+desk processes io terms = record { processes = processes; io = io; terms = terms }
 
 -- the keys of all terminals arrived: from each state that the processes represented, to a state that they now represent
 abbrev pub KeysArrive : ProcState → Io → List TerminalState → ProcState → Io → List TerminalState → Type 0
 KeysArrive s io terms new now after =
-    (m : Inner) → Represents s m →
-    (next : Inner) × Arrivals s.tick (desk m io terms) (desk next now after) × Represents new next
+    (m : Processes) → Represents s m →
+    (next : Processes) × Arrivals s.tick (desk m io terms) (desk next now after) × Represents new next
 
 -- the keys of `count` terminals from this one on arrived
 abbrev pub KeysArriveFrom : ProcState → Io → List TerminalState → ProcState → Io → List TerminalState → ℕ → ℕ → Type 0
 KeysArriveFrom s io terms new now after n count =
-    (m : Inner) → Represents s m →
-    (next : Inner) × ArrivesFrom s.tick n count (desk m io terms) (desk next now after) × Represents new next
+    (m : Processes) → Represents s m →
+    (next : Processes) × ArrivesFrom s.tick n count (desk m io terms) (desk next now after) × Represents new next
 
 -- the keys of this one terminal arrived
 abbrev pub KeysArriveAt : ProcState → Io → List TerminalState → ProcState → Io → List TerminalState → ℕ → Type 0
 KeysArriveAt s io terms new now after n =
-    (m : Inner) → Represents s m →
-    (next : Inner) × Represents new next × ArrivesAt s.tick n (desk m io terms) (desk next now after)
+    (m : Processes) → Represents s m →
+    (next : Processes) × Represents new next × ArrivesAt s.tick n (desk m io terms) (desk next now after)
 
 -- a bell of this terminal found no memory, which ends its poll before its signal is sent
 pub record PollBreaks (tick n : ℕ) (old : Desk) (new : Io) (after : List TerminalState) : Type 0 where
@@ -43,11 +43,11 @@ pub record PollBreaks (tick n : ℕ) (old : Desk) (new : Io) (after : List Termi
 -- the poll of this one terminal broke off
 abbrev pub KeysBreakAt : ProcState → Io → List TerminalState → ProcState → Io → List TerminalState → ℕ → Type 0
 KeysBreakAt s io terms new now after n =
-    (m : Inner) → Represents s m → Represents new m × PollBreaks s.tick n (desk m io terms) now after
+    (m : Processes) → Represents s m → Represents new m × PollBreaks s.tick n (desk m io terms) now after
 
 -- the keys of some terminals from this one on arrived, and then a poll broke off
 abbrev pub KeysBreak : ProcState → Io → List TerminalState → ProcState → Io → List TerminalState → ℕ → Type 0
 KeysBreak s io terms new now after n =
-    (m : Inner) → Represents s m →
+    (m : Processes) → Represents s m →
     (polled : ℕ) × (between : Desk) × ArrivesFrom s.tick n polled (desk m io terms) between
-    × Represents new between.inner × PollBreaks s.tick (n + polled) between now after
+    × Represents new between.processes × PollBreaks s.tick (n + polled) between now after

@@ -2,7 +2,7 @@
 
 ghost use Rattle.std.specs.Prelude.{◌≡◌, ◌<◌, ◌≤◌, ◌||◌, false, None, Ok, IsErr, IsOk, vec_len};
 ghost use Rattle.device_table.specs.Seen.{terminals_seen};
-ghost use Rattle.call_rules.specs.Inner.{Inner};
+ghost use Rattle.call_rules.specs.Processes.{Processes};
 ghost use Rattle.io_rules.specs.Arrivals.{after_key_signal, after_signal_to};
 ghost use Rattle.key_arrivals.specs.Keys.{KeysArrive, KeysArriveAt, KeysBreak, KeysBreakAt};
 ghost use Rattle.proc_state.specs.Tie.{Represents};
@@ -99,7 +99,7 @@ fn has_changed(signal: Option<u8>, before: u16, now: u16) -> bool
 
 /// Sends the signal of a terminal to its last user, if it has both.
 fn send_to_user(s: &mut ProcState, user: Option<Pid>, signal: Option<u8>)
-    ensures sent { (m : Inner) → Represents s.old m
+    ensures sent { (m : Processes) → Represents s.old m
         → Represents s.new (after_key_signal m user signal) }
     ensures unsent { signal ≡ None → s.new ≡ s.old }
     ensures tick { s.new.tick ≡ s.old.tick }
@@ -112,7 +112,7 @@ fn send_to_user(s: &mut ProcState, user: Option<Pid>, signal: Option<u8>)
 
 /// Sends a signal to a process. It is dropped if the process has a pending signal.
 fn send(s: &mut ProcState, to: Pid, signal: u8)
-    ensures sent { (m : Inner) → Represents s.old m
+    ensures sent { (m : Processes) → Represents s.old m
         → Represents s.new (after_signal_to m to signal) }
     ensures tick { s.new.tick ≡ s.old.tick }
 {

@@ -8,7 +8,7 @@ use Rattle.os9_base.specs.declared.registers.TimePacket.{TimePacket}
 use Rattle.user_names.specs.declared.name_fault.NameFault.{NameFault}
 use Rattle.user_names.specs.declared.name_fault.NameFault.TheVariants.{NoName, Unreadable}
 use Rattle.call_rules.specs.CallResult.{CallResult, refused}
-use Rattle.call_rules.specs.Inner.{Inner}
+use Rattle.call_rules.specs.Processes.{Processes}
 use Rattle.call_rules.specs.ModuleLinks.{Entered}
 use Rattle.call_rules.specs.Program.{Program}
 use Rattle.load_calls.proofs.LoadedLemmas.{some-memory}
@@ -19,14 +19,14 @@ use Rattle.file_rules.specs.Attempts.{asker_of}
 use Rattle.file_rules.specs.Program.{StartsFile, named_program, parameters_of, starts_first, tests_program}
 use Rattle.file_rules.specs.ProgramFile.{ProgramFile, ReadingIsBroken, ReadsProgram, program_file, reading_of}
 use Rattle.file_rules.specs.Step.{Step, refuses}
-use Rattle.file_rules.specs.Way.{list_of, reads_list}
+use Rattle.file_rules.specs.Route.{list_of, reads_list}
 use Rattle.file_state.proofs.CountLemmas.{called-more, called-none}
 use Rattle.file_state.specs.Attempt.{Standing}
 use Rattle.file_state.specs.Counted.{CalledAtMost}
 use Rattle.file_state.specs.Tie.{IsSound, StandsFor}
 use Rattle.file_state.specs.declared.state.FileState.{FileState}
 use Rattle.io_rules.specs.PathList.{PathList}
-use Rattle.proc_state.specs.Tie.{Answers, Comes, Represents, inner_of}
+use Rattle.proc_state.specs.Tie.{Answers, Comes, Represents, processes_of}
 use Rattle.proc_state.specs.declared.state.ProcState.{ProcState}
 use Rattle.load_calls.specs.Reading.{AnswersReading, IsInBuffer, ReadsTo}
 use Rattle.load_calls.specs.declared.reading.ProgramRead.{ProgramRead}
@@ -36,14 +36,15 @@ use Rattle.load_calls.specs.Loading.{GoesOn}
 -- ---- by what was read
 
 -- what an attempt comes to by the file that it reads
-pub record ByFile (step : Step ProgramFile) (m : Inner) (next : ProgramFile → Loaded → CallResult) (was : Files) (p : ℕ) (end : CallEnd) (processes : ProcState) (left : Files) : Type 0 where
+pub record ByFile (step : Step ProgramFile) (m : Processes) (next : ProgramFile → Loaded → CallResult) (was : Files) (p : ℕ) (end : CallEnd) (processes : ProcState) (left : Files) : Type 0 where
   pub result : CallResult
   pub reading : Result ProgramFile ℕ
   pub reads : ReadsProgram step reading was left
   pub goes : GoesOnLoaded m reading next result
   pub comes : Comes m p result end processes
 
-module _ (step : Step ProgramFile) (most : ℕ) (m : Inner) (next : ProgramFile → Loaded → CallResult) (was : Files) (p : ℕ) (buffer : List ℕ) (new : FileState) (before after : List DriveView) where
+module _ (step : Step ProgramFile) (most : ℕ) (m : Processes) (next : ProgramFile → Loaded → CallResult) (was : Files) (p : ℕ) (buffer : List ℕ) (new : FileState)
+    (before after : List DriveView) where
   -- it is refused by what was read
   pub file-refused : (number : ℕ) (processes : ProcState) (read : ReadsTo step most was (Err number) buffer new before
       after) → Represents processes m → ByFile step m next was p (Error number) processes read.left
@@ -96,9 +97,9 @@ paths-kept step most was buffer old new views before after result stands read = 
 }
 
 -- the processes are those of some machine
-some-inner : (processes : ProcState) → (m : Inner) × Represents processes m
+some-inner : (processes : ProcState) → (m : Processes) × Represents processes m
 some-inner processes =
-    let memory = some-memory processes.memory in (inner_of processes memory.0, record { memory = memory.1; is = refl })
+    let memory = some-memory processes.memory in (processes_of processes memory.0, record { memory = memory.1; is = refl })
 
 -- some time
 some-time : TimePacket
@@ -106,8 +107,8 @@ some-time = record { year = 90; month = 1; day = 1; hour = 0; minute = 0; second
 
 -- so it is where a file was read
 pub reading-keeps : (processes : ProcState) (old new : FileState) (before after : List DriveView)
-    (result : Result ProgramRead ℕ) (buffer : List ℕ) (step : Inner → Files → TimePacket → Step ProgramFile)
-    (most : Inner → Files → TimePacket → ℕ) → IsSound old before → ((m : Inner) (was : Files) (now : TimePacket)
+    (result : Result ProgramRead ℕ) (buffer : List ℕ) (step : Processes → Files → TimePacket → Step ProgramFile)
+    (most : Processes → Files → TimePacket → ℕ) → IsSound old before → ((m : Processes) (was : Files) (now : TimePacket)
     → Represents processes m → StandsFor old before was → ReadsTo (step m was now) (most m was now) was result buffer
     new before after) → KeepsPaths old new
 reading-keeps processes old new before after result buffer step most sound reads =
@@ -118,7 +119,7 @@ reading-keeps processes old new before after result buffer step most sound reads
 -- ---- the parameters
 
 -- they are all there where the file of a program was read
-pub parameters-there : (asker : Asker) (files left : Files) (terms : ℕ) (m : Inner) (p : ℕ) (file : ProgramFile)
+pub parameters-there : (asker : Asker) (files left : Files) (terms : ℕ) (m : Processes) (p : ℕ) (file : ProgramFile)
     → ReadsProgram (program_file asker files terms (tests_program m p)) (Ok file) files left
     → IsSome (parameters_of m p)
 parameters-there asker files left terms m p file reads = by_outcome reads.outcome
@@ -154,7 +155,8 @@ place-none (Some a) is = absurd cc
 
 -- ---- attempts of calls that start a program
 
-module _ (start : Inner → ℕ → Program → CallResult) (full : Inner → ℕ → CallResult) (m : Inner) (p : ℕ) (now : TimePacket) (was : Files) (terms : ℕ) (end : CallEnd) (before after : Standing) where
+module _ (start : Processes → ℕ → Program → CallResult) (full : Processes → ℕ → CallResult) (m : Processes) (p : ℕ) (now : TimePacket) (was : Files) (terms : ℕ) (end : CallEnd)
+    (before after : Standing) where
   abbrev asker : Asker
   asker = asker_of m p now
 

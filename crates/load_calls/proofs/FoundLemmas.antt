@@ -13,7 +13,7 @@ use Rattle.file_rules.specs.Open.{may_open}
 use Rattle.file_rules.specs.ProgramFile.{program_found}
 use Rattle.file_rules.specs.Sharing.{is_not_shared}
 use Rattle.file_rules.specs.Step.{comes, refuses}
-use Rattle.file_rules.specs.Way.{Found}
+use Rattle.file_rules.specs.Route.{Found}
 use Rattle.load_calls.specs.Found.{IsWhole, program_by, program_size}
 
 -- ---- its size

@@ -1,7 +1,7 @@
 -- How a call goes on whose file was read.
 use Rattle.std.proofs.Common.{◌≡◌, ℕ, Result, Ok, Err, refl, sym, subst, ◌∙◌}
 use Rattle.call_rules.specs.CallResult.{CallResult, done, refused}
-use Rattle.call_rules.specs.Inner.{Inner}
+use Rattle.call_rules.specs.Processes.{Processes}
 use Rattle.file_rules.specs.Load.{Loaded, Loads}
 use Rattle.file_rules.specs.ProgramFile.{ProgramFile}
 use Rattle.load_calls.proofs.OutcomeLemmas.{tried-refused}
@@ -10,7 +10,7 @@ use Rattle.proc_state.specs.Tie.{Answers, Represents}
 use Rattle.proc_state.specs.declared.state.ProcState.{ProcState}
 use Rattle.load_calls.specs.Loading.{GoesOn}
 
-module _ (m : Inner) (file : ProgramFile) (next : ProgramFile → Loaded → CallResult) (new : ProcState) where
+module _ (m : Processes) (file : ProgramFile) (next : ProgramFile → Loaded → CallResult) (new : ProcState) where
   -- the trial of the file refused it
   pub goes-untried : (number : ℕ) → TriesFile file.bytes m.memory (Err number) → Represents new m → GoesOn m file next (Err number) new
   goes-untried number tried stands = record {
@@ -29,7 +29,8 @@ module _ (m : Inner) (file : ProgramFile) (next : ProgramFile → Loaded → Cal
     }
 
     -- it is done, as a call is that begins in another state
-    pub goes-done : (outcome : Result (Unit {0}) ℕ) (other t : Inner) (call : CallResult) → next file loaded ≡ call → call ≡ done t → Answers other call outcome new → GoesOn m file next outcome new
+    pub goes-done : (outcome : Result (Unit {0}) ℕ) (other t : Processes) (call : CallResult) → next file loaded ≡ call → call ≡ done t → Answers other call outcome new
+        → GoesOn m file next outcome new
     goes-done outcome other t call is done_is answers = record {
       result = next file loaded;
       goes = (Ok loaded, loads, refl);

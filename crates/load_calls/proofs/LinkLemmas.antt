@@ -13,7 +13,7 @@ use Rattle.proc_model.specs.ModuleList.{ModuleEntry, new_entry}
 use Rattle.proc_model.specs.Objects.{file_blocks}
 use Rattle.proc_model.specs.Slots.{highest_free_run}
 use Rattle.call_rules.specs.CallResult.{CallResult, done, needs, refused, refuses}
-use Rattle.call_rules.specs.Inner.{Inner, own_at, regs_at, with_memory}
+use Rattle.call_rules.specs.Processes.{Processes, own_at, regs_at, with_memory}
 use Rattle.call_rules.specs.Link.{Mapped, after_link, links_at, mapped_group}
 use Rattle.file_rules.specs.Load.{Loaded, links_first}
 use Rattle.file_rules.specs.ProgramFile.{ProgramFile}
@@ -22,7 +22,7 @@ use Rattle.module_calls.specs.Linked.{links_entered}
 use Rattle.load_calls.specs.Loading.{has_place}
 use Rattle.load_calls.proofs.MapLemmas.{mapped-at, mapped-there, mapped-new}
 
-module _ (memory : Memory) (m : Inner) (tied : Represents memory m.memory) (p : ℕ) (within : p < 33)
+module _ (memory : Memory) (m : Processes) (tied : Represents memory m.memory) (p : ℕ) (within : p < 33)
     (file : ProgramFile) (loaded : Loaded) (it : IsLoaded m.memory file.bytes loaded) (info : ModuleInfo)
     (first_is : loaded.first.entry ≡ new_entry info (new_numbers m.memory (file_blocks file.bytes)) false)
     (some : 1 ≤ file_blocks file.bytes) where
@@ -57,10 +57,10 @@ module _ (memory : Memory) (m : Inner) (tied : Represents memory m.memory) (p : 
           MOST_LINKS none))
 
   -- there is one
-  pub in-place : has_place m p (file_blocks file.bytes) ≡ true → (t : Inner) × (links_first m p file loaded ≡ done t)
+  pub in-place : has_place m p (file_blocks file.bytes) ≡ true → (t : Processes) × (links_first m p file loaded ≡ done t)
   in-place there = by (highest_free_run (map_at m.memory p) (file_blocks file.bytes)) refl there
     where
-      by : (found : Option ℕ) → highest_free_run (map_at m.memory p) (file_blocks file.bytes) ≡ found → placed found ≡ true → (t : Inner) × (links_first m p file loaded ≡ done t)
+      by : (found : Option ℕ) → highest_free_run (map_at m.memory p) (file_blocks file.bytes) ≡ found → placed found ≡ true → (t : Processes) × (links_first m p file loaded ≡ done t)
       by None is there = absurd (false≢true there)
       by (Some slot) is there = (
         after_link m p loaded.first (mapped-there memory m.memory tied p within file.bytes loaded it slot) count,

@@ -10,7 +10,7 @@ use Rattle.rbf_model.specs.Volume.{DiskVolume}
 use Rattle.file_rules.specs.Files.{Files, file_in, with_drives}
 use Rattle.file_rules.specs.ProgramFile.{ProgramFile, reading_of}
 use Rattle.file_rules.specs.Step.{Step, drive_of}
-use Rattle.file_rules.specs.Way.{Found}
+use Rattle.file_rules.specs.Route.{Found}
 use Rattle.lock_model.specs.declared.place.FilePlace.{FilePlace}
 use Rattle.file_drives.specs.Drives.{DriveView, drive_states, media_of}
 use Rattle.file_drives.specs.Mounted.{ReadsFile}

@@ -16,7 +16,7 @@ use Rattle.proc_rules.specs.Records.{free_process}
 use Rattle.call_rules.specs.CallResult.{CallResult, changes, done, needs, refused, refuses}
 use Rattle.call_rules.specs.Chain.{begun_anew, with_program}
 use Rattle.call_rules.specs.Fork.{forked_regs, with_child}
-use Rattle.call_rules.specs.Inner.{Inner, own_at, regs_at, with_memory, with_regs_of}
+use Rattle.call_rules.specs.Processes.{Processes, own_at, regs_at, with_memory, with_regs_of}
 use Rattle.call_rules.specs.ModuleLinks.{Entered, without_primary_link}
 use Rattle.call_rules.specs.Program.{Program, blocks_of_pages, most_pages, program_kind}
 use Rattle.file_rules.specs.Load.{Loaded}
@@ -57,7 +57,7 @@ module _ (after : MemoryState) (next : MemoryState → CallResult) where
   started-by false false true is = absurd cc
   started-by false false false is = refl
 
-module _ (m : Inner) (q : ℕ) (file : List ℕ) (loaded : Loaded) (it : IsLoaded m.memory file loaded)
+module _ (m : Processes) (q : ℕ) (file : List ℕ) (loaded : Loaded) (it : IsLoaded m.memory file loaded)
     (info : ModuleInfo) (first_is : loaded.first.entry ≡ new_entry info (new_numbers m.memory (file_blocks file))
     false) (program : Program) (entered_is : program.entered ≡ loaded.first) where
   abbrev group : ℕ
@@ -115,7 +115,7 @@ module _ (m : Inner) (q : ℕ) (file : List ℕ) (loaded : Loaded) (it : IsLoade
 
 -- ---- the program of a file
 
-module _ (start : Inner → ℕ → Program → CallResult) (m : Inner) (p : ℕ) (file : ProgramFile) (loaded : Loaded) where
+module _ (start : Processes → ℕ → Program → CallResult) (m : Processes) (p : ℕ) (file : ProgramFile) (loaded : Loaded) where
   abbrev program : Program
   program = loaded_program m p file loaded.first
 
@@ -127,7 +127,7 @@ module _ (start : Inner → ℕ → Program → CallResult) (m : Inner) (p : ℕ
   pub right-kind : (loaded.first.entry.info.kind == program_kind) ≡ true → starts_first start m p file loaded ≡ start (with_memory m loaded.memory) p program
   right-kind test = ap (λ (is : Bool). refuses (not is) E_NEMOD (start (with_memory m loaded.memory) p program)) test
 
-module _ (s : Inner) (p : ℕ) (program : Program) where
+module _ (s : Processes) (p : ℕ) (program : Program) where
   -- what F$Fork does with the child's number and the memory
   abbrev pub child-next : ℕ → MemoryState → CallResult
   child-next child memory = done (with_regs_of (with_child s p child program memory) p (forked_regs (regs_at s p) child program))

@@ -1,12 +1,12 @@
 -- The kernel's processes, and those of the machine that they are.
 use Rattle.std.proofs.Common.{◌≡◌, ◌∙◌, ◌<◌, ℕ, Option, List, refl, ap, subst}
 use Rattle.os9_base.specs.Cells.{Cells}
-use Rattle.call_rules.specs.Inner.{Inner, cells_at, user_at}
+use Rattle.call_rules.specs.Processes.{Processes, cells_at, user_at}
 use Rattle.guest_memory.specs.Tie.{cells_of}
 use Rattle.guest_memory.proofs.Seen.{cells_of-seen}
 use Rattle.device_paths.specs.Standing.{NamesFrom}
 use Rattle.proc_rules.specs.Records.{record_at}
-use Rattle.proc_state.specs.Tie.{IsSame, Represents, inner_of}
+use Rattle.proc_state.specs.Tie.{IsSame, Represents, processes_of}
 use Rattle.proc_state.specs.declared.state.ProcState.{ProcState}
 use Rattle.proc_state.proofs.Entered.{represented}
 use Rattle.proc_state.proofs.UserBytes.{same-then}
@@ -23,18 +23,18 @@ same-processes before mid after one other = record {
 }
 
 -- they are those of some machine
-pub some-machine : (s : ProcState) → (m : Inner) × Represents s m
+pub some-machine : (s : ProcState) → (m : Processes) × Represents s m
 some-machine s =
     let own = represented s.memory in
-    let m : Inner = inner_of s _ in
+    let m : Processes = processes_of s _ in
     let tied : Represents s m = record { memory = own; is = refl } in (m, tied)
 
 -- the user of a process
-pub same-user : (s : ProcState) (m : Inner) (p : ℕ) → Represents s m → user_at m p ≡ (record_at s.table p).user
-same-user s m p tied = ap (λ (i : Inner). user_at i p) tied.is
+pub same-user : (s : ProcState) (m : Processes) (p : ℕ) → Represents s m → user_at m p ≡ (record_at s.table p).user
+same-user s m p tied = ap (λ (i : Processes). user_at i p) tied.is
 
 -- names that stand in its memory
-pub names-seen : (s : ProcState) (m : Inner) (p : ℕ) (first : Option ℕ) (names : List (List ℕ)) → p < 33
+pub names-seen : (s : ProcState) (m : Processes) (p : ℕ) (first : Option ℕ) (names : List (List ℕ)) → p < 33
     → Represents s m → NamesFrom (cells_of s.memory p) first names → NamesFrom (cells_at m p) first names
 names-seen s m p first names process tied stand =
     subst (λ (cells : Cells). NamesFrom cells first names) (cells_of-seen s.memory p process m.memory tied.memory) stand

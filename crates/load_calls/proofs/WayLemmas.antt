@@ -14,9 +14,10 @@ use Rattle.rbf_walk.specs.Walk.{calls_on, directory_error, directory_fault, walk
 use Rattle.rbf_walk.specs.declared.error.DirError.{DirError}
 use Rattle.rbf_walk.specs.declared.error.DirError.TheVariants.{NotAllowed, BadPath, NotFound, Exists, File}
 use Rattle.file_rules.specs.Files.{Asker, DriveState, Files, file_in, volume_at}
-use Rattle.file_rules.specs.ProgramFile.{ProgramFile, program_file, program_found, program_on_way, reading_of}
+use Rattle.file_rules.specs.ProgramFile.{ProgramFile, program_file, program_found, program_on_route, reading_of}
 use Rattle.file_rules.specs.Step.{Step, refused, comes, reaches, drive_of, needs}
-use Rattle.file_rules.specs.Way.{Way, along, to_device, nowhere, Found, list_of, reads_list, walk_ends, way_of}
+use Rattle.file_rules.specs.Route.{along, to_device, nowhere, Found, list_of, reads_list, walk_ends, route_of}
+use Rattle.file_rules.specs.Route as Rule
 use Rattle.lock_model.specs.declared.place.FilePlace.{FilePlace}
 use Rattle.file_drives.specs.Drives.{DriveView, drive_state}
 use Rattle.file_drives.specs.Mounted.{HasFileAt}
@@ -48,42 +49,42 @@ use Rattle.load_calls.specs.declared.reading.ProgramRead.{ProgramRead}
 -- ---- the list
 
 module _ (asker : Asker) (files : Files) (terms : ℕ) (refusal : Option ℕ) where
-  by-leads : program_file asker files terms (refuses_by refusal) ≡ next_step (leads asker refusal (way_of asker files terms true)) (λ led. program_on_way asker files led.list led.way)
-  by-leads = leads-on asker refusal (way_of asker files terms true) (program_on_way asker files) (λ list number. refl)
+  by-leads : program_file asker files terms (refuses_by refusal) ≡ next_step (leads asker refusal (route_of asker files terms true)) (λ led. program_on_route asker files led.list led.way)
+  by-leads = leads-on asker refusal (route_of asker files terms true) (program_on_route asker files) (λ list number. refl)
 
   -- along the way that was found
-  pub program-way : (list : PathList) (way : Way) → leads asker refusal (way_of asker files terms true) ≡ comes
-      (record { list = list; way = way }) → program_file asker files terms (refuses_by refusal) ≡ program_on_way asker
+  pub program-way : (list : PathList) (way : Rule.Route) → leads asker refusal (route_of asker files terms true) ≡ comes
+      (record { list = list; way = way }) → program_file asker files terms (refuses_by refusal) ≡ program_on_route asker
       files list way
   program-way list way is =
-      by-leads ∙ ap (λ (step : Step Led). next_step step (λ led. program_on_way asker files led.list led.way)) is
+      by-leads ∙ ap (λ (step : Step Led). next_step step (λ led. program_on_route asker files led.list led.way)) is
 
   -- or it is refused
-  pub program-refused : (number : ℕ) → leads asker refusal (way_of asker files terms true) ≡ refused number → program_file asker files terms (refuses_by refusal) ≡ refused number
+  pub program-refused : (number : ℕ) → leads asker refusal (route_of asker files terms true) ≡ refused number → program_file asker files terms (refuses_by refusal) ≡ refused number
   program-refused number is =
-      by-leads ∙ ap (λ (step : Step Led). next_step step (λ led. program_on_way asker files led.list led.way)) is
+      by-leads ∙ ap (λ (step : Step Led). next_step step (λ led. program_on_route asker files led.list led.way)) is
 
   -- the way is that of the list
-  abbrev way-led : Step Led → Way → Way
+  abbrev way-led : Step Led → Rule.Route → Rule.Route
   way-led (refused number) other = other
   way-led (comes led) other = led.way
   way-led (reaches drive step) other = other
 
-  led-way : (list : PathList) (way other : Way) → led_by list other ≡ comes (record { list = list; way = way }) → other ≡ way
+  led-way : (list : PathList) (way other : Rule.Route) → led_by list other ≡ comes (record { list = list; way = way }) → other ≡ way
   led-way list way (along from names) is = ap (λ (step : Step Led). way-led step way) is
   led-way list way to_device is = ap (λ (step : Step Led). way-led step way) is
   led-way list way (nowhere number) is = ap (λ (step : Step Led). way-led step (nowhere number)) is
 
-  refused-way : (list : PathList) (way other : Way) (refusal : Option ℕ) → refuses_by refusal (led_by list other) ≡ comes (record { list = list; way = way }) → other ≡ way
+  refused-way : (list : PathList) (way other : Rule.Route) (refusal : Option ℕ) → refuses_by refusal (led_by list other) ≡ comes (record { list = list; way = way }) → other ≡ way
   refused-way list way other None is = led-way list way other is
   refused-way list way other (Some number) is = ap (λ (step : Step Led). way-led step other) is
 
-  pub listed-way : (list : PathList) (way : Way) → list_of asker ≡ Ok list → leads asker refusal
-      (way_of asker files terms true) ≡ comes (record { list = list; way = way }) → way_of asker files terms true list
+  pub listed-way : (list : PathList) (way : Rule.Route) → list_of asker ≡ Ok list → leads asker refusal
+      (route_of asker files terms true) ≡ comes (record { list = list; way = way }) → route_of asker files terms true list
       ≡ way
   listed-way list way read is =
-      refused-way list way (way_of asker files terms true list) refusal
-      (sym (ap (λ (read : Result PathList NameFault). reads_list read (refuses_by refusal) (λ list. led_by list (way_of asker files terms true list))) read) ∙ is)
+      refused-way list way (route_of asker files terms true list) refusal
+      (sym (ap (λ (read : Result PathList NameFault). reads_list read (refuses_by refusal) (λ list. led_by list (route_of asker files terms true list))) read) ∙ is)
 
   -- a walk reaches its drive, if there is a volume
   calls-reached : (from : FilePlace) (names : List (List ℕ)) (volume : Option DiskVolume) (step : DiskVolume
@@ -93,12 +94,12 @@ module _ (asker : Asker) (files : Files) (terms : ℕ) (refusal : Option ℕ) wh
   calls-reached from names (Some v) step = refl
 
   calls-along : (list : PathList) (from : FilePlace) (names : List (List ℕ)) → list_of asker ≡ Ok list
-      → leads asker refusal (way_of asker files terms true) ≡ comes (record { list = list; way = along from names })
+      → leads asker refusal (route_of asker files terms true) ≡ comes (record { list = list; way = along from names })
       → program_calls asker files terms refusal ≡ way_calls asker files (along from names)
   calls-along list from names read is =
       ap (λ (step : Step ProgramFile). calls_of step (list_calls asker files terms (list_of asker))) (program-way list (along from names) is)
-      ∙ ap (λ (read : Result PathList NameFault). calls_of (program_on_way asker files list (along from names)) (list_calls asker files terms read)) read
-      ∙ ap (λ (way : Way). calls_of (program_on_way asker files list (along from names)) (way_calls asker files way)) (listed-way list (along from names) read is)
+      ∙ ap (λ (read : Result PathList NameFault). calls_of (program_on_route asker files list (along from names)) (list_calls asker files terms read)) read
+      ∙ ap (λ (way : Rule.Route). calls_of (program_on_route asker files list (along from names)) (way_calls asker files way)) (listed-way list (along from names) read is)
       ∙ calls-reached from names (volume_at files from.drive) (λ v. walk_ends from.drive v (walk v.files asker.user true from.number names) (program_found asker files list))
 
   -- what comes of a call whose list leads to no file
@@ -114,14 +115,14 @@ module _ (asker : Asker) (files : Files) (terms : ℕ) (refusal : Option ℕ) wh
   -- or along names
   pub program-along : (list : PathList) (from : FilePlace) (result : Result ProgramRead ℕ) (buffer : List ℕ)
       (new : FileState) (before after : List DriveView) → list_of asker ≡ Ok list → leads asker refusal
-      (way_of asker files terms true) ≡ comes (record { list = list; way = along from list.names })
-      → ReadsTo (program_on_way asker files list (along from list.names))
+      (route_of asker files terms true) ≡ comes (record { list = list; way = along from list.names })
+      → ReadsTo (program_on_route asker files list (along from list.names))
       (way_calls asker files (along from list.names)) files result buffer new before after
       → ReadsTo (program_file asker files terms (refuses_by refusal)) (program_calls asker files terms refusal) files
       result buffer new before after
   program-along list from result buffer new before after read is it =
       subst (λ (step : Step ProgramFile). ReadsTo step (program_calls asker files terms refusal) files result buffer new before after) (sym (program-way list (along from list.names) is))
-      (subst (λ (most : ℕ). ReadsTo (program_on_way asker files list (along from list.names)) most files result buffer new before after) (sym (calls-along list from list.names read is)) it)
+      (subst (λ (most : ℕ). ReadsTo (program_on_route asker files list (along from list.names)) most files result buffer new before after) (sym (calls-along list from list.names read is)) it)
 
 -- ---- the walk
 
@@ -130,7 +131,7 @@ pub record Arrives (asker : Asker) (files : Files) (list : PathList) (from place
   pub found : Found
   pub there : IsFoundAt files place found
   pub read : HasRead None place.drive files new views now
-  pub step_is : program_on_way asker files list (along from list.names) ≡ program_there asker.user files list.next found
+  pub step_is : program_on_route asker files list (along from list.names) ≡ program_there asker.user files list.next found
   pub walk_most : ℕ
   pub called : CalledAtMost walk_most views now
   pub most_is : way_calls asker files (along from list.names) ≡ walk_most + found_calls asker.user files found
@@ -143,7 +144,7 @@ module _ (asker : Asker) (process : Pid) (user : ℕ) (files : Files) (list : Pa
   walker = record { process = process; user = user; execute = true }
 
   abbrev step : Step ProgramFile
-  step = program_on_way asker files list (along from list.names)
+  step = program_on_route asker files list (along from list.names)
 
   abbrev most : ℕ
   most = way_calls asker files (along from list.names)
@@ -255,7 +256,7 @@ module _ (asker : Asker) (process : Pid) (user : ℕ) (files : Files) (list : Pa
 module _ (asker : Asker) (files : Files) (list : PathList) (from place : FilePlace) (mid new : FileState)
     (before views after : List DriveView) (at : Arrives asker files list from place mid before views) where
   abbrev whole : Step ProgramFile
-  whole = program_on_way asker files list (along from list.names)
+  whole = program_on_route asker files list (along from list.names)
 
   only-walked : OnlyReads whole at.walk_most before views
   only-walked =
@@ -284,17 +285,17 @@ pub route-along : (cells : Cells) (asker : Asker) (led : Step Led) (route : Rout
     (first : Option ℕ) (it : IsRoute cells asker led route) → route.way ≡ Along from first
     → (led ≡ comes (record { list = it.list; way = along from it.list.names })) × NamesFrom cells first it.list.names
 route-along cells asker led route from first it is = (
-  it.comes_to ∙ ap (λ (way : Way). comes (record { list = it.list; way = way })) (it.route_is.way_is ∙ ap (λ (way : RouteWay). way_to (Ok way) it.list.names) is),
+  it.comes_to ∙ ap (λ (way : Rule.Route). comes (record { list = it.list; way = way })) (it.route_is.way_is ∙ ap (λ (way : RouteWay). way_to (Ok way) it.list.names) is),
   subst (λ (way : RouteWay). NamesOn cells way it.list.names) is it.route_is.names,
 )
 
 -- where it leads to a terminal or a pipe the call is refused
 pub route-device : (cells : Cells) (asker : Asker) (files : Files) (terms : ℕ) (refusal : Option ℕ) (route : Route)
-    → IsRoute cells asker (leads asker refusal (way_of asker files terms true)) route → route.way ≡ Device
+    → IsRoute cells asker (leads asker refusal (route_of asker files terms true)) route → route.way ≡ Device
     → program_file asker files terms (refuses_by refusal) ≡ refused E_FNA
 route-device cells asker files terms refusal route it is =
     program-way asker files terms refusal it.list to_device
-    (it.comes_to ∙ ap (λ (way : Way). comes (record { list = it.list; way = way })) (it.route_is.way_is ∙ ap (λ (way : RouteWay). way_to (Ok way) it.list.names) is))
+    (it.comes_to ∙ ap (λ (way : Rule.Route). comes (record { list = it.list; way = way })) (it.route_is.way_is ∙ ap (λ (way : RouteWay). way_to (Ok way) it.list.names) is))
 
 -- ---- the query
 

@@ -5,7 +5,7 @@ use Rattle.std.specs.Option.{option_map_or}
 use Rattle.os9_base.specs.declared.call.CallEnd.{CallEnd}
 use Rattle.os9_base.specs.declared.registers.TimePacket.{TimePacket}
 use Rattle.call_rules.specs.CallResult.{CallResult}
-use Rattle.call_rules.specs.Inner.{Inner}
+use Rattle.call_rules.specs.Processes.{Processes}
 use Rattle.proc_state.specs.Tie.{Comes}
 use Rattle.file_drives.specs.Drives.{media_of}
 use Rattle.file_rules.specs.Attempts.{asker_of}
@@ -14,14 +14,14 @@ use Rattle.file_rules.specs.Load.{LoadAttempts}
 use Rattle.file_rules.specs.Program.{ChainAttempts, ForkAttempts, named_program, tests_program}
 use Rattle.file_rules.specs.ProgramFile.{ProgramFile, program_file}
 use Rattle.file_rules.specs.Step.{Step}
-use Rattle.file_rules.specs.Way.{list_of}
+use Rattle.file_rules.specs.Route.{list_of}
 use Rattle.file_state.specs.Attempt.{OnEach, Standing}
 use Rattle.file_state.specs.Counted.{CalledAtMost, calls_of}
 use Rattle.file_state.specs.Tie.{StandsFor}
 use Rattle.load_calls.specs.Calls.{list_calls}
 
 -- an attempt of a process had this end, called the drives at most this number of times, and left all media unchanged
-pub record AttemptsBy (attempt : CallResult → Files → Type 0) (m : Inner) (p : ℕ) (end : CallEnd) (most : ℕ)
+pub record AttemptsBy (attempt : CallResult → Files → Type 0) (m : Processes) (p : ℕ) (end : CallEnd) (most : ℕ)
     (before after : Standing) : Type 0 where
   pub result : CallResult
   pub left : Files
@@ -37,7 +37,7 @@ file_calls asker files terms test =
     calls_of (program_file asker files terms test) (list_calls asker files terms (list_of asker))
 
 -- the same for F$Fork and F$Chain: 0 if an entered module is named
-abbrev pub start_calls : Inner → ℕ → TimePacket → Files → ℕ → ℕ
+abbrev pub start_calls : Processes → ℕ → TimePacket → Files → ℕ → ℕ
 start_calls m p now files terms =
     option_map_or (λ named. 0) (named_program m p) (file_calls (asker_of m p now) files terms (tests_program m p))
 

@@ -10,7 +10,7 @@ use Rattle.rbf_access.specs.Reading.{read_calls}
 use Rattle.rbf_walk.specs.Walk.{calls_on, walk_calls}
 use Rattle.file_rules.specs.Files.{Asker, Files, volume_at}
 use Rattle.file_rules.specs.ProgramFile.{program_file}
-use Rattle.file_rules.specs.Way.{Found, Way, along, to_device, nowhere, list_of, way_of}
+use Rattle.file_rules.specs.Route.{Found, Route, along, to_device, nowhere, list_of, route_of}
 use Rattle.lock_model.specs.declared.place.FilePlace.{FilePlace}
 use Rattle.file_state.specs.Counted.{calls_of}
 use Rattle.file_routes.specs.Ways.{refuses_by}
@@ -38,14 +38,14 @@ calls_on_volume user files from names (Some v) =
     + calls_on (walk v.files user true from.number names)
     (λ n. calls_at_end user files (record { drive = from.drive; number = n }) v (v.files n))
 
-abbrev pub way_calls : Asker → Files → Way → ℕ
+abbrev pub way_calls : Asker → Files → Route → ℕ
 way_calls asker files (along from names) =
     calls_on_volume asker.user files from names (volume_at files from.drive)
 way_calls asker files to_device = 0
 way_calls asker files (nowhere number) = 0
 
 abbrev pub list_calls : Asker → Files → ℕ → Result PathList NameFault → ℕ
-list_calls asker files terms (Ok list) = way_calls asker files (way_of asker files terms true list)
+list_calls asker files terms (Ok list) = way_calls asker files (route_of asker files terms true list)
 list_calls asker files terms (Err fault) = 0
 
 -- for the file of the path list at X, of a call with this refusal, if any

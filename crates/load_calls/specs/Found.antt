@@ -9,7 +9,7 @@ use Rattle.file_rules.specs.Open.{may_open}
 use Rattle.file_rules.specs.ProgramFile.{ProgramFile}
 use Rattle.file_rules.specs.Sharing.{is_not_shared}
 use Rattle.file_rules.specs.Step.{Step, refused, comes, reaches}
-use Rattle.file_rules.specs.Way.{Found}
+use Rattle.file_rules.specs.Route.{Found}
 use Rattle.lock_model.specs.declared.place.FilePlace.{FilePlace}
 
 -- the file at a place

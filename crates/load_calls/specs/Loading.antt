@@ -9,7 +9,7 @@ use Rattle.proc_model.specs.Memory.{map_at}
 use Rattle.proc_model.specs.Module.{step_from}
 use Rattle.proc_model.specs.Slots.{highest_free_run}
 use Rattle.call_rules.specs.CallResult.{CallResult}
-use Rattle.call_rules.specs.Inner.{Inner, own_at, with_memory}
+use Rattle.call_rules.specs.Processes.{Processes, own_at, with_memory}
 use Rattle.call_rules.specs.Link.{links_at}
 use Rattle.file_rules.specs.Load.{GoesOnLoaded, Loaded}
 use Rattle.file_rules.specs.ProgramFile.{ProgramFile}
@@ -21,12 +21,12 @@ abbrev pub HasFirst : List ℕ → ModuleInfo → Type 0
 HasFirst file info = step_from file 0 ≡ Module info
 
 -- the memory of the processes has the file, and the number is that of its first module
-pub record IsEnteredIn (m : Inner) (loaded : Loaded) (id : ModId) (new : ProcState) : Type 0 where
+pub record IsEnteredIn (m : Processes) (loaded : Loaded) (id : ModId) (new : ProcState) : Type 0 where
   pub number_is : id.0 ≡ loaded.first.number
   pub stands : Represents new (with_memory m loaded.memory)
 
 -- a call whose file was read goes on, and has this outcome
-pub record GoesOn (m : Inner) (file : ProgramFile) (next : ProgramFile → Loaded → CallResult)
+pub record GoesOn (m : Processes) (file : ProgramFile) (next : ProgramFile → Loaded → CallResult)
     (outcome : Result (Unit {0}) ℕ) (new : ProcState) : Type 0 where
   pub result : CallResult
   pub goes : GoesOnLoaded m (Ok file) next result
@@ -34,7 +34,7 @@ pub record GoesOn (m : Inner) (file : ProgramFile) (next : ProgramFile → Loade
 
 -- the map of a process has this number of free slots in a row, and the process may have one link more at the highest
 -- such run
-abbrev pub has_place : Inner → ℕ → ℕ → Bool
+abbrev pub has_place : Processes → ℕ → ℕ → Bool
 has_place m p blocks =
     option_map_or (λ slot. nat_lt (links_at (own_at m p) slot) MOST_LINKS)
     (highest_free_run (map_at m.memory p) blocks) false

@@ -1,15 +1,15 @@
 -- The results of reading a file of modules, for the kernel's processes and its files.
 use Rattle.std.specs.Prelude.{◌≡◌, ◌≢◌, ℕ, Option, Some, None, List, Result, Ok, Err, length, slice_get, take}
 use Rattle.os9_base.specs.declared.registers.TimePacket.{TimePacket}
-use Rattle.call_rules.specs.Inner.{Inner, cells_at}
+use Rattle.call_rules.specs.Processes.{Processes, cells_at}
 use Rattle.io_rules.specs.PathList.{PathList}
 use Rattle.device_paths.specs.Standing.{NamesFrom}
 use Rattle.proc_state.specs.Tie.{Represents}
 use Rattle.file_rules.specs.Attempts.{asker_of}
 use Rattle.file_rules.specs.Files.{Asker, Files}
-use Rattle.file_rules.specs.ProgramFile.{ProgramFile, ReadsProgram, program_on_way}
+use Rattle.file_rules.specs.ProgramFile.{ProgramFile, ReadsProgram, program_on_route}
 use Rattle.file_rules.specs.Step.{Step, drive_of}
-use Rattle.file_rules.specs.Way.{Found, along}
+use Rattle.file_rules.specs.Route.{Found, along}
 use Rattle.lock_model.specs.declared.place.FilePlace.{FilePlace}
 use Rattle.file_drives.specs.Drives.{DriveView, media_of}
 use Rattle.file_state.specs.Attempt.{Standing}
@@ -66,16 +66,16 @@ ReadsBetween step most was result before after =
 abbrev pub ReadsFrom : ℕ → (Asker → Files → Step ProgramFile) → (Asker → Files → ℕ) → Result ProgramRead ℕ → Standing
     → Standing → Type 0
 ReadsFrom p step most result before after =
-    (m : Inner) (was : Files) (now : TimePacket) → Represents before.processes m
+    (m : Processes) (was : Files) (now : TimePacket) → Represents before.processes m
     → StandsFor before.files before.views was
     → ReadsBetween (step (asker_of m p now) was) (most (asker_of m p now) was) was result before after
 
 -- the file reached from a directory along names: those of a process's path list from `first` on, before `next`
 abbrev pub ReadsAlong : ℕ → FilePlace → Option ℕ → ℕ → Result ProgramRead ℕ → Standing → Standing → Type 0
 ReadsAlong p from first next result before after =
-    (m : Inner) (was : Files) (now : TimePacket) (list : PathList) → Represents before.processes m
+    (m : Processes) (was : Files) (now : TimePacket) (list : PathList) → Represents before.processes m
     → StandsFor before.files before.views was → NamesFrom (cells_at m p) first list.names → next ≡ list.next
-    → ReadsBetween (program_on_way (asker_of m p now) was list (along from list.names))
+    → ReadsBetween (program_on_route (asker_of m p now) was list (along from list.names))
     (way_calls (asker_of m p now) was (along from list.names)) was result before after
 
 -- a file was found at a place, and its drive has only been read

@@ -2,7 +2,7 @@
 use Rattle.std.specs.Prelude.{◌≡◌, ℕ, ◌+◌, nat_lt, Option, Some, None, take, if◌then◌else◌}
 use Rattle.os9_base.specs.declared.errors.TheConstants.{E_MEMFUL, E_NORAM}
 use Rattle.proc_model.specs.Memory.{MemoryState, free_blocks, map_at}
-use Rattle.call_rules.specs.Inner.{Inner, with_memory}
+use Rattle.call_rules.specs.Processes.{Processes, with_memory}
 use Rattle.call_rules.specs.Program.{blocks_of_pages, most_pages}
 use Rattle.file_rules.specs.Load.{Loaded}
 use Rattle.file_rules.specs.Program.{loaded_program}
@@ -23,7 +23,7 @@ start_refusal m process group pages =
 
 -- the memory of the processes has the file, and the program is its first module, with its parameters at the front of
 -- the buffer
-pub record IsProgramIn (m : Inner) (p : ℕ) (file : ProgramFile) (loaded : Loaded) (program : NamedProgram)
+pub record IsProgramIn (m : Processes) (p : ℕ) (file : ProgramFile) (loaded : Loaded) (program : NamedProgram)
     (new : ProcState) : Type 0 where
   pub number_is : program.id.0 ≡ loaded.first.number
   pub stands : Represents new (with_memory m loaded.memory)

@@ -1,7 +1,7 @@
 //! F$Chain of a program in a file (System Programmer's Manual, F$Chain).
 
 ghost use Rattle.std.specs.Prelude.{◌≡◌, ◌≤◌, IsSome, Ok, take, vec_len};
-ghost use Rattle.call_rules.specs.Inner.{Inner};
+ghost use Rattle.call_rules.specs.Processes.{Processes};
 ghost use Rattle.load_calls.specs.Entering.{TriesFile};
 ghost use Rattle.file_rules.specs.Program.{chains, parameters_of, starts_first};
 ghost use Rattle.file_rules.specs.ProgramFile.{ProgramFile};
@@ -76,7 +76,7 @@ pub fn f_chain(s: &mut ProcState, files: &mut FileState, p: Pid, devices: &mut D
 pub(crate) fn chain_read(s: &mut ProcState, p: Pid, read: ProgramRead) -> Result<(), u8>
     requires lives { IsLiving s.old.table p.0 }
     requires short { read.size ≤ MOST }
-    ensures call { (m : Inner) (file : ProgramFile) → Represents s.old m
+    ensures call { (m : Processes) (file : ProgramFile) → Represents s.old m
         → IsInBuffer s.old.buffer.items file read → IsSome (parameters_of m p.0)
         → GoesOn m file (starts_first chains m p.0) result s.new }
     ensures lives { IsLiving s.new.table p.0 }
@@ -98,7 +98,7 @@ fn chain_tried(s: &mut ProcState, p: Pid, read: ProgramRead, first: ModuleInfo) 
     requires tried { (m : MemoryState) → RepresentsMemory s.old.memory m
         → TriesFile (take read.size s.old.buffer.items) m (Ok first) }
     requires first { HasFirst (take read.size s.old.buffer.items) first }
-    ensures call { (m : Inner) (file : ProgramFile) → Represents s.old m
+    ensures call { (m : Processes) (file : ProgramFile) → Represents s.old m
         → IsInBuffer s.old.buffer.items file read → IsSome (parameters_of m p.0)
         → GoesOn m file (starts_first chains m p.0) result s.new }
     ensures lives { IsLiving s.new.table p.0 }

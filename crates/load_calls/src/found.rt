@@ -5,12 +5,13 @@ ghost use Rattle.file_drives.specs.Drives.{DriveView, drives_seen};
 ghost use Rattle.file_drives.specs.Mounted.{HasFileAt, OnDisks, ReadsFile};
 ghost use Rattle.file_rules.specs.Files.{Files};
 ghost use Rattle.file_rules.specs.Open.{may_open};
-ghost use Rattle.file_rules.specs.Way.{Found};
+ghost use Rattle.file_rules.specs.Route.{Found};
 ghost use Rattle.file_state.specs.Tie.{StandsFor};
 ghost use Rattle.io_rules.specs.declared.modes.TheConstants.{MODE_EXECUTE as EXECUTE};
 ghost use Rattle.os9_base.specs.declared.limits.TheConstants.{MOST_GROUP_BYTES as MOST};
 ghost use Rattle.proc_state.specs.Tie.{IsSame};
-ghost use Rattle.load_calls.specs.Found.{IsWhole, program_size as program_size_lem, short_size as short_size_lem};
+ghost use Rattle.load_calls.specs.Found as model;
+ghost use Rattle.load_calls.specs.Found.{IsWhole};
 ghost use Rattle.rbf_access.specs.Faults.{file_fault};
 ghost use Rattle.rbf_access.specs.Reading.{IsFdOf, read_calls};
 ghost use Rattle.rbf_model.specs.File.{DiskFile};
@@ -44,7 +45,7 @@ pub(crate) fn program_size(
 ) -> Result<u16, u8>
     ensures size { (views : List DriveView) (was : Files) (found : Found)
         → StandsFor files.now views was → found.place ≡ place → IsFdOf found.file fd.now
-        → result ≡ program_size_lem user was found }
+        → result ≡ model.program_size user was found }
     ensures short { IfOk result (λ size. size ≤ MOST) }
 {
     if !may_execute(fd, user) {
@@ -62,7 +63,7 @@ pub(crate) fn program_size(
 ///
 /// E$MemFul exactly if it is more.
 fn short_size(size: u32) -> Result<u16, u8>
-    ensures size { result ≡ short_size_lem size }
+    ensures size { result ≡ model.short_size size }
     ensures short { IfOk result (λ size. size ≤ MOST) }
 {
     if size > u32::from(MOST_GROUP_BYTES) {

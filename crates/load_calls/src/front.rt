@@ -1,7 +1,7 @@
 //! The file of modules at the front of the buffer.
 
 ghost use Rattle.std.specs.Prelude.{◌≡◌, ℕ, ◌≤◌, IfOk, IsSome, Ok, take};
-ghost use Rattle.call_rules.specs.Inner.{Inner, with_memory};
+ghost use Rattle.call_rules.specs.Processes.{Processes, with_memory};
 ghost use Rattle.load_calls.specs.Entering.{TriesFile};
 ghost use Rattle.file_rules.specs.Load.{Loaded, Loads};
 ghost use Rattle.guest_memory.specs.Tie.{Represents as RepresentsMemory, modules_of};
@@ -38,7 +38,7 @@ pub(crate) fn enter_front(s: &mut ProcState, size: u16, first: ModuleInfo) -> Mo
     requires tried { (m : MemoryState) → RepresentsMemory s.old.memory m
         → TriesFile (take size s.old.buffer.items) m (Ok first) }
     requires first { HasFirst (take size s.old.buffer.items) first }
-    ensures loads { (m : Inner) (loaded : Loaded) → Represents s.old m
+    ensures loads { (m : Processes) (loaded : Loaded) → Represents s.old m
         → Loads m.memory (take size s.old.buffer.items) (Ok loaded)
         → IsEnteredIn m loaded result s.new }
     ensures entered { IsSome (module_entry_at (modules_of s.new.memory) result.0) }

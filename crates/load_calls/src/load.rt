@@ -1,7 +1,7 @@
 //! F$Load (System Programmer's Manual, F$Load).
 
 ghost use Rattle.std.specs.Prelude.{◌≡◌, ◌<◌, ◌≤◌, Ok, take, vec_len};
-ghost use Rattle.call_rules.specs.Inner.{Inner};
+ghost use Rattle.call_rules.specs.Processes.{Processes};
 ghost use Rattle.load_calls.specs.Entering.{TriesFile};
 ghost use Rattle.file_rules.specs.Load.{links_first};
 ghost use Rattle.file_rules.specs.ProgramFile.{ProgramFile};
@@ -10,7 +10,8 @@ ghost use Rattle.file_state.specs.Attempt.{standing};
 ghost use Rattle.file_state.specs.Tie.{IsSound};
 ghost use Rattle.load_calls.specs.Attempts.{LoadsFrom};
 ghost use Rattle.os9_base.specs.declared.registers.TimePacket.{TimePacket};
-ghost use Rattle.load_calls.specs.Loading.{GoesOn, HasFirst, has_place as has_place_lem};
+ghost use Rattle.load_calls.specs.Loading as model;
+ghost use Rattle.load_calls.specs.Loading.{GoesOn, HasFirst};
 ghost use Rattle.os9_base.specs.declared.limits.TheConstants.{MOST_GROUP_BYTES as MOST};
 ghost use Rattle.proc_model.specs.Memory.{MemoryState};
 ghost use Rattle.proc_rules.specs.Records.{IsLiving};
@@ -70,7 +71,7 @@ pub fn f_load(s: &mut ProcState, files: &mut FileState, p: Pid, devices: &mut De
 pub(crate) fn load_read(s: &mut ProcState, p: Pid, read: ProgramRead) -> Result<(), u8>
     requires lives { IsLiving s.old.table p.0 }
     requires short { read.size ≤ MOST }
-    ensures call { (m : Inner) (file : ProgramFile) → Represents s.old m
+    ensures call { (m : Processes) (file : ProgramFile) → Represents s.old m
         → IsInBuffer s.old.buffer.items file read → GoesOn m file (links_first m p.0) result s.new }
     ensures lives { IsLiving s.new.table p.0 }
 {
@@ -92,7 +93,7 @@ fn load_tried(s: &mut ProcState, p: Pid, read: ProgramRead, first: ModuleInfo) -
     requires tried { (m : MemoryState) → RepresentsMemory s.old.memory m
         → TriesFile (take read.size s.old.buffer.items) m (Ok first) }
     requires first { HasFirst (take read.size s.old.buffer.items) first }
-    ensures call { (m : Inner) (file : ProgramFile) → Represents s.old m
+    ensures call { (m : Processes) (file : ProgramFile) → Represents s.old m
         → IsInBuffer s.old.buffer.items file read → GoesOn m file (links_first m p.0) result s.new }
     ensures lives { IsLiving s.new.table p.0 }
 {
@@ -109,7 +110,7 @@ fn load_tried(s: &mut ProcState, p: Pid, read: ProgramRead, first: ModuleInfo) -
 fn has_place(s: &ProcState, p: Pid, blocks: u8) -> bool
     requires process { p.0 < 33 }
     requires some { 1 ≤ blocks }
-    ensures { (m : Inner) → Represents s.now m → result ≡ has_place_lem m p.0 blocks }
+    ensures { (m : Processes) → Represents s.now m → result ≡ model.has_place m p.0 blocks }
 {
     match s.memory.free_run(p, blocks) {
         Some(slot) => s.own(p).links[slot as usize] < MOST_LINKS,

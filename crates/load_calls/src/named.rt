@@ -1,7 +1,7 @@
 //! The entered module that the registers of a call name.
 
 ghost use Rattle.std.specs.Prelude.{◌≡◌, is_some, option_and_then};
-ghost use Rattle.call_rules.specs.Inner.{Inner};
+ghost use Rattle.call_rules.specs.Processes.{Processes};
 ghost use Rattle.call_rules.specs.ModuleLinks.{found_entry};
 ghost use Rattle.file_rules.specs.Program.{named_program};
 ghost use Rattle.guest_memory.specs.Tie.{Represents as RepresentsMemory};
@@ -19,7 +19,7 @@ use proc_state::state::ProcState;
 /// entered (System Programmer's Manual, F$Fork and F$Chain)? If not, X is a path list.
 pub(crate) fn names_program(s: &mut ProcState, p: Pid) -> bool
     requires lives { IsLiving s.old.table p.0 }
-    ensures named { (m : Inner) → Represents s.old m → result ≡ is_some (named_program m p.0) }
+    ensures named { (m : Processes) → Represents s.old m → result ≡ is_some (named_program m p.0) }
     ensures same { IsSame s.old s.new }
 {
     let regs = s.regs(p);

@@ -1,14 +1,15 @@
 //! A program in a file, and the room it needs.
 
 ghost use Rattle.std.specs.Prelude.{◌≡◌, ◌≤◌, ◌<◌, IsSome, Ok, take};
-ghost use Rattle.call_rules.specs.Inner.{Inner};
+ghost use Rattle.call_rules.specs.Processes.{Processes};
 ghost use Rattle.load_calls.specs.Entering.{TriesFile};
 ghost use Rattle.file_rules.specs.Load.{Loaded, Loads};
 ghost use Rattle.file_rules.specs.Program.{parameters_of};
 ghost use Rattle.file_rules.specs.ProgramFile.{ProgramFile};
 ghost use Rattle.guest_memory.specs.Tie.{Represents as RepresentsMemory, modules_of};
 ghost use Rattle.load_calls.specs.Loading.{HasFirst};
-ghost use Rattle.load_calls.specs.Starting.{IsProgramIn, start_refusal as start_refusal_lem};
+ghost use Rattle.load_calls.specs.Starting as model;
+ghost use Rattle.load_calls.specs.Starting.{IsProgramIn};
 ghost use Rattle.os9_base.specs.declared.limits.TheConstants.{MOST_GROUP_BYTES as MOST};
 ghost use Rattle.proc_model.specs.Memory.{MemoryState};
 ghost use Rattle.proc_model.specs.ModuleList.{module_entry_at};
@@ -40,7 +41,7 @@ pub(crate) fn start_refusal(memory: &Memory, p: Pid, group: u8, pages: u16) -> O
     requires process { p.0 < 33 }
     requires few { group ≤ 7 }
     ensures { (m : MemoryState) → RepresentsMemory memory.now m
-        → result ≡ start_refusal_lem m p.0 group pages }
+        → result ≡ model.start_refusal m p.0 group pages }
 {
     if pages > MOST_PAGES {
         return Some(E_MEMFUL);
@@ -69,7 +70,7 @@ pub(crate) fn enter_program(
     requires tried { (m : MemoryState) → RepresentsMemory s.old.memory m
         → TriesFile (take read.size s.old.buffer.items) m (Ok first) }
     requires first { HasFirst (take read.size s.old.buffer.items) first }
-    ensures enters { (m : Inner) (file : ProgramFile) (loaded : Loaded) → Represents s.old m
+    ensures enters { (m : Processes) (file : ProgramFile) (loaded : Loaded) → Represents s.old m
         → IsInBuffer s.old.buffer.items file read → Loads m.memory file.bytes (Ok loaded)
         → IsSome (parameters_of m p.0) → IsProgramIn m p.0 file loaded result s.new }
     ensures entered { IsSome (module_entry_at (modules_of s.new.memory) result.id.0) }

@@ -5,7 +5,7 @@ ghost use Rattle.file_drives.specs.Drives.{drives_seen};
 ghost use Rattle.file_drives.specs.Mounted.{HasFileAt};
 ghost use Rattle.file_rules.specs.Files.{Files};
 ghost use Rattle.file_rules.specs.ProgramFile.{program_file};
-ghost use Rattle.file_rules.specs.Way.{Found};
+ghost use Rattle.file_rules.specs.Route.{Found};
 ghost use Rattle.file_state.specs.Attempt.{standing};
 ghost use Rattle.file_state.specs.Tie.{IsSound};
 ghost use Rattle.file_routes.specs.Walks.{SomeFrom};
@@ -15,7 +15,8 @@ ghost use Rattle.os9_base.specs.declared.limits.TheConstants.{MOST_GROUP_BYTES a
 ghost use Rattle.proc_rules.specs.Records.{IsLiving};
 ghost use Rattle.proc_state.specs.Tie.{IsSame};
 ghost use Rattle.load_calls.specs.Calls.{found_calls, program_calls, size_calls};
-ghost use Rattle.load_calls.specs.Found.{program_size as program_size_lem, program_there};
+ghost use Rattle.load_calls.specs.Found as model;
+ghost use Rattle.load_calls.specs.Found.{program_there};
 ghost use Rattle.load_calls.specs.Reading.{HasFound, ReadsAlong, ReadsBetween, ReadsFrom, read_by};
 ghost use Rattle.rbf_access.specs.Reading.{IsFdOf};
 
@@ -172,7 +173,7 @@ fn read_found(
     ensures found { (was : Files) (found : Found) → HasFound place was found
         (standing BlockDriver-box s.old files.old devices.old)
         → IsFdOf found.file fd.now → ReadsBetween (program_there user was next found)
-        (size_calls found.file (program_size_lem user was found)) was result
+        (size_calls found.file (model.program_size user was found)) was result
         (standing BlockDriver-box s.old files.old devices.old)
         (standing BlockDriver-box s.new files.new devices.new) }
     ensures short { IfOk result (λ read. read.size ≤ MOST) }

@@ -1,8 +1,8 @@
 //! The tests of F$Fork and F$Chain on their registers after their path list is read.
 
 ghost use Rattle.std.specs.Prelude.{◌≡◌};
-ghost use Rattle.call_rules.specs.Inner.{Inner};
-ghost use Rattle.call_rules.specs.Program.{asks_for_program as asks_for_program_lem};
+ghost use Rattle.call_rules.specs.Processes.{Processes};
+ghost use Rattle.call_rules.specs.Program as model;
 ghost use Rattle.file_rules.specs.Program.{tests_program};
 ghost use Rattle.file_rules.specs.ProgramFile.{ProgramFile};
 ghost use Rattle.file_rules.specs.Step.{Step};
@@ -26,7 +26,7 @@ const ANY_PROGRAM: u8 = 0x10;
 /// if the call goes on.
 pub fn program_refusal(s: &ProcState, p: Pid) -> Option<u8>
     requires { IsLiving s.now.table p.0 }
-    ensures { (m : Inner) (step : Step ProgramFile) → Represents s.now m
+    ensures { (m : Processes) (step : Step ProgramFile) → Represents s.now m
         → refuses_by result step ≡ tests_program m p.0 step }
 {
     let regs = s.regs(p);
@@ -41,7 +41,7 @@ pub fn program_refusal(s: &ProcState, p: Pid) -> Option<u8>
 
 /// May a call ask for this type and language: any, a program in any language, or in 6809 code?
 fn asks_for_program(kind: u8) -> bool
-    ensures { result ≡ asks_for_program_lem kind }
+    ensures { result ≡ model.asks_for_program kind }
 {
     matches!(kind, 0 | ANY_PROGRAM | PROGRAM)
 }

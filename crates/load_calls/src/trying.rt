@@ -1,7 +1,7 @@
 //! Modules of a file, tried one after another.
 
 ghost use Rattle.std.specs.Prelude.{◌≡◌, ℕ, ◌≤◌, List, Option, length};
-ghost use Rattle.proc_model.specs.Loading.{module_error as module_error_lem};
+ghost use Rattle.proc_model.specs.Loading as model;
 ghost use Rattle.proc_model.specs.ModuleList.{ModuleEntry};
 ghost use Rattle.load_calls.specs.Trying.{AreAlike, TriesModules, entry_refusal_beside};
 
@@ -62,7 +62,7 @@ fn refusal(dir: &Dir, tried: &[Option<ModuleInfo>], count: usize, info: &ModuleI
 
 /// The error of a module that breaks a rule of its own.
 fn module_error(fault: ModuleFault) -> u8
-    ensures { result ≡ module_error_lem fault }
+    ensures { result ≡ model.module_error fault }
 {
     match fault {
         ModuleFault::BadSync => E_BMID,

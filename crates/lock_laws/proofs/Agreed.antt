@@ -6,7 +6,7 @@ use Rattle.os9_base.specs.declared.registers.TimePacket.{TimePacket}
 use Rattle.cpu_model.specs.Step.{Aborts, Calls, Done, Outcome}
 use Rattle.call_rules.specs.CallResult.{CallResult, done, ends, refused, waits}
 use Rattle.call_rules.specs.Delivery.{delivered}
-use Rattle.call_rules.specs.Inner.{Inner, regs_at}
+use Rattle.call_rules.specs.Processes.{Processes, regs_at}
 use Rattle.call_rules.specs.Ready.{Act, act_of, attempts, delivers, executes}
 use Rattle.call_rules.specs.declared.proc_call.ProcCall.TheVariants as Call
 use Rattle.lock_model.specs.Laws.{Covers}
@@ -24,7 +24,7 @@ use Rattle.call_laws.proofs.Codes.{attempts-code}
 use Rattle.file_rules.specs.Attempts.{asker_of}
 use Rattle.file_rules.specs.Codes.{path_call_of}
 use Rattle.file_rules.specs.Files.{Asker, Files, OpenFile}
-use Rattle.file_rules.specs.Locking.{files_interrupted, first_request, lock_ends, request_kept}
+use Rattle.file_rules.specs.Locking.{files_interrupted, first_request, lock_ends, pending_request}
 use Rattle.file_rules.specs.Processes.{files_ended, files_started, io_left}
 use Rattle.file_rules.specs.declared.claim.Claim.{Claim}
 use Rattle.file_rules.specs.declared.path_call.PathCall.{PathCall}
@@ -75,7 +75,7 @@ module _ (files : Files) (p : ℕ) (agreed : AreAgreed files) where
   instruction-agreed (Calls code regs) = agreed
   instruction-agreed (Aborts status) = ended-agreed
 
-  delivery-agreed : (result : Result Inner ℕ) → AreAgreed (files_after_delivery files p result)
+  delivery-agreed : (result : Result Processes ℕ) → AreAgreed (files_after_delivery files p result)
   delivery-agreed (Ok t) = interrupted-agreed
   delivery-agreed (Err status) = ended-agreed
 
@@ -132,37 +132,38 @@ module _ (asker : Asker) (files : Files) (found : OpenFile) (claim : Claim) wher
       differ : Path.ReadLn ≡ Path.SetStt → ⊥
       differ is = cc
 
-module _ (s : State) (p code : ℕ) (running : IsRunning s) (next : act_of s.inner p ≡ attempts code) (coded : path_call_of code ≡ Some Path.ReadLn) (now : TimePacket) (terms : ℕ) where
+module _ (s : State) (p code : ℕ) (running : IsRunning s) (next : act_of s.processes p ≡ attempts code) (coded : path_call_of code ≡ Some Path.ReadLn) (now : TimePacket) (terms : ℕ) where
   abbrev m : Made
-  m = record { call = Path.ReadLn; asker = asker_of s.inner p now; files = s.files; terms = terms }
+  m = record { call = Path.ReadLn; asker = asker_of s.processes p now; files = s.files; terms = terms }
 
   -- a request that waits has as many bytes as the call that is attempted again asks for
-  kept-covers : (request : Request) → request_of s.files.records.locks p ≡ Some request → Covers request.lock.range (regs_at s.inner p).y
+  kept-covers : (request : Request) → request_of s.files.records.locks p ≡ Some request → Covers request.lock.range (regs_at s.processes p).y
   kept-covers request is =
       let it = running.requested p request is in
       let kept = running.kept p _ it.kept in
-      let same : code ≡ request.code = same_Some code request.code (sym (attempts-code s.inner p code next) ∙ kept.made) in
+      let same : code ≡ request.code = same_Some code request.code (sym (attempts-code s.processes p code next) ∙ kept.made) in
       let device : kept.call ≡ Device.ReadLn = same_Some kept.call Device.ReadLn (sym kept.again.code ∙ ap io_call_of (sym same) ∙ code-there code Path.ReadLn coded) in
-      let count : request.count ≡ (regs_at s.inner p).y = subst (λ (call : IoCall). KeepsCount call (regs_at s.inner p) request.count) device kept.again.count in
+      let count : request.count ≡ (regs_at s.processes p).y = subst (λ (call : IoCall). KeepsCount call (regs_at s.processes p) request.count) device kept.again.count in
       subst (Covers request.lock.range) count it.covers
 
-  line-covers : (request : Request) → Requests m request → Covers request.lock.range (regs_at s.inner p).y
-  line-covers request it = by_kept (request_kept m.asker m.files) refl it.is
+  line-covers : (request : Request) → Requests m request → Covers request.lock.range (regs_at s.processes p).y
+  line-covers request it = by_kept (pending_request m.asker m.files) refl it.is
     where
-      by_kept : (kept : Option Request) → request_kept m.asker m.files ≡ kept → request ≡ unwrap_or kept (first_request m.asker it.found it.claim) → Covers request.lock.range (regs_at s.inner p).y
+      by_kept : (kept : Option Request) → pending_request m.asker m.files ≡ kept → request ≡ unwrap_or kept (first_request m.asker it.found it.claim)
+          → Covers request.lock.range (regs_at s.processes p).y
       by_kept None none is =
-          subst (λ (request : Request). Covers request.lock.range (regs_at s.inner p).y) (sym is) (claim-covers m.asker m.files it.found it.claim it.claims)
+          subst (λ (request : Request). Covers request.lock.range (regs_at s.processes p).y) (sym is) (claim-covers m.asker m.files it.found it.claim it.claims)
       by_kept (Some other) there is =
-          subst (λ (request : Request). Covers request.lock.range (regs_at s.inner p).y) (sym is) (kept-covers other there)
+          subst (λ (request : Request). Covers request.lock.range (regs_at s.processes p).y) (sym is) (kept-covers other there)
 
 -- ---- an attempt
 
-module _ (s : State) (p code : ℕ) (running : IsRunning s) (agreed : AreAgreed s.files) (next : act_of s.inner p ≡ attempts code) (now : TimePacket) where
-  covers-line : (call : PathCall) → path_call_of code ≡ Some call → (terms : ℕ) → CoversLine (record { call = call; asker = asker_of s.inner p now; files = s.files; terms = terms })
+module _ (s : State) (p code : ℕ) (running : IsRunning s) (agreed : AreAgreed s.files) (next : act_of s.processes p ≡ attempts code) (now : TimePacket) where
+  covers-line : (call : PathCall) → path_call_of code ≡ Some call → (terms : ℕ) → CoversLine (record { call = call; asker = asker_of s.processes p now; files = s.files; terms = terms })
   covers-line call coded terms is =
       subst (λ (call : PathCall). (request : Request)
-      → Requests (record { call = call; asker = asker_of s.inner p now; files = s.files; terms = terms }) request
-      → CoversCall call (regs_at s.inner p) request) (sym is)
+      → Requests (record { call = call; asker = asker_of s.processes p now; files = s.files; terms = terms }) request
+      → CoversCall call (regs_at s.processes p) request) (sym is)
       (line-covers s p code running next (coded ∙ ap (λ (call : PathCall). Some call) is) now terms)
 
   path-agreed : (call : PathCall) → path_call_of code ≡ Some call → (result : CallResult) (rest : Rest) → Serves (on_paths call) s now p result rest → AreAgreed rest.files
@@ -177,7 +178,7 @@ module _ (s : State) (p code : ℕ) (running : IsRunning s) (agreed : AreAgreed 
       attempt : Attempt
       attempt = record {
         call = call;
-        inner = s.inner;
+        processes = s.processes;
         files = s.files;
         now = now;
         process = p;
@@ -196,12 +197,12 @@ module _ (s : State) (p code : ℕ) (running : IsRunning s) (agreed : AreAgreed 
 
   serves-agreed : (service : Service) → service_of code ≡ service → (result : CallResult) (rest : Rest) → Serves service s now p result rest → AreAgreed rest.files
   serves-agreed loads serves result rest (files, it, is) =
-      rest-agreed rest files (ap files_in is) (left-agreed s.files files (load-leaves s.inner (asker_of s.inner p now) s.files (length s.terms) p result files it) agreed)
+      rest-agreed rest files (ap files_in is) (left-agreed s.files files (load-leaves s.processes (asker_of s.processes p now) s.files (length s.terms) p result files it) agreed)
   serves-agreed (on_processes Call.Fork) serves result rest (files, it, is) =
       rest-agreed rest (files_after_fork files p result) (ap files_in is)
-      (fork-agreed files p (left-agreed s.files files (fork-leaves s.inner (asker_of s.inner p now) s.files (length s.terms) p result files it) agreed) result)
+      (fork-agreed files p (left-agreed s.files files (fork-leaves s.processes (asker_of s.processes p now) s.files (length s.terms) p result files it) agreed) result)
   serves-agreed (on_processes Call.Chain) serves result rest (files, it, is) =
-      rest-agreed rest files (ap files_in is) (left-agreed s.files files (chain-leaves s.inner (asker_of s.inner p now) s.files (length s.terms) p result files it) agreed)
+      rest-agreed rest files (ap files_in is) (left-agreed s.files files (chain-leaves s.processes (asker_of s.processes p now) s.files (length s.terms) p result files it) agreed)
   serves-agreed (on_processes call) serves result rest it =
       rest-agreed rest (files_after_call s.files p result) (ap files_in it.1) (call-agreed s.files p agreed result)
   serves-agreed (on_time call) serves result rest (clock, it, is) = rest-agreed rest s.files (ap files_in is) agreed
@@ -211,9 +212,9 @@ module _ (s : State) (p code : ℕ) (running : IsRunning s) (agreed : AreAgreed 
 
 -- ---- events
 
-acts-agreed : (act : Act) (s : State) (p : ℕ) (end : EventEnd) (t : State) → IsRunning s → AreAgreed s.files → act_of s.inner p ≡ act → Acts act s p end t → AreAgreed t.files
+acts-agreed : (act : Act) (s : State) (p : ℕ) (end : EventEnd) (t : State) → IsRunning s → AreAgreed s.files → act_of s.processes p ≡ act → Acts act s p end t → AreAgreed t.files
 acts-agreed executes s p end t running agreed next (over, is) =
-    subst (λ (t : State). AreAgreed t.files) (sym is) (instruction-agreed s.files p agreed (next_instruction s.inner p))
+    subst (λ (t : State). AreAgreed t.files) (sym is) (instruction-agreed s.files p agreed (next_instruction s.processes p))
 acts-agreed (delivers signal) s p end t running agreed next (over, is) =
     subst (λ (t : State). AreAgreed t.files) (sym is) (delivery-agreed s.files p agreed (delivered (before_delivery s p) p signal))
 acts-agreed (attempts code) s p end t running agreed next (result, rest, (now, is_now, it), over, is) =
@@ -221,7 +222,7 @@ acts-agreed (attempts code) s p end t running agreed next (result, rest, (now, i
 
 pub event-agreed : (s t : State) (end : EventEnd) → Event s end t → IsRunning s → AreAgreed s.files → AreAgreed t.files
 event-agreed s t end (p, chosen, lives, acts) running agreed =
-    acts-agreed (act_of s.inner p) s p end t running agreed refl acts
+    acts-agreed (act_of s.processes p) s p end t running agreed refl acts
 
 -- ---- a choice and the start
 

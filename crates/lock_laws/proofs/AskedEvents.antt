@@ -16,7 +16,7 @@ use Rattle.call_rules.specs.Attempts.{after_attempt}
 use Rattle.call_rules.specs.CallResult.{CallResult, done, ends, refused, waits}
 use Rattle.call_rules.specs.Codes.{call_of}
 use Rattle.call_rules.specs.Delivery.{delivered}
-use Rattle.call_rules.specs.Inner.{Inner, regs_at}
+use Rattle.call_rules.specs.Processes.{Processes, regs_at}
 use Rattle.call_rules.specs.Ready.{Act, act_of, attempts, delivers, executes}
 use Rattle.call_rules.specs.declared.proc_call.ProcCall.{ProcCall}
 use Rattle.call_rules.specs.declared.proc_call.ProcCall.TheVariants as Call
@@ -73,7 +73,7 @@ use Rattle.lock_laws.proofs.VolumeEvents.{attempt_by}
 -- ---- the other processes
 
 -- another process that waits has the registers that it had
-regs-stay : (m : Inner) (p : ℕ) (end : EventEnd) (n : Inner) (q : ℕ) → IsLiving m.records q
+regs-stay : (m : Processes) (p : ℕ) (end : EventEnd) (n : Processes) (q : ℕ) → IsLiving m.records q
     → ComesOf m p end n q (record_of m.records q) (record_of n.records q) → regs_at n q ≡ regs_at m q
 regs-stay m p end n q lives comes =
     by_new (record_of n.records q) refl (subst (λ (old : Option Record). ComesOf m p end n q old (record_of n.records q)) (living-record m.records q lives) comes)
@@ -88,7 +88,7 @@ regs-stay m p end n q lives comes =
         ∙ ap (λ (r : Record). r.regs) (subst (ComesOf m p end n q (Some (record_at m.records q))) is comes).record_is.others
 
 -- a path that another process names stays on its file
-path-stays : (s : State) (p : ℕ) (t : State) → LeavesIo s p t → (q n path : ℕ) (place : FilePlace) → q ≢ p → IsLiving s.inner.records q
+path-stays : (s : State) (p : ℕ) (t : State) → LeavesIo s p t → (q n path : ℕ) (place : FilePlace) → q ≢ p → IsLiving s.processes.records q
     → slot_of s.files.io.paths q n ≡ Some (record { 0 = path }) → IsPathOn s.files.io.paths path place → IsPathOn t.files.io.paths path place
 path-stays s p t leaves q n path place differ lives named on =
     let it = leaves.paths q n opened differ lives opens in
@@ -115,10 +115,10 @@ module _ (s t : State) (end : EventEnd) (p : ℕ) (chosen : s.chosen ≡ Some p)
   other-asked q differ request is =
       let asked = it.on.asked q request is in
       let kept = it.state.running.kept q (kept_call request) (it.state.running.requested q request is).kept in
-      let regs : regs_at t.inner q ≡ regs_at s.inner q = regs-stay s.inner p end t.inner q kept.lives ((event-leaves s t end p chosen event).others q differ) in
+      let regs : regs_at t.processes q ≡ regs_at s.processes q = regs-stay s.processes p end t.processes q kept.lives ((event-leaves s t end p chosen event).others q differ) in
       record {
         on =
-            path-stays s p t (event-leaves-io s t end p chosen event) q (path_number kept.call (regs_at s.inner q)) request.path request.lock.file differ kept.lives kept.again.path asked.on;
+            path-stays s p t (event-leaves-io s t end p chosen event) q (path_number kept.call (regs_at s.processes q)) request.path request.lock.file differ kept.lives kept.again.path asked.on;
         call = asked.call;
         code = asked.code;
         covers = subst (λ (regs : Regs). CoversCall asked.call regs request) (sym regs) asked.covers;
@@ -162,7 +162,7 @@ none-asked code call coded is = by_load (code == F_LOAD) is
 
 -- ---- the process itself
 
-module _ (s : State) (p : ℕ) (it : IsRunLocked s) (lives : IsLiving s.inner.records p) where
+module _ (s : State) (p : ℕ) (it : IsRunLocked s) (lives : IsLiving s.processes.records p) where
   -- it has no request in these files
   abbrev HasNone : Files → Type 0
   HasNone files = (request : Request) → request_of files.records.locks p ≡ Some request → ⊥
@@ -182,7 +182,7 @@ module _ (s : State) (p : ℕ) (it : IsRunLocked s) (lives : IsLiving s.inner.re
   instruction-has none (Calls code regs) = none
   instruction-has none (Aborts status) = ended-has
 
-  delivery-has : (result : Result Inner ℕ) → HasNone (files_after_delivery s.files p result)
+  delivery-has : (result : Result Processes ℕ) → HasNone (files_after_delivery s.files p result)
   delivery-has (Ok t) = none-has (files_interrupted s.files p) (none-interrupted s.files p).none
   delivery-has (Err status) = ended-has
 
@@ -199,19 +199,19 @@ module _ (s : State) (p : ℕ) (it : IsRunLocked s) (lives : IsLiving s.inner.re
   fork-has files none (ends status) = none
 
   -- a process that executes waits in none
-  executes-has : act_of s.inner p ≡ executes → HasNone s.files
+  executes-has : act_of s.processes p ≡ executes → HasNone s.files
   executes-has next request is =
       none-some (kept_call request)
-      (sym (no-call s.inner s.files.io p it.state.running.kept lives (executes-none s.inner s.files.io p it.state.running.kept lives next))
+      (sym (no-call s.processes s.files.io p it.state.running.kept lives (executes-none s.processes s.files.io p it.state.running.kept lives next))
       ∙ (it.state.running.requested p request is).kept)
 
-  module _ (code : ℕ) (next : act_of s.inner p ≡ attempts code) where
+  module _ (code : ℕ) (next : act_of s.processes p ≡ attempts code) where
     -- a request that waits is of the call that is attempted
     asked-code : (request : Request) → request_of s.files.records.locks p ≡ Some request → (device : IoCall) × (io_call_of code ≡ Some device) × (call : PathCall) × (path_call_of code ≡ Some call)
     asked-code request is =
         let asked = it.on.asked p request is in
         let kept = it.state.running.kept p (kept_call request) (it.state.running.requested p request is).kept in
-        let same : code ≡ request.code = same_Some code request.code (sym (attempts-code s.inner p code next) ∙ kept.made) in
+        let same : code ≡ request.code = same_Some code request.code (sym (attempts-code s.processes p code next) ∙ kept.made) in
         (kept.call, ap io_call_of same ∙ kept.again.code, asked.call, ap path_call_of same ∙ asked.code)
 
     abbrev IsOnPaths : Service → Type 0
@@ -235,19 +235,19 @@ module _ (s : State) (p : ℕ) (it : IsRunLocked s) (lives : IsLiving s.inner.re
 
     module _ (now : TimePacket) (call : PathCall) (coded : path_call_of code ≡ Some call) (result : CallResult) (rest : Rest) where
       abbrev reached : State
-      reached = with_rest s (after_attempt s.inner p result) rest
+      reached = with_rest s (after_attempt s.processes p result) rest
 
-      covered : IsCovered (record { call = call; asker = asker_of s.inner p now; files = s.files; terms = length s.terms })
+      covered : IsCovered (record { call = call; asker = asker_of s.processes p now; files = s.files; terms = length s.terms })
       covered = state-covered s p code it.state.running it.on next now call coded (length s.terms)
 
       abbrev Waiting_on : Type 0
-      Waiting_on = WaitsForRecord call s.inner s.files now p result rest.files s.terms rest.terms
+      Waiting_on = WaitsForRecord call s.processes s.files now p result rest.files s.terms rest.terms
 
-      waits-regs : Waiting_on → regs_at reached.inner p ≡ regs_at s.inner p
+      waits-regs : Waiting_on → regs_at reached.processes p ≡ regs_at s.processes p
       waits-regs waiting =
-          ap (λ (n : Inner). regs_at n p) (is-waiting s p code it.state.running lives next now call coded result rest.files s.terms rest.terms waiting)
-          ∙ ap (λ (r : Record). r.regs) (there-at (slots waiting) p _ (get_or-set_same s.inner.records p
-          (Some (record (record_at s.inner.records p) { life = Waiting })) None (living-within s.inner.records p lives)))
+          ap (λ (n : Processes). regs_at n p) (is-waiting s p code it.state.running lives next now call coded result rest.files s.terms rest.terms waiting)
+          ∙ ap (λ (r : Record). r.regs) (there-at (slots waiting) p _ (get_or-set_same s.processes.records p
+          (Some (record (record_at s.processes.records p) { life = Waiting })) None (living-within s.processes.records p lives)))
         where
           slots : Waiting_on → List (Option Record)
           slots waiting = (waiting_then s p code it.state.running lives next now call coded result rest.files s.terms rest.terms waiting).records
@@ -255,9 +255,9 @@ module _ (s : State) (p : ℕ) (it : IsRunLocked s) (lives : IsLiving s.inner.re
       waits-code : (waiting : Waiting_on) → waiting.request.code ≡ code
       waits-code waiting =
           let kept = waits-keep s p code it.state.running lives next now call coded result rest.files s.terms rest.terms waiting (kept_call waiting.request)
-          (waits-kept call s.inner s.files now p result rest.files s.terms rest.terms it.state.running.requested waiting
+          (waits-kept call s.processes s.files now p result rest.files s.terms rest.terms it.state.running.requested waiting
           (waits-within s p code it.state.running lives next now call coded result rest.files s.terms rest.terms waiting)) in
-          same_Some waiting.request.code code (sym kept.made ∙ attempts-code s.inner p code next)
+          same_Some waiting.request.code code (sym kept.made ∙ attempts-code s.processes p code next)
 
       waits-asked : (waiting : Waiting_on) → IsAskedFor reached p waiting.request
       waits-asked waiting = record {
@@ -282,7 +282,7 @@ module _ (s : State) (p : ℕ) (it : IsRunLocked s) (lives : IsLiving s.inner.re
           by_place (inl (at, same)) = same
           by_place (inr was) =
               waiting.requests.is
-              ∙ ap (λ (kept : Option Request). unwrap_or kept (first_request (asker_of s.inner p now) waiting.requests.found waiting.requests.claim)) was
+              ∙ ap (λ (kept : Option Request). unwrap_or kept (first_request (asker_of s.processes p now) waiting.requests.found waiting.requests.claim)) was
 
       path-asked : Serves (on_paths call) s now p result rest → (request : Request) → request_of rest.files.records.locks p ≡ Some request → IsAskedFor reached p request
       path-asked (attempted, clock) request is = by_touch (comes-of attempt)
@@ -300,7 +300,7 @@ module _ (s : State) (p : ℕ) (it : IsRunLocked s) (lives : IsLiving s.inner.re
 
     module _ (now : TimePacket) (result : CallResult) (rest : Rest) where
       abbrev after : State
-      after = with_rest s (after_attempt s.inner p result) rest
+      after = with_rest s (after_attempt s.processes p result) rest
 
       abbrev files_in : Rest → Files
       files_in rest = rest.files
@@ -312,14 +312,15 @@ module _ (s : State) (p : ℕ) (it : IsRunLocked s) (lives : IsLiving s.inner.re
       serves-asked : (service : Service) → service_of code ≡ service → Serves service s now p result rest
           → (request : Request) → request_of rest.files.records.locks p ≡ Some request → IsAskedFor after p request
       serves-asked loads serves (files, read, is) =
-          rest-asked files (ap files_in is) (same-has files (load-leaves s.inner (asker_of s.inner p now) s.files (length s.terms) p result files read).records (other-has loads serves (λ no. no)))
+          rest-asked files (ap files_in is) (same-has files (load-leaves s.processes (asker_of s.processes p now) s.files (length s.terms) p result files read).records
+              (other-has loads serves (λ no. no)))
       serves-asked (on_processes Call.Fork) serves (files, read, is) =
           rest-asked (files_after_fork files p result) (ap files_in is)
-          (fork-has files (same-has files (fork-leaves s.inner (asker_of s.inner p now) s.files (length s.terms) p result files read).records
+          (fork-has files (same-has files (fork-leaves s.processes (asker_of s.processes p now) s.files (length s.terms) p result files read).records
           (other-has (on_processes Call.Fork) serves (λ no. no))) result)
       serves-asked (on_processes Call.Chain) serves (files, read, is) =
           rest-asked files (ap files_in is)
-          (same-has files (chain-leaves s.inner (asker_of s.inner p now) s.files (length s.terms) p result files read).records
+          (same-has files (chain-leaves s.processes (asker_of s.processes p now) s.files (length s.terms) p result files read).records
           (other-has (on_processes Call.Chain) serves (λ no. no)))
       serves-asked (on_processes call) serves served =
           rest-asked (files_after_call s.files p result) (ap files_in served.1) (call-has (other-has (on_processes call) serves (λ no. no)) result)
@@ -331,10 +332,10 @@ module _ (s : State) (p : ℕ) (it : IsRunLocked s) (lives : IsLiving s.inner.re
 
   -- ---- an event
 
-  pub acts-asked : (act : Act) (end : EventEnd) (t : State) → act_of s.inner p ≡ act → Acts act s p end t
+  pub acts-asked : (act : Act) (end : EventEnd) (t : State) → act_of s.processes p ≡ act → Acts act s p end t
       → (request : Request) → request_of t.files.records.locks p ≡ Some request → IsAskedFor t p request
   acts-asked executes end t next (over, is) request there =
-      absurd (instruction-has (executes-has next) (next_instruction s.inner p) request (sym (ap (λ (t : State). request_of t.files.records.locks p) is) ∙ there))
+      absurd (instruction-has (executes-has next) (next_instruction s.processes p) request (sym (ap (λ (t : State). request_of t.files.records.locks p) is) ∙ there))
   acts-asked (delivers signal) end t next (over, is) request there =
       absurd (delivery-has (delivered (before_delivery s p) p signal) request (sym (ap (λ (t : State). request_of t.files.records.locks p) is) ∙ there))
   acts-asked (attempts code) end t next (result, rest, (now, is_now, served), over, is) request there =
@@ -354,7 +355,7 @@ event-asked s t end p chosen (chosen_one, is_chosen, lives, acts) it others q re
     by_process : (q ≡ p) ⊎ (q ≢ p) → IsAskedFor t q request
     by_process (inl at) =
         subst (λ (q : ℕ). IsAskedFor t q request) (same ∙ sym at)
-        (acts-asked s chosen_one it lives (act_of s.inner chosen_one) end t refl acts request
+        (acts-asked s chosen_one it lives (act_of s.processes chosen_one) end t refl acts request
         (ap (request_of t.files.records.locks) (same ∙ sym at) ∙ is))
     by_process (inr differ) =
         other-asked s t end p chosen (chosen_one, is_chosen, lives, acts) it q differ request (sym (others q differ) ∙ is)

@@ -5,7 +5,7 @@ use Rattle.os9_base.specs.declared.registers.TimePacket.{TimePacket}
 use Rattle.cpu_model.specs.Step.{Aborts, Calls, Done, Outcome}
 use Rattle.call_rules.specs.CallResult.{CallResult, done, ends, refused, waits}
 use Rattle.call_rules.specs.Delivery.{delivered}
-use Rattle.call_rules.specs.Inner.{Inner, regs_at}
+use Rattle.call_rules.specs.Processes.{Processes, regs_at}
 use Rattle.call_rules.specs.Ready.{Act, act_of, attempts, delivers, executes}
 use Rattle.call_rules.specs.declared.proc_call.ProcCall.TheVariants as Call
 use Rattle.lock_model.specs.Records.{Records}
@@ -39,7 +39,7 @@ module _ (s : State) (p : ℕ) (chosen : s.chosen ≡ Some p) (end : EventEnd) w
   instruction-on (Calls code regs) over = same-on s.files refl
   instruction-on (Aborts status) over = ended-on over
 
-  delivery-on : (result : Result Inner ℕ) → end ≡ delivery_end result → On (files_after_delivery s.files p result)
+  delivery-on : (result : Result Processes ℕ) → end ≡ delivery_end result → On (files_after_delivery s.files p result)
   delivery-on (Ok t) over = ChangesLocks.stay refl
   delivery-on (Err status) over = ended-on over
 
@@ -61,16 +61,16 @@ module _ (s : State) (p : ℕ) (chosen : s.chosen ≡ Some p) (end : EventEnd) w
   rest-on : (rest : Rest) (files : Files) → files_in rest ≡ files → On files → On rest.files
   rest-on rest files same on = subst On (sym same) on
 
-  serves-on : (code : ℕ) → act_of s.inner p ≡ attempts code → (service : Service) → service_of code ≡ service
-      → (now : TimePacket) → IsNow s.clock s.inner.tick now → (result : CallResult) (rest : Rest)
+  serves-on : (code : ℕ) → act_of s.processes p ≡ attempts code → (service : Service) → service_of code ≡ service
+      → (now : TimePacket) → IsNow s.clock s.processes.tick now → (result : CallResult) (rest : Rest)
       → end ≡ call_event_end result → Serves service s now p result rest → On rest.files
   serves-on code next loads serves now is_now result rest over (files, read, is) =
-      rest-on rest files (ap files_in is) (same-on files (load-leaves s.inner (asker_of s.inner p now) s.files (length s.terms) p result files read).records)
+      rest-on rest files (ap files_in is) (same-on files (load-leaves s.processes (asker_of s.processes p now) s.files (length s.terms) p result files read).records)
   serves-on code next (on_processes Call.Fork) serves now is_now result rest over (files, read, is) =
       rest-on rest (files_after_fork files p result) (ap files_in is)
-      (fork-on files (fork-leaves s.inner (asker_of s.inner p now) s.files (length s.terms) p result files read).records result)
+      (fork-on files (fork-leaves s.processes (asker_of s.processes p now) s.files (length s.terms) p result files read).records result)
   serves-on code next (on_processes Call.Chain) serves now is_now result rest over (files, read, is) =
-      rest-on rest files (ap files_in is) (same-on files (chain-leaves s.inner (asker_of s.inner p now) s.files (length s.terms) p result files read).records)
+      rest-on rest files (ap files_in is) (same-on files (chain-leaves s.processes (asker_of s.processes p now) s.files (length s.terms) p result files read).records)
   serves-on code next (on_processes call) serves now is_now result rest over served =
       rest-on rest (files_after_call s.files p result) (ap files_in served.1) (call-on result over)
   serves-on code next (on_time call) serves now is_now result rest over (clock, timed, is) =
@@ -90,9 +90,9 @@ module _ (s : State) (p : ℕ) (chosen : s.chosen ≡ Some p) (end : EventEnd) w
   serves-on code next no_call serves now is_now result rest over (refusal, is) =
       rest-on rest s.files (ap files_in is) (same-on s.files refl)
 
-  acts-on : (act : Act) (t : State) → act_of s.inner p ≡ act → Acts act s p end t → On t.files
+  acts-on : (act : Act) (t : State) → act_of s.processes p ≡ act → Acts act s p end t → On t.files
   acts-on executes t next (over, is) =
-      subst (λ (t : State). On t.files) (sym is) (instruction-on (next_instruction s.inner p) over)
+      subst (λ (t : State). On t.files) (sym is) (instruction-on (next_instruction s.processes p) over)
   acts-on (delivers signal) t next (over, is) =
       subst (λ (t : State). On t.files) (sym is) (delivery-on (delivered (before_delivery s p) p signal) over)
   acts-on (attempts code) t next (result, rest, (now, is_now, served), over, is) =
@@ -100,4 +100,4 @@ module _ (s : State) (p : ℕ) (chosen : s.chosen ≡ Some p) (end : EventEnd) w
 
 pub event-changes : (s t : State) (end : EventEnd) (p : ℕ) → s.chosen ≡ Some p → Event s end t → ChangesLocks s p end t.files
 event-changes s t end p chosen (q, is_chosen, lives, acts) =
-    subst (λ (p : ℕ). ChangesLocks s p end t.files) (same_Some q p (sym is_chosen ∙ chosen)) (acts-on s q is_chosen end (act_of s.inner q) t refl acts)
+    subst (λ (p : ℕ). ChangesLocks s p end t.files) (same_Some q p (sym is_chosen ∙ chosen)) (acts-on s q is_chosen end (act_of s.processes q) t refl acts)

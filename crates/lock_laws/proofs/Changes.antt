@@ -20,7 +20,7 @@ use Rattle.lock_model.specs.declared.lock.TheConstants.{PATH_PLACES}
 use Rattle.lock_model.proofs.Agreeing.{records-forgotten, records-held, records-waiting, records-without, records-written}
 use Rattle.lock_model.proofs.Keeping.{may-hold, part-held}
 use Rattle.file_rules.specs.Files.{OpenFile, open_file}
-use Rattle.file_rules.specs.Locking.{answer_in, first_request, request_kept}
+use Rattle.file_rules.specs.Locking.{answer_in, first_request, pending_request}
 use Rattle.file_rules.specs.Read.{bytes_at, lock_by}
 use Rattle.file_laws.proofs.Named.{opened-desc}
 use Rattle.rbf_change.specs.Contents.{bytes_from}
@@ -119,9 +119,9 @@ module _ (m : Made) (agreed : AreRecords m.files.records) (places : length m.fil
 
   -- a request of an attempt is of its process
   pub owner-is : (request : Request) → Requests m request → request.lock.owner.0 ≡ p
-  owner-is request it = by_kept (request_kept m.asker m.files) refl it.is
+  owner-is request it = by_kept (pending_request m.asker m.files) refl it.is
     where
-      by_kept : (kept : Option Request) → request_kept m.asker m.files ≡ kept → request ≡ unwrap_or kept (first_request m.asker it.found it.claim) → request.lock.owner.0 ≡ p
+      by_kept : (kept : Option Request) → pending_request m.asker m.files ≡ kept → request ≡ unwrap_or kept (first_request m.asker it.found it.claim) → request.lock.owner.0 ≡ p
       by_kept None none is = ap (λ (request : Request). request.lock.owner.0) is
       by_kept (Some other) there is = ap (λ (request : Request). request.lock.owner.0) is ∙ own other there
 

@@ -3,7 +3,7 @@ use Rattle.std.proofs.Common.{◌≡◌, ℕ, Option, Some, None, refl, sym, ap,
 use Rattle.std.specs.Prelude.{MatchOption, unwrap_or}
 use Rattle.std.proofs.lemmas.Option.{same_Some}
 use Rattle.os9_base.specs.declared.registers.TimePacket.{TimePacket}
-use Rattle.call_rules.specs.Inner.{regs_at}
+use Rattle.call_rules.specs.Processes.{regs_at}
 use Rattle.call_rules.specs.Ready.{act_of, attempts}
 use Rattle.lock_model.specs.Locks.{request_of}
 use Rattle.lock_model.specs.declared.lock.Request.{Request}
@@ -17,7 +17,7 @@ use Rattle.call_laws.proofs.Codes.{attempts-code}
 use Rattle.file_rules.specs.Attempts.{asker_of}
 use Rattle.file_rules.specs.Codes.{path_call_of}
 use Rattle.file_rules.specs.Files.{Asker, OpenFile, place_of_target}
-use Rattle.file_rules.specs.Locking.{first_request, request_kept}
+use Rattle.file_rules.specs.Locking.{first_request, pending_request}
 use Rattle.file_rules.specs.declared.path_call.PathCall.{PathCall}
 use Rattle.file_rules.specs.declared.path_call.PathCall.TheVariants as Call
 use Rattle.file_laws.proofs.Named.{is-named, opened-desc}
@@ -53,21 +53,21 @@ number-same call device asker is =
     by_call Call.Close = refl
     by_call Call.PErr = refl
 
-module _ (s : State) (p code : ℕ) (running : IsRunning s) (on : AreOnFiles s) (next : act_of s.inner p ≡ attempts
+module _ (s : State) (p code : ℕ) (running : IsRunning s) (on : AreOnFiles s) (next : act_of s.processes p ≡ attempts
     code) (now : TimePacket) (call : PathCall) (coded : path_call_of code ≡ Some call) (terms : ℕ) where
   abbrev m : Made
-  m = record { call = call; asker = asker_of s.inner p now; files = s.files; terms = terms }
+  m = record { call = call; asker = asker_of s.processes p now; files = s.files; terms = terms }
 
   module _ (request : Request) (is : request_of s.files.records.locks p ≡ Some request) where
     -- the code of the request is that of the call
     code-same : code ≡ request.code
     code-same =
-        same_Some code request.code (sym (attempts-code s.inner p code next) ∙ (running.kept p _ (running.requested p request is).kept).made)
+        same_Some code request.code (sym (attempts-code s.processes p code next) ∙ (running.kept p _ (running.requested p request is).kept).made)
 
-    covers : CoversCall call (regs_at s.inner p) request
+    covers : CoversCall call (regs_at s.processes p) request
     covers =
         let asked = on.asked p request is in
-        subst (λ (call : PathCall). CoversCall call (regs_at s.inner p) request)
+        subst (λ (call : PathCall). CoversCall call (regs_at s.processes p) request)
         (same_Some asked.call call (sym asked.code ∙ ap path_call_of (sym code-same) ∙ coded)) asked.covers
 
     -- the path of the request is the one that the number of the call names
@@ -93,9 +93,9 @@ module _ (s : State) (p code : ℕ) (running : IsRunning s) (on : AreOnFiles s) 
 
   -- the path of the request of an attempt is the one that the number of the call names
   pub request-path : (request : Request) (it : Requests m request) → it.found.opened.path.0 ≡ request.path
-  request-path request it = by_kept (request_kept m.asker m.files) refl it.is
+  request-path request it = by_kept (pending_request m.asker m.files) refl it.is
     where
-      by_kept : (kept : Option Request) → request_kept m.asker m.files ≡ kept → request ≡ unwrap_or kept (first_request m.asker it.found it.claim) → it.found.opened.path.0 ≡ request.path
+      by_kept : (kept : Option Request) → pending_request m.asker m.files ≡ kept → request ≡ unwrap_or kept (first_request m.asker it.found it.claim) → it.found.opened.path.0 ≡ request.path
       by_kept None none is = sym (ap (λ (request : Request). request.path) is)
       by_kept (Some other) there is =
           ap (λ (path : SysPath). path.0) (path-same other there it.found it.names) ∙ sym (ap (λ (request : Request). request.path) is)

@@ -95,20 +95,20 @@ module _ (error : ℕ) (of_lock : is_of_lock error ≡ true) where
 
     ends : it.attempted.effect.end ≡ fails error
     ends =
-        ends-refused it.attempted.effect.end it.inner it.process (io_effect it.attempted.effect) error (sym it.attempted.result_is ∙ refused)
+        ends-refused it.attempted.effect.end it.processes it.process (io_effect it.attempted.effect) error (sym it.attempted.result_is ∙ refused)
 
     -- a call on a terminal or a pipe
     device-other : (io : IoStep) → IsDeviceStep it.call asker it.files (length it.before) io → (effect : IoEffect)
         → Does io asker.caller it.files.io effect it.before it.after → effect.end ≡ fails error → ⊥
     device-other io on effect does over =
         comes-other on.device asker.caller it.files.io (length it.files.drives) error (io_after it.process effect) it.before it.after
-        (refusal on.device it.inner it.files.io (io_after it.process effect) (length it.files.drives) it.process error it.before it.after attempted) refl
+        (refusal on.device it.processes it.files.io (io_after it.process effect) (length it.files.drives) it.process error it.before it.after attempted) refl
       where
-        attempted : IoAttempts on.device it.inner it.files.io (length it.files.drives) it.process (CallResult.refused error) (io_after it.process effect) it.before it.after
+        attempted : IoAttempts on.device it.processes it.files.io (length it.files.drives) it.process (CallResult.refused error) (io_after it.process effect) it.before it.after
         attempted = record {
           effect = effect;
           does = subst (λ (io : IoStep). Does io asker.caller it.files.io effect it.before it.after) on.is does;
-          result_is = sym (ap (λ (end : IoEnd). result_by end it.inner it.process effect) over);
+          result_is = sym (ap (λ (end : IoEnd). result_by end it.processes it.process effect) over);
           state = refl;
         }
 
@@ -203,8 +203,8 @@ IsRefusedSo IsSo number s =
 
 module _ (IsSo : Made → Type 0) (error : ℕ) (s t : State) (end : EventEnd) (refuses : IsRefusedSo IsSo error s) (it : AttemptsSo IsSo s) where
   -- the attempt of which it is so
-  module _ (lives : IsLiving s.inner.records it.process) (result : CallResult) (rest : Rest)
-      (attempted : Attempts it.code s it.process result rest) (is : t ≡ with_rest s (after_attempt s.inner it.process
+  module _ (lives : IsLiving s.processes.records it.process) (result : CallResult) (rest : Rest)
+      (attempted : Attempts it.code s it.process result rest) (is : t ≡ with_rest s (after_attempt s.processes it.process
       result) rest) where
     rest-is : rest_of t ≡ rest
     rest-is = ap rest_of is
@@ -219,14 +219,14 @@ module _ (IsSo : Made → Type 0) (error : ℕ) (s t : State) (end : EventEnd) (
           subst (λ (result : CallResult). Attempts it.code s it.process result (rest_of t)) same
           (subst (λ (rest : Rest). Attempts it.code s it.process result rest) (sym rest-is) attempted);
       now =
-          is ∙ ap (λ (result : CallResult). with_rest s (after_attempt s.inner it.process result) rest) same
-          ∙ ap (with_rest s (after_attempt s.inner it.process (CallResult.refused number))) (sym rest-is);
+          is ∙ ap (λ (result : CallResult). with_rest s (after_attempt s.processes it.process result) rest) same
+          ∙ ap (with_rest s (after_attempt s.processes it.process (CallResult.refused number))) (sym rest-is);
     }
 
     attempt-refuses : IsRefused s it.code error t ⊎ IsFaulted s it.code t
     attempt-refuses =
         let (now, is_now, served) = attempted in
-        let same : now ≡ it.now = same-packet s.clock.from (seconds_since s.clock s.inner.tick) now it.now is_now it.is_now in
+        let same : now ≡ it.now = same-packet s.clock.from (seconds_since s.clock s.processes.tick) now it.now is_now it.is_now in
         by_attempt (subst (λ (now : TimePacket). Serves (on_paths it.call) s now it.process result rest) same
         (subst (λ (service : Service). Serves service s now it.process result rest) it.serves served))
       where
@@ -251,10 +251,10 @@ module _ (IsSo : Made → Type 0) (error : ℕ) (s t : State) (end : EventEnd) (
   event-refuses : Event s end t → IsRefused s it.code error t ⊎ IsFaulted s it.code t
   event-refuses (p, chosen, lives, acts) =
       let same : p ≡ it.process = same_Some p it.process (sym chosen ∙ it.chosen) in
-      let here : Acts (act_of s.inner it.process) s it.process end t = subst (λ (p : ℕ). Acts (act_of s.inner p) s p end t) same acts in
-      by_acts (subst (IsLiving s.inner.records) same lives) (subst (λ (act : Act). Acts act s it.process end t) it.attempted here)
+      let here : Acts (act_of s.processes it.process) s it.process end t = subst (λ (p : ℕ). Acts (act_of s.processes p) s p end t) same acts in
+      by_acts (subst (IsLiving s.processes.records) same lives) (subst (λ (act : Act). Acts act s it.process end t) it.attempted here)
     where
-      by_acts : IsLiving s.inner.records it.process → Acts (attempts it.code) s it.process end t → IsRefused s it.code error t ⊎ IsFaulted s it.code t
+      by_acts : IsLiving s.processes.records it.process → Acts (attempts it.code) s it.process end t → IsRefused s it.code error t ⊎ IsFaulted s it.code t
       by_acts lives (result, rest, attempted, over, is) = attempt-refuses lives result rest attempted is
 
 pub always : (s t : State) (end : EventEnd) → IsAgreed s → Event s end t → (it : ClosesCycleIn s) → IsRefused s it.code E_DEADLK t ⊎ IsFaulted s it.code t

@@ -10,18 +10,18 @@ use Rattle.os9_outer.specs.TerminalState.{TerminalState}
 use Rattle.user_names.specs.declared.name_fault.NameFault.{NameFault}
 use Rattle.user_names.specs.declared.name_fault.NameFault.TheVariants.{NoName, Unreadable}
 use Rattle.call_rules.specs.CallResult.{CallResult}
-use Rattle.call_rules.specs.Inner.{Inner}
+use Rattle.call_rules.specs.Processes.{Processes}
 use Rattle.call_rules.specs.UserBytes.{user_bytes}
 use Rattle.io_model.specs.Path.{PathTable, desc_of, free_number, free_path, new_number, paths_after_begin, paths_after_dup, slot_of, with_path, with_slot}
 use Rattle.io_model.specs.Pipe.{free_pipe, pipes_after_begin}
-use Rattle.io_model.specs.declared.kept.Kept.{Kept}
+use Rattle.io_model.specs.declared.pending.PendingCall.{PendingCall}
 use Rattle.io_model.specs.declared.path.Desc.{Desc}
 use Rattle.io_model.specs.declared.path.Target.{Target}
 use Rattle.io_model.specs.declared.path.Target.TheVariants.{File, Folder, Pipe, Term}
 use Rattle.io_model.specs.declared.terminal.ReadKind.{ReadKind}
 use Rattle.io_model.specs.declared.terminal.ReadKind.TheVariants.{Bytes, WholeLine}
 use Rattle.io_rules.specs.Attempts.{Does, IoAttempts, caller_of, io_step, step_of}
-use Rattle.io_rules.specs.Io.{Io, OpenPath, kept_at, new_desc, open_path, with_paths, with_pipes}
+use Rattle.io_rules.specs.Io.{Io, OpenPath, pending_at, new_desc, open_path, with_paths, with_pipes}
 use Rattle.io_rules.specs.Lead.{Lead, a_new_place, lead_of, nowhere, to_pipe, to_terminal, what_is_there}
 use Rattle.io_rules.specs.Modes.{can_read, can_write, is_mode}
 use Rattle.io_rules.specs.Open.{begins, opened_regs, opens_lead, reads_list}
@@ -117,7 +117,7 @@ module _ (caller : Caller) (io : Io) where
 
   -- ---- reads and writes
 
-  read-target : (kind : ReadKind) (now : Kept) (target : Target) → Stay (reads_target kind caller io now target)
+  read-target : (kind : ReadKind) (now : PendingCall) (target : Target) → Stay (reads_target kind caller io now target)
   read-target kind now (File drive sector) = tt
   read-target kind now (Folder drive sector) = tt
   read-target kind now (Term terminal) = tt
@@ -137,7 +137,7 @@ module _ (caller : Caller) (io : Io) where
       next : OpenPath → IoStep
       next opened = unless_nothing caller io (target opened)
 
-  write-target : (sending : Sending) (now : Kept) (target : Target) → Stay (writes_target sending caller io now target)
+  write-target : (sending : Sending) (now : PendingCall) (target : Target) → Stay (writes_target sending caller io now target)
   write-target sending now (File drive sector) = tt
   write-target sending now (Folder drive sector) = tt
   write-target sending now (Term terminal) = tt
@@ -185,7 +185,7 @@ module _ (caller : Caller) (io : Io) where
   step-stay Call.Write other drives terms =
       send-stay (sent_bytes caller) I_WRITE (user_bytes caller.cells caller.regs.x caller.regs.y)
   step-stay Call.WritLn other drives terms =
-      send-stay (sent_line caller) I_WRITLN (line_bytes caller (kept_at io caller.process.0))
+      send-stay (sent_line caller) I_WRITLN (line_bytes caller (pending_at io caller.process.0))
   step-stay Call.GetStt other drives terms =
       needs-stay (open_path io caller.process.0 caller.regs.a) E_BPNUM (λ opened. gets_status caller io opened.desc.target caller.regs.b)
       (λ opened. status-by opened.desc.target (caller.regs.b == SS_OPT) (caller.regs.b == SS_READY) (caller.regs.b == SS_EOF))
@@ -205,7 +205,7 @@ module _ (caller : Caller) (io : Io) where
   does-stay (writes write) effect before after stay does =
       subst (λ (effect : IoEffect). DescsStay io.paths effect.io.paths) (sym does.effect_is) same
 
-pub device-stay : (call : IoCall) (m : Inner) (io : Io) (p drives : ℕ) (result : CallResult) (new : Io)
+pub device-stay : (call : IoCall) (m : Processes) (io : Io) (p drives : ℕ) (result : CallResult) (new : Io)
     (before after : List TerminalState) → call ≢ Call.Close → IoAttempts call m io drives p result new before after
     → DescsStay io.paths new.paths
 device-stay call m io p drives result new before after other attempt =

@@ -265,7 +265,7 @@ module _ (it : Attempt) (kinds : AreKinds it.files) (agreed : AreRecords it.file
     where
       by_touch : OnDevice it ⊎ TouchesNone it ⊎ WaitsOnRecord it → DescsStay it.files.io.paths it.new.io.paths
       by_touch (inl on) =
-          device-stay on.0.device it.inner it.files.io it.process (length it.files.drives) it.result it.new.io it.before it.after
+          device-stay on.0.device it.processes it.files.io it.process (length it.files.drives) it.result it.new.io it.before it.after
           (λ same. other (closes-alone it.call (on.0.device_is ∙ ap (λ (device : IoCall). Some device) same))) on.0.attempted
       by_touch (inr (inl none)) = (stays it.call (asker_in it) it.files it.new.io.paths none.paths).descs
       by_touch (inr (inr waiting)) =

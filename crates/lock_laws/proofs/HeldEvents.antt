@@ -4,7 +4,7 @@ use Rattle.os9_base.specs.declared.registers.TimePacket.{TimePacket}
 use Rattle.cpu_model.specs.Step.{Aborts, Calls, Done, Outcome}
 use Rattle.call_rules.specs.CallResult.{CallResult, done, ends, refused, waits}
 use Rattle.call_rules.specs.Delivery.{delivered}
-use Rattle.call_rules.specs.Inner.{Inner}
+use Rattle.call_rules.specs.Processes.{Processes}
 use Rattle.call_rules.specs.Ready.{Act, act_of, attempts, delivers, executes}
 use Rattle.call_rules.specs.declared.proc_call.ProcCall.TheVariants as Call
 use Rattle.io_rules.specs.Io.{Io}
@@ -42,7 +42,7 @@ module _ (s : State) (p : ℕ) (it : IsRunLocked s) where
   instruction-leaves (Calls code regs) = same s.files refl refl
   instruction-leaves (Aborts status) = ended
 
-  delivery-leaves : (result : Result Inner ℕ) → Leaves (files_after_delivery s.files p result)
+  delivery-leaves : (result : Result Processes ℕ) → Leaves (files_after_delivery s.files p result)
   delivery-leaves (Ok t) = interrupted-leaves s.files p it.state.agreed it.on.held
   delivery-leaves (Err status) = ended
 
@@ -68,9 +68,9 @@ module _ (s : State) (p : ℕ) (it : IsRunLocked s) where
 
   -- ---- an attempt
 
-  module _ (code : ℕ) (next : act_of s.inner p ≡ attempts code) (now : TimePacket) where
+  module _ (code : ℕ) (next : act_of s.processes p ≡ attempts code) (now : TimePacket) where
     path-leaves : (call : PathCall) → path_call_of code ≡ Some call → (result : CallResult) (rest : Rest)
-        → FileAttempts call s.inner s.files now p result rest.files s.terms rest.terms → Leaves rest.files
+        → FileAttempts call s.processes s.files now p result rest.files s.terms rest.terms → Leaves rest.files
     path-leaves call coded result rest attempted =
         attempt-leaves (attempt_by s p now call result rest attempted) it.state.running.kinds it.state.agreed.records
         it.state.agreed.places (λ request there. (it.state.running.requested p request there).owner)
@@ -84,12 +84,12 @@ module _ (s : State) (p : ℕ) (it : IsRunLocked s) where
 
     serves-leaves : (service : Service) → service_of code ≡ service → (result : CallResult) (rest : Rest) → Serves service s now p result rest → Leaves rest.files
     serves-leaves loads serves result rest (files, read, is) =
-        rest-leaves rest files (ap files_in is) (left-leaves files (load-leaves s.inner (asker_of s.inner p now) s.files (length s.terms) p result files read))
+        rest-leaves rest files (ap files_in is) (left-leaves files (load-leaves s.processes (asker_of s.processes p now) s.files (length s.terms) p result files read))
     serves-leaves (on_processes Call.Fork) serves result rest (files, read, is) =
         rest-leaves rest (files_after_fork files p result) (ap files_in is)
-        (fork-left files (fork-leaves s.inner (asker_of s.inner p now) s.files (length s.terms) p result files read) result)
+        (fork-left files (fork-leaves s.processes (asker_of s.processes p now) s.files (length s.terms) p result files read) result)
     serves-leaves (on_processes Call.Chain) serves result rest (files, read, is) =
-        rest-leaves rest files (ap files_in is) (left-leaves files (chain-leaves s.inner (asker_of s.inner p now) s.files (length s.terms) p result files read))
+        rest-leaves rest files (ap files_in is) (left-leaves files (chain-leaves s.processes (asker_of s.processes p now) s.files (length s.terms) p result files read))
     serves-leaves (on_processes call) serves result rest served =
         rest-leaves rest (files_after_call s.files p result) (ap files_in served.1) (call-leaves result)
     serves-leaves (on_time call) serves result rest (clock, timed, is) =
@@ -99,9 +99,9 @@ module _ (s : State) (p : ℕ) (it : IsRunLocked s) where
     serves-leaves no_call serves result rest (refusal, is) =
         rest-leaves rest s.files (ap files_in is) (same s.files refl refl)
 
-  pub acts-leave : (act : Act) (end : EventEnd) (t : State) → act_of s.inner p ≡ act → Acts act s p end t → Leaves t.files
+  pub acts-leave : (act : Act) (end : EventEnd) (t : State) → act_of s.processes p ≡ act → Acts act s p end t → Leaves t.files
   acts-leave executes end t next (over, is) =
-      subst (λ (t : State). Leaves t.files) (sym is) (instruction-leaves (next_instruction s.inner p))
+      subst (λ (t : State). Leaves t.files) (sym is) (instruction-leaves (next_instruction s.processes p))
   acts-leave (delivers signal) end t next (over, is) =
       subst (λ (t : State). Leaves t.files) (sym is) (delivery-leaves (delivered (before_delivery s p) p signal))
   acts-leave (attempts code) end t next (result, rest, (now, is_now, served), over, is) =

@@ -7,7 +7,7 @@ use Rattle.os9_base.specs.declared.registers.TimePacket.{TimePacket}
 use Rattle.cpu_model.specs.Step.{Aborts, Calls, Done, Outcome}
 use Rattle.call_rules.specs.CallResult.{CallResult, done, ends, refused, waits}
 use Rattle.call_rules.specs.Delivery.{delivered}
-use Rattle.call_rules.specs.Inner.{Inner, regs_at}
+use Rattle.call_rules.specs.Processes.{Processes, regs_at}
 use Rattle.call_rules.specs.Ready.{Act, act_of, attempts, delivers, executes}
 use Rattle.call_rules.specs.declared.proc_call.ProcCall.TheVariants as Call
 use Rattle.lock_model.specs.History.{dropped, got, put}
@@ -111,9 +111,9 @@ module _ (Of : Entry → Type 0) (drops : (path : ℕ) (lock : Held) → Of (dro
 -- what an attempt of a process enters for a request that is granted, by the files that it leaves
 abbrev GrantedBy : State → ℕ → (Files → Entry → Type 0) → Type 0
 GrantedBy s p Of =
-    (code : ℕ) → act_of s.inner p ≡ attempts code → (call : PathCall) → service_of code ≡ on_paths call
+    (code : ℕ) → act_of s.processes p ≡ attempts code → (call : PathCall) → service_of code ≡ on_paths call
     → (now : TimePacket) (result : CallResult) (rest : Rest)
-    (it : FileAttempts call s.inner s.files now p result rest.files s.terms rest.terms) (request : Request)
+    (it : FileAttempts call s.processes s.files now p result rest.files s.terms rest.terms) (request : Request)
     → IsGranted (made_in (attempt_by s p now call result rest it)) request → (entry : Entry) → entry.process ≡ request.lock.owner.0
     → rest.files.records.history ≡ s.files.records.history ++ entry ∷ [] → Of rest.files entry
 
@@ -133,7 +133,7 @@ module _ (s : State) (p : ℕ) (Of : Files → Entry → Type 0) (drops : (files
   instruction-on (Calls code regs) = same-on s.files refl
   instruction-on (Aborts status) = ended-on
 
-  delivery-on : (result : Result Inner ℕ) → On (files_after_delivery s.files p result)
+  delivery-on : (result : Result Processes ℕ) → On (files_after_delivery s.files p result)
   delivery-on (Ok t) =
       gains-none (Of (files_interrupted s.files p)) (drops (files_interrupted s.files p)) s.files.records (files_interrupted s.files p).records refl
   delivery-on (Err status) = ended-on
@@ -156,15 +156,15 @@ module _ (s : State) (p : ℕ) (Of : Files → Entry → Type 0) (drops : (files
   rest-on : (rest : Rest) (files : Files) → files_in rest ≡ files → On files → On rest.files
   rest-on rest files same on = subst On (sym same) on
 
-  serves-on : (code : ℕ) → act_of s.inner p ≡ attempts code → (service : Service) → service_of code ≡ service
+  serves-on : (code : ℕ) → act_of s.processes p ≡ attempts code → (service : Service) → service_of code ≡ service
       → (now : TimePacket) (result : CallResult) (rest : Rest) → Serves service s now p result rest → On rest.files
   serves-on code next loads serves now result rest (files, read, is) =
-      rest-on rest files (ap files_in is) (same-on files (load-leaves s.inner (asker_of s.inner p now) s.files (length s.terms) p result files read).records)
+      rest-on rest files (ap files_in is) (same-on files (load-leaves s.processes (asker_of s.processes p now) s.files (length s.terms) p result files read).records)
   serves-on code next (on_processes Call.Fork) serves now result rest (files, read, is) =
       rest-on rest (files_after_fork files p result) (ap files_in is)
-      (fork-on files (fork-leaves s.inner (asker_of s.inner p now) s.files (length s.terms) p result files read).records result)
+      (fork-on files (fork-leaves s.processes (asker_of s.processes p now) s.files (length s.terms) p result files read).records result)
   serves-on code next (on_processes Call.Chain) serves now result rest (files, read, is) =
-      rest-on rest files (ap files_in is) (same-on files (chain-leaves s.inner (asker_of s.inner p now) s.files (length s.terms) p result files read).records)
+      rest-on rest files (ap files_in is) (same-on files (chain-leaves s.processes (asker_of s.processes p now) s.files (length s.terms) p result files read).records)
   serves-on code next (on_processes call) serves now result rest served =
       rest-on rest (files_after_call s.files p result) (ap files_in served.1) (call-on result)
   serves-on code next (on_time call) serves now result rest (clock, timed, is) =
@@ -174,9 +174,9 @@ module _ (s : State) (p : ℕ) (Of : Files → Entry → Type 0) (drops : (files
       (granted code next call serves now result rest it) (records-come (attempt_by s p now call result rest it))
   serves-on code next no_call serves now result rest (refusal, is) = rest-on rest s.files (ap files_in is) (same-on s.files refl)
 
-  acts-on : (act : Act) (end : EventEnd) (t : State) → act_of s.inner p ≡ act → Acts act s p end t → On t.files
+  acts-on : (act : Act) (end : EventEnd) (t : State) → act_of s.processes p ≡ act → Acts act s p end t → On t.files
   acts-on executes end t next (over, is) =
-      subst (λ (t : State). On t.files) (sym is) (instruction-on (next_instruction s.inner p))
+      subst (λ (t : State). On t.files) (sym is) (instruction-on (next_instruction s.processes p))
   acts-on (delivers signal) end t next (over, is) =
       subst (λ (t : State). On t.files) (sym is) (delivery-on (delivered (before_delivery s p) p signal))
   acts-on (attempts code) end t next (result, rest, (now, is_now, served), over, is) =
@@ -185,13 +185,13 @@ module _ (s : State) (p : ℕ) (Of : Files → Entry → Type 0) (drops : (files
 pub event-gains : (s t : State) (end : EventEnd) → Event s end t → HasGained s t
 event-gains s t end (p, chosen, lives, acts) =
     let (entries, is, all) = acts-on s p (λ files entry. Unit {0}) (λ files path lock. tt)
-    (λ code next call serves now result rest it request granted entry owner gained. tt) (act_of s.inner p) end t refl acts in
+    (λ code next call serves now result rest it request granted entry owner gained. tt) (act_of s.processes p) end t refl acts in
     record { entries = entries; is = is }
 
 -- each entry is that of a lock that ended, or one of the chosen process
 pub event-gains-own : (s t : State) (end : EventEnd) → IsAgreed s → Event s end t → GainsOwn s t
 event-gains-own s t end agreed (p, chosen, lives, acts) =
-    let (entries, is, all) = acts-on s p (λ files. IsEntryOf s.chosen) (λ files path lock. inl refl) of_granted (act_of s.inner p) end t refl acts in
+    let (entries, is, all) = acts-on s p (λ files. IsEntryOf s.chosen) (λ files path lock. inl refl) of_granted (act_of s.processes p) end t refl acts in
     record { gained = record { entries = entries; is = is }; own = all }
   where
     of_granted : GrantedBy s p (λ files. IsEntryOf s.chosen)
@@ -203,7 +203,7 @@ event-gains-own s t end agreed (p, chosen, lives, acts) =
 -- the entry of a read has the bytes that its file had
 pub event-gains-read : (s t : State) (end : EventEnd) → IsRunLocked s → Event s end t → GainsRead s t
 event-gains-read s t end locked (p, chosen, lives, acts) =
-    let (entries, is, all) = acts-on s p (λ files. IsReadOf s.files) (λ files path lock kind. absurd (drop-get kind)) of_granted (act_of s.inner p) end t refl acts in
+    let (entries, is, all) = acts-on s p (λ files. IsReadOf s.files) (λ files path lock kind. absurd (drop-get kind)) of_granted (act_of s.processes p) end t refl acts in
     record { gained = record { entries = entries; is = is }; read = all }
   where
     of_granted : GrantedBy s p (λ files. IsReadOf s.files)
@@ -218,7 +218,7 @@ drop-put is = cc
 -- the entry of a write has the bytes that its file has then
 pub event-gains-put : (s t : State) (end : EventEnd) → IsRunLocked s → Event s end t → GainsPut s t
 event-gains-put s t end locked (p, chosen, lives, acts) =
-    let (entries, is, all) = acts-on s p IsPutIn (λ files path lock kind. absurd (drop-put kind)) of_granted (act_of s.inner p) end t refl acts in
+    let (entries, is, all) = acts-on s p IsPutIn (λ files path lock kind. absurd (drop-put kind)) of_granted (act_of s.processes p) end t refl acts in
     record { gained = record { entries = entries; is = is }; put = all }
   where
     of_granted : GrantedBy s p IsPutIn

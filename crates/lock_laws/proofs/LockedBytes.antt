@@ -93,7 +93,7 @@ module _ (s : State) (p : ℕ) (it : IsRunLocked s) (path : ℕ) (lock : Held) (
           kept-locked lock.range (contents_of s.files lock.file) (contents_of rest.files lock.file) same
       by_contents (ContentsCome.within request bytes granted file writes changes entered) =
           keeps-locked s.files.records.locks path lock is request.lock
-          (granted-free s.files.records.locks p s.inner.tick request (request_of s.files.records.locks p) granted.answer)
+          (granted-free s.files.records.locks p s.processes.tick request (request_of s.files.records.locks p) granted.answer)
           (λ same. differ (sym (owner-is (made_in attempt) it.state.agreed.records it.state.agreed.places own request granted.requests) ∙ same))
           file bytes (contents_of s.files lock.file) (contents_of rest.files lock.file) changes
 
@@ -101,7 +101,7 @@ pub event-keeps-locked : (s t : State) (end : EventEnd) (path : ℕ) (lock : Hel
     → lock_of s.files.records.locks path ≡ Some lock → s.chosen ≢ Some lock.owner.0 → KeepsLocked lock.range
     (contents_of s.files lock.file) (contents_of t.files lock.file)
 event-keeps-locked s t end path lock it (p, chosen, lives, acts) is other =
-    acts-so s p (Keeps s p it path lock is differ) (keeps-volumes s p it path lock is differ) (path-keeps s p it path lock is differ) (act_of s.inner p) end t refl acts
+    acts-so s p (Keeps s p it path lock is differ) (keeps-volumes s p it path lock is differ) (path-keeps s p it path lock is differ) (act_of s.processes p) end t refl acts
   where
     differ : p ≢ lock.owner.0
     differ same = other (chosen ∙ ap (λ (p : ℕ). Some p) same)

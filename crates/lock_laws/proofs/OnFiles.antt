@@ -3,7 +3,7 @@ use Rattle.std.proofs.Common.{◌≡◌, ℕ, ◌+◌, Some, List, length, refl,
 use Rattle.std.proofs.lemmas.Option.{none-some, same_Some}
 use Rattle.os9_base.specs.declared.registers.Regs.{Regs}
 use Rattle.proc_rules.specs.Records.{IsLiving, is_living}
-use Rattle.call_rules.specs.Inner.{regs_at}
+use Rattle.call_rules.specs.Processes.{regs_at}
 use Rattle.io_model.specs.Path.{PathTable}
 use Rattle.lock_model.specs.Locks.{lock_of, request_of}
 use Rattle.lock_model.specs.declared.lock.Held.{Held}
@@ -37,7 +37,7 @@ use Rattle.lock_laws.proofs.Runs.{choice-agrees, emptied-agrees, event-agrees, t
 
 event-leaves : (s t : State) (end : EventEnd) (p : ℕ) → IsRunLocked s → s.chosen ≡ Some p → Event s end t → LeavesRecords p s.files t.files
 event-leaves s t end p it chosen (q, is_chosen, lives, acts) =
-    subst (λ (p : ℕ). LeavesRecords p s.files t.files) (same_Some q p (sym is_chosen ∙ chosen)) (acts-leave s q it (act_of s.inner q) end t refl acts)
+    subst (λ (p : ℕ). LeavesRecords p s.files t.files) (same_Some q p (sym is_chosen ∙ chosen)) (acts-leave s q it (act_of s.processes q) end t refl acts)
 
 pub event-leaves-locks : (s t : State) (end : EventEnd) (p : ℕ) → IsRunLocked s → s.chosen ≡ Some p → Event s end t → LeavesLocks s p t
 event-leaves-locks s t end p it chosen event =
@@ -59,7 +59,7 @@ event-locked s t end (p, chosen, lives, acts) it =
 -- ---- a tick, a choice, the host
 
 -- a request stays for bytes of its file if records and paths stay, and the registers of the process that waits
-asked-same : (s t : State) (q : ℕ) (request : Request) → t.files.io.paths ≡ s.files.io.paths → regs_at t.inner q ≡ regs_at s.inner q → IsAskedFor s q request → IsAskedFor t q request
+asked-same : (s t : State) (q : ℕ) (request : Request) → t.files.io.paths ≡ s.files.io.paths → regs_at t.processes q ≡ regs_at s.processes q → IsAskedFor s q request → IsAskedFor t q request
 asked-same s t q request paths regs asked = record {
   on = subst (λ (paths : PathTable). IsPathOn paths request.path request.lock.file) (sym paths) asked.on;
   call = asked.call;
@@ -85,10 +85,10 @@ tick-locked s t (desk, arrives, is) it = record {
     paths : t.files.io.paths ≡ s.files.io.paths
     paths =
         ap (λ (t : State). t.files.io.paths) is
-        ∙ (arrivals-left (s.inner.tick + 1) 0 (length s.terms) (desk_of s) desk arrives).paths
+        ∙ (arrivals-left (s.processes.tick + 1) 0 (length s.terms) (desk_of s) desk arrives).paths
 
 -- nothing changes that locks and requests speak of
-on-same : (s t : State) → t.files ≡ s.files → ((q : ℕ) → regs_at t.inner q ≡ regs_at s.inner q) → ((q : ℕ) → IsLiving s.inner.records q → IsLiving t.inner.records q)
+on-same : (s t : State) → t.files ≡ s.files → ((q : ℕ) → regs_at t.processes q ≡ regs_at s.processes q) → ((q : ℕ) → IsLiving s.processes.records q → IsLiving t.processes.records q)
     → AreOnFiles s → AreOnFiles t
 on-same s t files regs live it = record {
   owned = λ path lock there. live lock.owner.0
@@ -102,8 +102,8 @@ on-same s t files regs live it = record {
 pub choice-locked : (s t : State) → Choose s t → IsRunLocked s → IsRunLocked t
 choice-locked s t is it = record {
   state = choice-agrees s t is it.state;
-  on = on-same s t (ap (λ (t : State). t.files) is) (λ q. ap (λ (t : State). regs_at t.inner q) is)
-      (λ q lives. ap (λ (t : State). is_living t.inner.records q) is ∙ lives) it.on;
+  on = on-same s t (ap (λ (t : State). t.files) is) (λ q. ap (λ (t : State). regs_at t.processes q) is)
+      (λ q lives. ap (λ (t : State). is_living t.processes.records q) is ∙ lives) it.on;
 }
 
 pub emptied-locked : (m : State) → IsRunLocked m → IsRunLocked (record m { terms = terminals_emptied m.terms })

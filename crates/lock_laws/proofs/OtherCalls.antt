@@ -8,7 +8,7 @@ use Rattle.os9_outer.specs.Drive.{drive_error}
 use Rattle.os9_outer.specs.declared.drive.DriveFault.{DriveFault}
 use Rattle.os9_outer.specs.declared.drive.DriveFault.TheVariants.{NotReady, ReadFault, SeekFault, WriteFault, WriteProtect}
 use Rattle.call_rules.specs.CallResult.{refused}
-use Rattle.call_rules.specs.Inner.{Inner}
+use Rattle.call_rules.specs.Processes.{Processes}
 use Rattle.call_rules.specs.declared.proc_call.ProcCall.{ProcCall}
 use Rattle.file_rules.specs.Files.{Asker, Files, NoneFailed, OpenFile, drive_at}
 use Rattle.file_rules.specs.declared.claim.Claim.{Claim}
@@ -43,7 +43,7 @@ module _ (error : ℕ) (of_lock : is_of_lock error ≡ true) where
   apart : (one : ℕ) → is_of_lock one ≡ false → error ≡ one → ⊥
   apart one none same = false≢true (sym none ∙ ap is_of_lock (sym same) ∙ of_lock)
 
-  time-other : (m : Inner) (p : ℕ) (call : TimeCall) → TimeCause m p call error → ⊥
+  time-other : (m : Processes) (p : ℕ) (call : TimeCall) → TimeCause m p call error → ⊥
   time-other m p call (TimeCause.no_packet is missing) = apart E_BPADDR refl is
   time-other m p call (TimeCause.no_time bytes is set there civil) = apart E_BADTIME refl is
 
@@ -81,20 +81,20 @@ module _ (error : ℕ) (of_lock : is_of_lock error ≡ true) where
   enters-other file group is_boot from entries outcome (EntersModules.entered {info = info} is none rest) =
       enters-other file group is_boot _ _ outcome rest
 
-  group-other : (m : Inner) (file : List ℕ) → GroupCause m file error → ⊥
+  group-other : (m : Processes) (file : List ℕ) → GroupCause m file error → ⊥
   group-other m file (GroupCause.a_module at enters) = false≢true (sym (enters-other file _ false 0 _ _ enters) ∙ of_lock)
   group-other m file (GroupCause.no_module entries is enters none) = apart E_BMID refl is
   group-other m file (GroupCause.no_blocks is few) = apart E_NORAM refl is
 
-  link-other : (m : Inner) (p : ℕ) (loaded : Loaded) → LinkCause m p loaded error → ⊥
+  link-other : (m : Processes) (p : ℕ) (loaded : Loaded) → LinkCause m p loaded error → ⊥
   link-other m p loaded (LinkCause.no_slots is none) = apart E_MEMFUL refl is
   link-other m p loaded (LinkCause.most_links mapped is there most) = apart E_MEMFUL refl is
 
-  test-other : (m : Inner) (p : ℕ) → TestCause m p error → ⊥
+  test-other : (m : Processes) (p : ℕ) → TestCause m p error → ⊥
   test-other m p (TestCause.no_parameters is none) = apart E_BPADDR refl is
   test-other m p (TestCause.other_type is other) = apart E_NEMOD refl is
 
-  start-other : (m : Inner) (p : ℕ) (begins : Option ℕ) (file : ProgramFile) (loaded : Loaded) → StartCause m p begins file loaded error → ⊥
+  start-other : (m : Processes) (p : ℕ) (begins : Option ℕ) (file : ProgramFile) (loaded : Loaded) → StartCause m p begins file loaded error → ⊥
   start-other m p begins file loaded (StartCause.no_program is kind) = apart E_NEMOD refl is
   start-other m p begins file loaded (StartCause.no_process is none) = apart E_PRCFUL refl is
   start-other m p begins file loaded (StartCause.many_pages is many) = apart E_MEMFUL refl is
@@ -160,7 +160,7 @@ module _ (error : ℕ) (of_lock : is_of_lock error ≡ true) where
   read-other asker files terms (ReadCause.to_a_device is leads) = apart E_FNA refl is
   read-other asker files terms (ReadCause.too_long names found is finds long) = apart E_MEMFUL refl is
 
-  module _ (m : Inner) (asker : Asker) (files : Files) (terms : ℕ) (Tested : ℕ → Type 0) (Ends : ProgramFile → Loaded → ℕ → Type 0)
+  module _ (m : Processes) (asker : Asker) (files : Files) (terms : ℕ) (Tested : ℕ → Type 0) (Ends : ProgramFile → Loaded → ℕ → Type 0)
       (tested_other : Tested error → ⊥) (ends_other : (file : ProgramFile) (loaded : Loaded) → Ends file loaded error → ⊥) where
     cause-other : CauseOfLoad m asker files terms Tested Ends error → ⊥
     cause-other (CauseOfLoad.tested it) = tested_other it
@@ -170,7 +170,7 @@ module _ (error : ℕ) (of_lock : is_of_lock error ≡ true) where
 
   -- ---- a call on processes and modules
 
-  proc-other : (m : Inner) (p : ℕ) (call : ProcCall) → ProcCause m p call error → ⊥
+  proc-other : (m : Processes) (p : ℕ) (call : ProcCall) → ProcCause m p call error → ⊥
   proc-other m p call (ProcCause.bad_address is misses) = apart E_BPADDR refl is
   proc-other m p call (ProcCause.bad_name is bad) = apart E_BNAM refl is
   proc-other m p call (ProcCause.no_module is none) = apart E_MNF refl is
@@ -218,17 +218,18 @@ module _ (error : ℕ) (of_lock : is_of_lock error ≡ true) where
   lock-on-paths s t code it = by_rest (leaves-machine s t code error it).now (leaves-machine s t code error it).rest
     where
       by_rest : (now : TimePacket) → LeavesRest s it.process now code error t → (call : PathCall) × (service_of code ≡ on_paths call)
-      by_rest now (LeavesRest.of_processes call serves starts answer cause same) = absurd (proc-other s.inner it.process call cause)
-      by_rest now (LeavesRest.of_time call serves cause same) = absurd (time-other s.inner it.process call cause)
+      by_rest now (LeavesRest.of_processes call serves starts answer cause same) = absurd (proc-other s.processes it.process call cause)
+      by_rest now (LeavesRest.of_time call serves cause same) = absurd (time-other s.processes it.process call cause)
       by_rest now (LeavesRest.of_no_call serves is same) = absurd (apart E_UNKSVC refl is)
       by_rest now (LeavesRest.of_load serves load) =
-          absurd (load-other s it.process now _ _ t (cause-other s.inner _ s.files (length s.terms) (λ number. ⊥)
-          (λ file. LinkCause s.inner it.process) (λ no. no) (λ file loaded. link-other s.inner it.process loaded)) load)
+          absurd (load-other s it.process now _ _ t (cause-other s.processes _ s.files (length s.terms) (λ number. ⊥)
+          (λ file. LinkCause s.processes it.process) (λ no. no) (λ file loaded. link-other s.processes it.process loaded)) load)
       by_rest now (LeavesRest.of_fork serves none load) =
-          absurd (load-other s it.process now _ _ t (cause-other s.inner _ s.files (length s.terms) (TestCause s.inner it.process) (StartCause s.inner it.process (free_process s.inner.records))
-          (test-other s.inner it.process) (start-other s.inner it.process (free_process s.inner.records))) load)
+          absurd (load-other s it.process now _ _ t (cause-other s.processes _ s.files (length s.terms) (TestCause s.processes it.process)
+              (StartCause s.processes it.process (free_process s.processes.records))
+          (test-other s.processes it.process) (start-other s.processes it.process (free_process s.processes.records))) load)
       by_rest now (LeavesRest.of_chain serves none load) =
-          absurd (load-other s it.process now _ _ t (cause-other s.inner _ s.files (length s.terms) (TestCause s.inner it.process) (StartCause s.inner it.process (Some it.process))
-          (test-other s.inner it.process) (start-other s.inner it.process (Some it.process))) load)
+          absurd (load-other s it.process now _ _ t (cause-other s.processes _ s.files (length s.terms) (TestCause s.processes it.process) (StartCause s.processes it.process (Some it.process))
+          (test-other s.processes it.process) (start-other s.processes it.process (Some it.process))) load)
       by_rest now (LeavesRest.on_device call serves refusal) = (call, serves)
       by_rest now (LeavesRest.on_files call serves refusal) = (call, serves)

@@ -5,7 +5,7 @@ use Rattle.std.specs.Option.{option_map_or}
 use Rattle.std.proofs.lemmas.List.{length-set}
 use Rattle.os9_outer.specs.TerminalState.{TerminalState}
 use Rattle.call_rules.specs.CallResult.{CallResult}
-use Rattle.call_rules.specs.Inner.{Inner}
+use Rattle.call_rules.specs.Processes.{Processes}
 use Rattle.io_model.specs.Path.{PathTable, closed_desc, free_number, free_path, is_held, path_at, paths_after_begin, paths_after_close, paths_after_dup, slot_of, with_desc, with_path, with_slot}
 use Rattle.io_model.specs.declared.path.Desc.{Desc}
 use Rattle.io_model.specs.declared.path.SysPath.{SysPath}
@@ -117,7 +117,7 @@ module _ (count : ℕ) where
   has-does call caller io (writes write) effect before after has gives does =
       subst (λ (effect : IoEffect). Has effect.io) (sym does.effect_is) has
 
-  has-device : (call : IoCall) (m : Inner) (io : Io) (p drives : ℕ) (result : CallResult) (new : Io)
+  has-device : (call : IoCall) (m : Processes) (io : Io) (p drives : ℕ) (result : CallResult) (new : Io)
       (before after : List TerminalState) → IoAttempts call m io drives p result new before after → Has io → Has new
   has-device call m io p drives result new before after attempt has =
       subst Has (sym attempt.state)
@@ -138,6 +138,6 @@ module _ (count : ℕ) where
     where
       by_touch : OnDevice it ⊎ TouchesNone it ⊎ WaitsOnRecord it → HasPlaces it.new.io.paths
       by_touch (inl on) =
-          has-device on.0.device it.inner it.files.io it.process (length it.files.drives) it.result it.new.io it.before it.after on.0.attempted has
+          has-device on.0.device it.processes it.files.io it.process (length it.files.drives) it.result it.new.io it.before it.after on.0.attempted has
       by_touch (inr (inl none)) = has-moved it.call (asker_in it) it.files it.new.io.paths none.paths has
       by_touch (inr (inr waiting)) = subst Has (sym waiting.io) has

@@ -24,7 +24,7 @@ event-agrees s t end event it = record {
 
 pub tick-agrees : (s t : State) → Tick s t → IsAgreed s → IsAgreed t
 tick-agrees s t (desk, arrives, is) it =
-    let left = arrivals-left (s.inner.tick + 1) 0 (length s.terms) (desk_of s) desk arrives in record {
+    let left = arrivals-left (s.processes.tick + 1) 0 (length s.terms) (desk_of s) desk arrives in record {
       running = tick-running s t (desk, arrives, is) it.running;
       agreed = subst (λ (t : State). AreAgreed t.files) (sym is) (record {
         records = it.agreed.records;

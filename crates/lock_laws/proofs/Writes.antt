@@ -31,7 +31,7 @@ use Rattle.lock_laws.proofs.Covered.{state-covered}
 use Rattle.lock_laws.proofs.PutBytes.{put-bytes}
 use Rattle.lock_laws.proofs.VolumeEvents.{acts-so, attempt_by}
 
-module _ (s : State) (p : ℕ) (chosen : s.chosen ≡ Some p) (lives : IsLiving s.inner.records p) (it : IsRunLocked s) (place : FilePlace) (path : HasPath s.files place) where
+module _ (s : State) (p : ℕ) (chosen : s.chosen ≡ Some p) (lives : IsLiving s.processes.records p) (it : IsRunLocked s) (place : FilePlace) (path : HasPath s.files place) where
   abbrev Fact : State → Type 0
   Fact t = (contents_of t.files place ≡ contents_of s.files place) ⊎ (IsWritten s t place ⊎ IsCutShort s t place)
 
@@ -42,11 +42,11 @@ module _ (s : State) (p : ℕ) (chosen : s.chosen ≡ Some p) (lives : IsLiving 
   own : (request : Request) → request_of s.files.records.locks p ≡ Some request → request.lock.owner.0 ≡ p
   own request there = (it.state.running.requested p request there).owner
 
-  module _ (code : ℕ) (next : act_of s.inner p ≡ attempts code) (now : TimePacket) (is_now : IsNow s.clock s.inner.tick now)
+  module _ (code : ℕ) (next : act_of s.processes p ≡ attempts code) (now : TimePacket) (is_now : IsNow s.clock s.processes.tick now)
       (call : PathCall) (serves : service_of code ≡ on_paths call) (result : CallResult) (rest : Rest)
-      (attempted : FileAttempts call s.inner s.files now p result rest.files s.terms rest.terms) (clock : rest.clock ≡ s.clock) where
+      (attempted : FileAttempts call s.processes s.files now p result rest.files s.terms rest.terms) (clock : rest.clock ≡ s.clock) where
     abbrev then : State
-    then = with_rest s (after_attempt s.inner p result) rest
+    then = with_rest s (after_attempt s.processes p result) rest
 
     abbrev attempt : Attempt
     attempt = attempt_by s p now call result rest attempted
@@ -90,7 +90,7 @@ module _ (s : State) (p : ℕ) (chosen : s.chosen ≡ Some p) (lives : IsLiving 
             subst (λ (service : Service). Serves service s now p (refused fault.number) rest) (sym serves)
                 (subst (λ (result : CallResult). Serves (on_paths call) s now p result rest) fault.answer (attempted, clock)),
           );
-          now = ap (λ (result : CallResult). with_rest s (after_attempt s.inner p result) rest) fault.answer;
+          now = ap (λ (result : CallResult). with_rest s (after_attempt s.processes p result) rest) fault.answer;
         };
       },
     )
@@ -127,4 +127,4 @@ pub event-written : (s t : State) (end : EventEnd) (place : FilePlace) → IsRun
     → HasPath s.files place → (contents_of t.files place ≡ contents_of s.files place) ⊎
     (IsWritten s t place ⊎ IsCutShort s t place)
 event-written s t end place it (p, chosen, lives, acts) path =
-    acts-so s p (Fact s p chosen lives it place path) (stays s p chosen lives it place path) (attempt-so s p chosen lives it place path) (act_of s.inner p) end t refl acts
+    acts-so s p (Fact s p chosen lives it place path) (stays s p chosen lives it place path) (attempt-so s p chosen lives it place path) (act_of s.processes p) end t refl acts

@@ -15,11 +15,11 @@ pub record AttemptsSo (IsSo : Made → Type 0) (s : State) : Type 0 where
   pub process : ℕ
   pub chosen : s.chosen ≡ Some process
   pub code : ℕ
-  pub attempted : act_of s.inner process ≡ attempts code
+  pub attempted : act_of s.processes process ≡ attempts code
   pub call : PathCall
   pub serves : service_of code ≡ on_paths call
   pub now : TimePacket
-  pub is_now : IsNow s.clock s.inner.tick now
+  pub is_now : IsNow s.clock s.processes.tick now
   pub so : IsSo (made_by s process now call)
 
 -- it is the first attempt of its call, whose request would wait; and that would close a cycle of waits

@@ -2,7 +2,7 @@
 use Rattle.std.specs.Prelude.{◌≡◌, ◌≢◌, ◌⊎◌, ℕ, true, Some, List, length}
 use Rattle.std.specs.List.{AllByRecursion}
 use Rattle.proc_rules.specs.Records.{IsLiving}
-use Rattle.call_rules.specs.Inner.{regs_at}
+use Rattle.call_rules.specs.Processes.{regs_at}
 use Rattle.io_model.specs.Path.{holds_path}
 use Rattle.lock_model.specs.Locks.{lock_of, request_of}
 use Rattle.lock_model.specs.Records.{AreRecords}
@@ -23,7 +23,7 @@ pub record IsAskedFor (s : State) (p : ℕ) (request : Request) : Type 0 where
   pub on : IsPathOn s.files.io.paths request.path request.lock.file
   pub call : PathCall
   pub code : path_call_of request.code ≡ Some call
-  pub covers : CoversCall call (regs_at s.inner p) request
+  pub covers : CoversCall call (regs_at s.processes p) request
 
 -- locks of different processes have no byte in common, waits form no cycle, and the history agrees with the locks;
 -- there is a place for each system path
@@ -35,7 +35,7 @@ pub record AreAgreed (files : Files) : Type 0 where
 abbrev pub AreOwned : State → Type 0
 AreOwned s =
     (path : ℕ) (lock : Held) → lock_of s.files.records.locks path ≡ Some lock
-    → IsLiving s.inner.records lock.owner.0
+    → IsLiving s.processes.records lock.owner.0
 
 -- each lock is of a path that was opened on its file, and its owner lives; each request is for bytes of such a file
 pub record AreOnFiles (s : State) : Type 0 where

@@ -8,7 +8,7 @@ use Rattle.call_rules.specs.declared.proc_call.ProcCall.TheVariants as Call
 use Rattle.call_rules.specs.Attempts.{attempted}
 use Rattle.call_rules.specs.CallResult.{CallResult, done, refused, waits, ends}
 use Rattle.call_rules.specs.Delivery.{delivered}
-use Rattle.call_rules.specs.Inner.{Inner}
+use Rattle.call_rules.specs.Processes.{Processes}
 use Rattle.call_rules.specs.Ready.{Act, attempts, delivers, executes, act_of}
 use Rattle.file_rules.specs.declared.path_call.PathCall.{PathCall}
 use Rattle.file_rules.specs.Attempts.{asker_of}
@@ -49,13 +49,13 @@ gains-then a b c first next = record {
 
 pub tick-gains : (s t : State) → Tick s t → OnlyGain s t
 tick-gains s t (desk, arrives, is) = subst (OnlyGain s) (sym is) (record {
-  terminals = gain-arrivals (s.inner.tick + 1) 0 (length s.terms) (desk_of s) desk arrives;
+  terminals = gain-arrivals (s.processes.tick + 1) 0 (length s.terms) (desk_of s) desk arrives;
   drives = drives-same s.files.drives;
 })
 
 pub broken-gains : (s : State) (terms : List TerminalState) → BreaksTick s terms → TerminalsOnlyGain s.terms terms
 broken-gains s terms broken =
-    gain-broken (s.inner.tick + 1) broken.count (desk_of s) broken.desk broken.terminal broken.answer terms broken.arrivals broken.device
+    gain-broken (s.processes.tick + 1) broken.count (desk_of s) broken.desk broken.terminal broken.answer terms broken.arrivals broken.device
 
 -- ---- an attempt
 
@@ -86,12 +86,12 @@ module _ (s : State) (now : TimePacket) (p : ℕ) (result : CallResult) (rest : 
   loaded-gain files after left same is =
       others-gain after (subst (DrivesOnlyGain s.files.drives) (sym same) (loads-gain s.files result files left.drives)) is
 
-  path-gains : (call : PathCall) → IsOnDevice call s.inner s.files p result rest.files s.terms rest.terms ⊎
-      LeavesDevices call s.inner s.files now p result rest.files s.terms rest.terms ⊎ WaitsForRecord call s.inner
+  path-gains : (call : PathCall) → IsOnDevice call s.processes s.files p result rest.files s.terms rest.terms ⊎
+      LeavesDevices call s.processes s.files now p result rest.files s.terms rest.terms ⊎ WaitsForRecord call s.processes
       s.files now p result rest.files s.terms rest.terms → RestGains s rest
   path-gains call (inl on) = record {
     terminals =
-        gain-attempt on.device s.inner s.files.io rest.files.io (length s.files.drives) p result s.terms rest.terms on.attempted;
+        gain-attempt on.device s.processes s.files.io rest.files.io (length s.files.drives) p result s.terms rest.terms on.attempted;
     drives = none-gains s.files.drives rest.files.drives on.none_failed;
   }
   path-gains call (inr (inl left)) = record {
@@ -105,17 +105,17 @@ module _ (s : State) (now : TimePacket) (p : ℕ) (result : CallResult) (rest : 
 
   serves-gain : (service : Service) → Serves service s now p result rest → RestGains s rest
   serves-gain loads (files, it, is) =
-      loaded-gain files files (load-leaves s.inner (asker_of s.inner p now) s.files (length s.terms) p result files it) refl is
+      loaded-gain files files (load-leaves s.processes (asker_of s.processes p now) s.files (length s.terms) p result files it) refl is
   serves-gain (on_processes Call.Fork) (files, it, is) =
-      loaded-gain files (files_after_fork files p result) (fork-leaves s.inner (asker_of s.inner p now) s.files (length s.terms) p result files it) (fork-drives files p result) is
+      loaded-gain files (files_after_fork files p result) (fork-leaves s.processes (asker_of s.processes p now) s.files (length s.terms) p result files it) (fork-drives files p result) is
   serves-gain (on_processes Call.Chain) (files, it, is) =
-      loaded-gain files files (chain-leaves s.inner (asker_of s.inner p now) s.files (length s.terms) p result files it) refl is
+      loaded-gain files files (chain-leaves s.processes (asker_of s.processes p now) s.files (length s.terms) p result files it) refl is
   serves-gain (on_processes call) it =
       others-gain (files_after_call s.files p result) (subst (DrivesOnlyGain s.files.drives) (sym (call-drives s.files p result)) (drives-same s.files.drives)) it.1
   serves-gain (on_time call) (clock, it, is) =
       subst (RestGains s) (sym is) (record { terminals = gain-same s.terms; drives = drives-same s.files.drives })
   serves-gain (on_paths call) (it, clock) =
-      path-gains call (attempt-comes call s.inner s.files now p result rest.files s.terms rest.terms it)
+      path-gains call (attempt-comes call s.processes s.files now p result rest.files s.terms rest.terms it)
   serves-gain no_call (refusal, is) =
       subst (RestGains s) (sym is) (record { terminals = gain-same s.terms; drives = drives-same s.files.drives })
 
@@ -126,14 +126,14 @@ instruction-gains files p (Done effect) = drives-same files.drives
 instruction-gains files p (Calls code regs) = drives-same files.drives
 instruction-gains files p (Aborts status) = drives-same files.drives
 
-delivery-gains : (files : Files) (p : ℕ) (outcome : Result Inner ℕ) → DrivesOnlyGain files.drives (files_after_delivery files p outcome).drives
+delivery-gains : (files : Files) (p : ℕ) (outcome : Result Processes ℕ) → DrivesOnlyGain files.drives (files_after_delivery files p outcome).drives
 delivery-gains files p (Ok t) = drives-same files.drives
 delivery-gains files p (Err status) = drives-same files.drives
 
 acts-gain : (act : Act) (s : State) (p : ℕ) (end : EventEnd) (t : State) → Acts act s p end t → OnlyGain s t
 acts-gain executes s p end t (ending, is) = subst (OnlyGain s) (sym is) (record {
   terminals = gain-same s.terms;
-  drives = instruction-gains s.files p (next_instruction s.inner p);
+  drives = instruction-gains s.files p (next_instruction s.processes p);
 })
 acts-gain (delivers signal) s p end t (ending, is) = subst (OnlyGain s) (sym is) (record {
   terminals = gain-same s.terms;
@@ -144,7 +144,7 @@ acts-gain (attempts code) s p end t (result, rest, (now, is_now, serves), ending
     subst (OnlyGain s) (sym is) (record { terminals = gained.terminals; drives = gained.drives })
 
 pub event-gains : (s t : State) (end : EventEnd) → Event s end t → OnlyGain s t
-event-gains s t end (p, chosen, lives, acts) = acts-gain (act_of s.inner p) s p end t acts
+event-gains s t end (p, chosen, lives, acts) = acts-gain (act_of s.processes p) s p end t acts
 
 -- ---- slices and runs
 

@@ -3,7 +3,7 @@ use Rattle.std.proofs.Common.{◌≡◌, ◌⊎◌, ℕ, None, List, [], ◌∷�
 use Rattle.std.specs.List.{AllZip}
 use Rattle.rbf_model.specs.Volume.{DiskVolume, Vol}
 use Rattle.rbf_model.proofs.Unique.{vol_is_unique}
-use Rattle.call_rules.specs.Inner.{Inner}
+use Rattle.call_rules.specs.Processes.{Processes}
 use Rattle.file_rules.specs.Files.{DriveState, Files}
 use Rattle.file_rules.specs.Processes.{StartsOn, first_files}
 use Rattle.event_rules.specs.declared.ends.BootFault.{BootFault}
@@ -32,10 +32,10 @@ files-one images drives one other mounted again =
 
 -- ---- the boot file
 
-abbrev first_inner : (boot : Boot) (s : State) → Starts boot s → Inner
-first_inner boot s starts = only_process starts.memory (first_start starts.number starts.entry)
+abbrev first_processes : (boot : Boot) (s : State) → Starts boot s → Processes
+first_processes boot s starts = only_process starts.memory (first_start starts.number starts.entry)
 
-starts-so : (boot : Boot) (s : State) (starts : Starts boot s) → StartsProcesses boot.file boot.blocks (first_inner boot s starts)
+starts-so : (boot : Boot) (s : State) (starts : Starts boot s) → StartsProcesses boot.file boot.blocks (first_processes boot s starts)
 starts-so boot s starts = record {
   entries = starts.entries;
   number = starts.number;
@@ -48,25 +48,25 @@ starts-so boot s starts = record {
 
 -- ---- the laws
 
-abbrev first_state : Boot → Inner → Files → State
-first_state boot inner files =
-    record { inner = inner; files = files; clock = first_clock boot.time; chosen = None; terms = boot.terms }
+abbrev first_state : Boot → Processes → Files → State
+first_state boot processes files =
+    record { processes = processes; files = files; clock = first_clock boot.time; chosen = None; terms = boot.terms }
 
-states-one : (boot : Boot) (m n : Inner) (one other : Files) → m ≡ n → one ≡ other → first_state boot m one ≡ first_state boot n other
-states-one boot m n one other inners files = λ i. first_state boot (inners i) (files i)
+states-one : (boot : Boot) (m n : Processes) (one other : Files) → m ≡ n → one ≡ other → first_state boot m one ≡ first_state boot n other
+states-one boot m n one other same_processes files = λ i. first_state boot (same_processes i) (files i)
 
 pub starts-one : (boot : Boot) (s t : State) → Starts boot s → Starts boot t → s ≡ t
 starts-one boot s t one other =
-    let inners : first_inner boot s one ≡ first_inner boot t other = Starts-one boot.file boot.blocks _ _ (starts-so boot s one) (starts-so boot t other) in
+    let same_processes : first_processes boot s one ≡ first_processes boot t other = Starts-one boot.file boot.blocks _ _ (starts-so boot s one) (starts-so boot t other) in
     let files : one.files ≡ other.files = files-one boot.images boot.drives one.files other.files one.mounted other.mounted in
-    one.is ∙ states-one boot (first_inner boot s one) (first_inner boot t other) one.files other.files inners files ∙ sym other.is
+    one.is ∙ states-one boot (first_processes boot s one) (first_processes boot t other) one.files other.files same_processes files ∙ sym other.is
 
 pub never-both : (boot : Boot) (s : State) (fault : BootFault) → Starts boot s → Refuses boot.file boot.blocks fault → ⊥
 never-both boot s fault starts refusal =
-    never-both-processes boot.file boot.blocks (first_inner boot s starts) fault (starts-so boot s starts) refusal
+    never-both-processes boot.file boot.blocks (first_processes boot s starts) fault (starts-so boot s starts) refusal
 
 by_file : (boot : Boot) (volumes : List DiskVolume) → AllZip Vol boot.images volumes
-    → ((m : Inner) × StartsProcesses boot.file boot.blocks m) ⊎ ((fault : BootFault) × Refuses boot.file boot.blocks
+    → ((m : Processes) × StartsProcesses boot.file boot.blocks m) ⊎ ((fault : BootFault) × Refuses boot.file boot.blocks
     fault) → ((s : State) × Starts boot s) ⊎ ((fault : BootFault) × Refuses boot.file boot.blocks fault)
 by_file boot volumes mounted (inr refusal) = inr refusal
 by_file boot volumes mounted (inl (m, starts)) =

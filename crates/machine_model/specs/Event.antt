@@ -6,7 +6,7 @@ use Rattle.proc_rules.specs.Records.{IsLiving}
 use Rattle.call_rules.specs.Attempts.{after_attempt}
 use Rattle.call_rules.specs.CallResult.{CallResult}
 use Rattle.call_rules.specs.Delivery.{delivered, after_delivery}
-use Rattle.call_rules.specs.Inner.{Inner}
+use Rattle.call_rules.specs.Processes.{Processes}
 use Rattle.call_rules.specs.Ready.{Act, attempts, delivers, executes, act_of}
 use Rattle.io_rules.specs.Waiting.{interrupted_count}
 use Rattle.file_rules.specs.Files.{Files}
@@ -24,38 +24,38 @@ files_after_instruction files p (Calls code regs) = files
 files_after_instruction files p (Aborts status) = files_ended files p
 
 -- the processes before the delivery of a signal
-abbrev pub before_delivery : State → ℕ → Inner
-before_delivery s p = broken_off s.inner p (interrupted_count s.files.io p)
+abbrev pub before_delivery : State → ℕ → Processes
+before_delivery s p = broken_off s.processes p (interrupted_count s.files.io p)
 
 -- files after a delivery: the pending call, if any, is broken off; or the process has ended
-abbrev pub files_after_delivery : Files → ℕ → Result Inner ℕ → Files
+abbrev pub files_after_delivery : Files → ℕ → Result Processes ℕ → Files
 files_after_delivery files p (Ok t) = files_interrupted files p
 files_after_delivery files p (Err status) = files_ended files p
 
 -- what a process does
 abbrev pub Acts : Act → State → ℕ → EventEnd → State → Type 0
 Acts executes s p end t =
-    (end ≡ instruction_end (next_instruction s.inner p))
+    (end ≡ instruction_end (next_instruction s.processes p))
     × (t
     ≡ record s {
-      inner = after_instruction s.inner p (next_instruction s.inner p);
-      files = files_after_instruction s.files p (next_instruction s.inner p);
+      processes = after_instruction s.processes p (next_instruction s.processes p);
+      files = files_after_instruction s.files p (next_instruction s.processes p);
     })
 Acts (attempts code) s p end t =
     (result : CallResult) × (rest : Rest) × Attempts code s p result rest × (end ≡ call_event_end result)
-    × (t ≡ with_rest s (after_attempt s.inner p result) rest)
+    × (t ≡ with_rest s (after_attempt s.processes p result) rest)
 Acts (delivers signal) s p end t =
     (end ≡ delivery_end (delivered (before_delivery s p) p signal))
     × (t
     ≡ record s {
-      inner = after_delivery (before_delivery s p) p (delivered (before_delivery s p) p signal);
+      processes = after_delivery (before_delivery s p) p (delivered (before_delivery s p) p signal);
       files = files_after_delivery s.files p (delivered (before_delivery s p) p signal);
     })
 
 -- one event of the chosen process, which lives
 abbrev pub Event : State → EventEnd → State → Type 0
 Event s end t =
-    (p : ℕ) × (s.chosen ≡ Some p) × IsLiving s.inner.records p × Acts (act_of s.inner p) s p end t
+    (p : ℕ) × (s.chosen ≡ Some p) × IsLiving s.processes.records p × Acts (act_of s.processes p) s p end t
 
 -- instructions that the next event of the chosen process executes
 abbrev pub cost : State → ℕ
@@ -63,4 +63,4 @@ cost s = of_chosen s.chosen
   where
     of_chosen : Option ℕ → ℕ
     of_chosen None = 0
-    of_chosen (Some p) = cost_of (act_of s.inner p)
+    of_chosen (Some p) = cost_of (act_of s.processes p)

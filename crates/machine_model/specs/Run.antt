@@ -20,25 +20,25 @@ use Rattle.machine_model.specs.State.{State, has_living}
 
 -- what keys that arrive may change, in the tick that follows
 abbrev pub desk_of : State → Desk
-desk_of s = record { inner = record s.inner { tick = s.inner.tick + 1 }; io = s.files.io; terms = s.terms }
+desk_of s = record { processes = record s.processes { tick = s.processes.tick + 1 }; io = s.files.io; terms = s.terms }
 
 -- the tick rises by 1, and the keys that are due arrive
 abbrev pub Tick : State → State → Type 0
 Tick s t =
-    (desk : Desk) × Arrivals (s.inner.tick + 1) (desk_of s) desk
-    × (t ≡ record s { inner = desk.inner; files = with_io s.files desk.io; terms = desk.terms })
+    (desk : Desk) × Arrivals (s.processes.tick + 1) (desk_of s) desk
+    × (t ≡ record s { processes = desk.processes; files = with_io s.files desk.io; terms = desk.terms })
 
 -- A tick that is broken off because memory is out: the keys of a number of terminals have arrived, and then a bell of
 -- the next one found no memory. `terms` are the terminals then.
 pub record BreaksTick (s : State) (terms : List TerminalState) : Type 0 where
   pub count : ℕ
   pub desk : Desk
-  pub arrivals : ArrivesFrom (s.inner.tick + 1) 0 count (desk_of s) desk
+  pub arrivals : ArrivesFrom (s.processes.tick + 1) 0 count (desk_of s) desk
   pub answer : Arrival
   pub terminal : Terminal
   pub memory : answer.memory ≡ false
   pub device : ChangesOneTerminal
-      (λ before now. Arrives (s.inner.tick + 1) (terminal_at desk.io count) terminal before now answer) count
+      (λ before now. Arrives (s.processes.tick + 1) (terminal_at desk.io count) terminal before now answer) count
       desk.terms terms
 
 -- a process that is Ready is chosen, if there is one; input and output and records let calls that wait go on
@@ -46,8 +46,8 @@ abbrev pub Choose : State → State → Type 0
 Choose s t =
     t
     ≡ record s {
-      inner = after_choice (files_may_go s.files s.inner.tick) s.inner;
-      chosen = option_map (λ (p : Pid). p.0) (choice_of (files_may_go s.files s.inner.tick) s.inner).chosen;
+      processes = after_choice (files_may_go s.files s.processes.tick) s.processes;
+      chosen = option_map (λ (p : Pid). p.0) (choice_of (files_may_go s.files s.processes.tick) s.processes).chosen;
     }
 
 -- a slice goes on after an event with this end: the process neither waits nor has ended

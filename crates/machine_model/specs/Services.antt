@@ -7,7 +7,7 @@ use Rattle.os9_base.specs.declared.registers.TimePacket.{TimePacket}
 use Rattle.call_rules.specs.Attempts.{attempted}
 use Rattle.call_rules.specs.CallResult.{CallResult, done, refused, waits, ends}
 use Rattle.call_rules.specs.Codes.{call_of}
-use Rattle.call_rules.specs.Inner.{regs_at}
+use Rattle.call_rules.specs.Processes.{regs_at}
 use Rattle.call_rules.specs.declared.proc_call.ProcCall.{ProcCall}
 use Rattle.call_rules.specs.declared.proc_call.ProcCall.TheVariants as Call
 use Rattle.file_rules.specs.Attempts.{FileAttempts, asker_of}
@@ -63,24 +63,24 @@ with_files s files = record (rest_of s) { files = files }
 -- an attempt of a process at a time: its result, and the rest of the state then
 abbrev pub Serves : Service → State → TimePacket → ℕ → CallResult → Rest → Type 0
 Serves loads s now p result rest =
-    (files : Files) × LoadAttempts s.inner (asker_of s.inner p now) s.files (length s.terms) p result files
+    (files : Files) × LoadAttempts s.processes (asker_of s.processes p now) s.files (length s.terms) p result files
     × (rest ≡ with_files s files)
 Serves (on_processes Call.Fork) s now p result rest =
-    (files : Files) × ForkAttempts s.inner (asker_of s.inner p now) s.files (length s.terms) p result files
+    (files : Files) × ForkAttempts s.processes (asker_of s.processes p now) s.files (length s.terms) p result files
     × (rest ≡ with_files s (files_after_fork files p result))
 Serves (on_processes Call.Chain) s now p result rest =
-    (files : Files) × ChainAttempts s.inner (asker_of s.inner p now) s.files (length s.terms) p result files
+    (files : Files) × ChainAttempts s.processes (asker_of s.processes p now) s.files (length s.terms) p result files
     × (rest ≡ with_files s files)
 Serves (on_processes call) s now p result rest =
-    (result ≡ attempted call s.inner p) × (rest ≡ with_files s (files_after_call s.files p result))
+    (result ≡ attempted call s.processes p) × (rest ≡ with_files s (files_after_call s.files p result))
 Serves (on_time call) s now p result rest =
-    (clock : Clock) × TimeAttempts call s.inner s.clock now p result clock
+    (clock : Clock) × TimeAttempts call s.processes s.clock now p result clock
     × (rest ≡ record (rest_of s) { clock = clock })
 Serves (on_paths call) s now p result rest =
-    FileAttempts call s.inner s.files now p result rest.files s.terms rest.terms × (rest.clock ≡ s.clock)
+    FileAttempts call s.processes s.files now p result rest.files s.terms rest.terms × (rest.clock ≡ s.clock)
 Serves no_call s now p result rest = (result ≡ refused E_UNKSVC) × (rest ≡ rest_of s)
 
 -- an attempt of a call by its code, at the current time
 abbrev pub Attempts : ℕ → State → ℕ → CallResult → Rest → Type 0
 Attempts code s p result rest =
-    (now : TimePacket) × IsNow s.clock s.inner.tick now × Serves (service_of code) s now p result rest
+    (now : TimePacket) × IsNow s.clock s.processes.tick now × Serves (service_of code) s now p result rest

@@ -32,7 +32,7 @@ pub record Starts (boot : Boot) (s : State) : Type 0 where
   pub mounted : StartsOn boot.images boot.drives files
   pub is : s
       ≡ record {
-        inner = only_process memory (first_start number entry);
+        processes = only_process memory (first_start number entry);
         files = files;
         clock = first_clock boot.time;
         chosen = None;

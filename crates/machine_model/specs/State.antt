@@ -2,13 +2,13 @@
 -- which process was chosen, and the terminals.
 use Rattle.std.specs.Prelude.{ℕ, ◌==◌, not, Bool, Option, List}
 use Rattle.os9_outer.specs.TerminalState.{TerminalState}
-use Rattle.call_rules.specs.Inner.{Inner}
+use Rattle.call_rules.specs.Processes.{Processes}
 use Rattle.file_rules.specs.Files.{Files}
 use Rattle.event_rules.specs.State.{living_count}
 use Rattle.time_rules.specs.declared.clock.Clock.{Clock}
 
 pub record State : Type 0 where
-  pub inner : Inner  -- memory and the processes
+  pub processes : Processes  -- memory and the processes
   pub files : Files  -- paths, pipes and terminals as the kernel has them, directories, volumes and drives
   pub clock : Clock
   pub chosen : Option ℕ  -- the process that was chosen last
@@ -24,10 +24,10 @@ abbrev pub rest_of : State → Rest
 rest_of s = record { files = s.files; clock = s.clock; terms = s.terms }
 
 -- the state with these processes, and this rest
-abbrev pub with_rest : State → Inner → Rest → State
-with_rest s inner rest =
-    record s { inner = inner; files = rest.files; clock = rest.clock; terms = rest.terms }
+abbrev pub with_rest : State → Processes → Rest → State
+with_rest s processes rest =
+    record s { processes = processes; files = rest.files; clock = rest.clock; terms = rest.terms }
 
 -- some process lives
 abbrev pub has_living : State → Bool
-has_living s = not (living_count s.inner == 0)
+has_living s = not (living_count s.processes == 0)

@@ -14,7 +14,7 @@ use Rattle.call_rules.specs.Attempts.{attempted, after_attempt}
 use Rattle.call_rules.specs.CallResult.{CallResult, refused}
 use Rattle.call_rules.specs.Choice.{choice_of, after_choice}
 use Rattle.call_rules.specs.Delivery.{delivered, after_delivery}
-use Rattle.call_rules.specs.Inner.{Inner, no_own, with_records, with_own}
+use Rattle.call_rules.specs.Processes.{Processes, no_own, with_records, with_own}
 use Rattle.call_rules.specs.Ready.{Act, attempts, delivers, executes, act_of}
 use Rattle.call_rules.specs.Rows.{one_process, two_processes, running_with, next_tick}
 use Rattle.file_rules.specs.Locking.{files_may_go}
@@ -34,16 +34,17 @@ use Rattle.machine_model.specs.State.{State, Rest, rest_of, with_rest}
 -- the result of an attempt of a call on processes and modules or on the time, if the clock shows this time
 abbrev pub served : Service → State → TimePacket → ℕ → CallResult
 served loads s now p = refused E_UNKSVC
-served (on_processes call) s now p = attempted call s.inner p
-served (on_time call) s now p = result_of s.inner p (time_step call s.inner now p)
+served (on_processes call) s now p = attempted call s.processes p
+served (on_time call) s now p = result_of s.processes p (time_step call s.processes now p)
 served (on_paths call) s now p = refused E_UNKSVC
 served no_call s now p = refused E_UNKSVC
 
 -- the rest of the state after it
 abbrev pub rest_after : Service → State → TimePacket → ℕ → Rest
 rest_after loads s now p = rest_of s
-rest_after (on_processes call) s now p = with_files s (files_after_call s.files p (attempted call s.inner p))
-rest_after (on_time call) s now p = record (rest_of s) { clock = clock_after s.clock (time_step call s.inner now p) }
+rest_after (on_processes call) s now p = with_files s (files_after_call s.files p (attempted call s.processes p))
+rest_after (on_time call) s now p =
+    record (rest_of s) { clock = clock_after s.clock (time_step call s.processes now p) }
 rest_after (on_paths call) s now p = rest_of s
 rest_after no_call s now p = rest_of s
 
@@ -51,24 +52,24 @@ rest_after no_call s now p = rest_of s
 abbrev pub after_act : TimePacket → Act → State → ℕ → State
 after_act now executes s p =
     record s {
-      inner = after_instruction s.inner p (next_instruction s.inner p);
-      files = files_after_instruction s.files p (next_instruction s.inner p);
+      processes = after_instruction s.processes p (next_instruction s.processes p);
+      files = files_after_instruction s.files p (next_instruction s.processes p);
     }
 after_act now (attempts code) s p =
-    with_rest s (after_attempt s.inner p (served (service_of code) s now p)) (rest_after (service_of code) s now p)
+    with_rest s (after_attempt s.processes p (served (service_of code) s now p)) (rest_after (service_of code) s now p)
 after_act now (delivers signal) s p =
     record s {
-      inner = after_delivery (before_delivery s p) p (delivered (before_delivery s p) p signal);
+      processes = after_delivery (before_delivery s p) p (delivered (before_delivery s p) p signal);
       files = files_after_delivery s.files p (delivered (before_delivery s p) p signal);
     }
 
 -- what the chosen process does next
 abbrev pub next_of : State → Option Act
-next_of s = option_map (act_of s.inner) s.chosen
+next_of s = option_map (act_of s.processes) s.chosen
 
 -- the state after the next event
 abbrev pub after_event : TimePacket → State → State
-after_event now s = option_map_or (λ p. after_act now (act_of s.inner p) s p) s.chosen s
+after_event now s = option_map_or (λ p. after_act now (act_of s.processes p) s p) s.chosen s
 
 -- the state after a number of events, the states after each of them, and what the chosen process does in them
 abbrev pub after_events : TimePacket → ℕ → State → State
@@ -87,13 +88,13 @@ acts_from now (suc n) s = next_of s ∷ acts_from now n (after_event now s)
 
 -- the waiting call of a process may go on at the next tick
 abbrev pub may_go_next : State → ℕ → Bool
-may_go_next s = files_may_go s.files (next_tick s.inner).tick
+may_go_next s = files_may_go s.files (next_tick s.processes).tick
 
 -- the state in which a slice begins: at the next tick, with its process chosen
 abbrev pub at_choice : State → State
 at_choice s = record s {
-  inner = after_choice (may_go_next s) (next_tick s.inner);
-  chosen = option_map (λ (p : Pid). p.0) (choice_of (may_go_next s) (next_tick s.inner)).chosen;
+  processes = after_choice (may_go_next s) (next_tick s.processes);
+  chosen = option_map (λ (p : Pid). p.0) (choice_of (may_go_next s) (next_tick s.processes)).chosen;
 }
 
 -- the state after a slice of this number of events, at whose tick the clock shows this time
@@ -102,7 +103,7 @@ after_slice now events s = after_events now events (at_choice s)
 
 -- a slice of n instructions, at whose tick the clock shows this time: this process is chosen, and does this
 pub record SliceDoes (now : TimePacket) (n : ℕ) (s : State) (who : ℕ) (acts : List Act) : Type 0 where
-  pub shows : IsNow s.clock (at_choice s).inner.tick now
+  pub shows : IsNow s.clock (at_choice s).processes.tick now
   pub slice : Slice n s (states_from now (length acts) (at_choice s)) Ran (after_slice now (length acts) s)
   pub chosen : (after_slice now (length acts) s).chosen ≡ Some who
   pub does : acts_from now (length acts) (at_choice s) ≡ map Some acts
@@ -114,16 +115,16 @@ abbrev pub at_start : TimePacket
 at_start = at 90 1 1 0 0 0
 
 -- process 2 alone, which has these registers and sees these bytes from address 0 on
-abbrev pub alone : List ℕ → Regs → Inner
+abbrev pub alone : List ℕ → Regs → Processes
 alone bytes regs = record (one_process bytes regs) {
   records = with_record (replicate 33 None) 2 (running_with regs);
   order = with_turn [] (record { 0 = 2 }) 128;
 }
 
 -- the machine in this state before a slice, without drives and terminals
-abbrev pub before_slice : Inner → State
+abbrev pub before_slice : Processes → State
 before_slice m = record {
-  inner = m;
+  processes = m;
   files = first_files [] [];
   clock = first_clock at_start;
   chosen = None;
@@ -139,11 +140,11 @@ abbrev pub falls_asleep : State
 falls_asleep = before_slice (alone (0x10 ∷ 0x3F ∷ F_SLEEP ∷ 0x12 ∷ []) zero_regs)
 
 -- nothing but NOP, with room for a frame below 30
-abbrev pub idles : Inner
+abbrev pub idles : Processes
 idles = alone (replicate 64 0x12) (record zero_regs { s = 0x30 })
 
 -- the same, with an intercept of process 2 at 8, and signal 7 pending
-abbrev pub signalled : Inner
+abbrev pub signalled : Processes
 signalled =
     with_records idles (with_signal (with_intercept idles.records 2 (intercept_of 8 0)) 2 (Some 7))
 

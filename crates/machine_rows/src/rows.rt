@@ -8,7 +8,7 @@ ghost use Rattle.civil_time.specs.Rows.{at};
 ghost use Rattle.proc_rules.specs.Records.{record_at};
 ghost use Rattle.proc_rules.specs.Turns.{age_in};
 ghost use Rattle.proc_rules.specs.declared.record.Life.TheVariants.{Ended};
-ghost use Rattle.call_rules.specs.Inner.{cells_at, regs_at};
+ghost use Rattle.call_rules.specs.Processes.{cells_at, regs_at};
 ghost use Rattle.call_rules.specs.Ready.{attempts, delivers, executes};
 ghost use Rattle.call_rules.specs.UserBytes.{user_bytes};
 ghost use Rattle.time_rules.specs.Clock.{first_clock};
@@ -39,14 +39,14 @@ pub fn a_wait_ends_its_slice()
     ensures waits { SliceDoes at_start 1000 falls_asleep 2 (executes ∷ attempts F_SLEEP ∷ []) }
     ensures idle { Slice 1000 (after_slice at_start 2 falls_asleep) [] Idle
         (at_choice (after_slice at_start 2 falls_asleep)) }
-    ensures age { age_in (at_choice (after_slice at_start 2 falls_asleep)).inner.order 2
+    ensures age { age_in (at_choice (after_slice at_start 2 falls_asleep)).processes.order 2
         ≡ Some 128 }
 {}
 
 /// A process that reads an unnamed slot ends with 228, and its slice ends with it.
 pub fn an_unnamed_slot_ends_the_process()
     ensures ends { SliceDoes at_start 1000 loads_unnamed 2 (executes ∷ []) }
-    ensures status { (record_at (after_slice at_start 1 loads_unnamed).inner.records 2).life
+    ensures status { (record_at (after_slice at_start 1 loads_unnamed).processes.records 2).life
         ≡ Ended E_PRCABT }
 {}
 
@@ -65,9 +65,9 @@ pub fn the_time_is_told()
         (executes ∷ attempts F_TIME ∷ executes ∷ []) }
     ensures two_seconds { SliceDoes (at 90 1 1 0 0 2) 2 (asks_for_time 119) 2
         (executes ∷ attempts F_TIME ∷ executes ∷ []) }
-    ensures packet { user_bytes (cells_at told.inner 2) 0x1F 8
+    ensures packet { user_bytes (cells_at told.processes 2) 0x1F 8
         ≡ Some (0x12 ∷ 90 ∷ 1 ∷ 1 ∷ 0 ∷ 0 ∷ 2 ∷ 0x12 ∷ []) }
-    ensures carry { (regs_at told.inner 2).cc ≡ 0 }
+    ensures carry { (regs_at told.processes 2).cc ≡ 0 }
 {}
 
 /// F$STime of 29 February 1993, which is not a date, is refused with 225 and carry set, and the
@@ -75,8 +75,8 @@ pub fn the_time_is_told()
 pub fn no_civil_time_is_set()
     ensures does { SliceDoes at_start 2 (sets_time (at 93 2 29 23 59 59)) 2
         (executes ∷ attempts F_STIME ∷ executes ∷ []) }
-    ensures error { (regs_at not_set.inner 2).b ≡ E_BADTIME }
-    ensures carry { (regs_at not_set.inner 2).cc ≡ 1 }
+    ensures error { (regs_at not_set.processes 2).b ≡ E_BADTIME }
+    ensures carry { (regs_at not_set.processes 2).cc ≡ 1 }
     ensures clock { not_set.clock ≡ first_clock at_start }
 {}
 

@@ -5,20 +5,20 @@ use Rattle.os9_base.specs.declared.errors.TheConstants.{E_MEMFUL}
 use Rattle.proc_model.specs.declared.memory.TheConstants.{MOST_LINKS}
 use Rattle.proc_model.specs.MemoryChanges.{has_most_links}
 use Rattle.call_rules.specs.CallResult.{CallResult, done, refused, needs, refuses}
-use Rattle.call_rules.specs.Inner.{Inner, own_at}
+use Rattle.call_rules.specs.Processes.{Processes, own_at}
 use Rattle.call_rules.specs.Link.{Mapped, mapped_group, links_at, after_link}
 use Rattle.call_rules.specs.ModuleLinks.{Entered}
 use Rattle.module_calls.specs.Linked.{links_entered}
 use Rattle.module_calls.specs.Named.{link_slot}
 
 -- the group stands at a slot, or is mapped there
-pub record IsLinked (m : Inner) (p : ℕ) (found : Entered) (count slot : ℕ) : Type 0 where
+pub record IsLinked (m : Processes) (p : ℕ) (found : Entered) (count slot : ℕ) : Type 0 where
   pub mapped : Mapped
   pub is : mapped_group m.memory p found.entry.group ≡ Some mapped
   pub slot_is : mapped.slot ≡ slot
   pub goes : links_entered m p found count ≡ done (after_link m p found mapped count)
 
-module _ (m : Inner) (p : ℕ) (found : Entered) (count : ℕ) where
+module _ (m : Processes) (p : ℕ) (found : Entered) (count : ℕ) where
   abbrev slot_by : Bool → Option Mapped → Option ℕ
   slot_by most place = if most then None else option_and_then (λ slot. if nat_le MOST_LINKS (links_at (own_at m p) slot) then None else Some slot) (option_map (λ mapped. mapped.slot) place)
 
@@ -60,5 +60,5 @@ module _ (m : Inner) (p : ℕ) (found : Entered) (count : ℕ) where
           (mapped, refl, there.0, there.1)
 
 -- what F$Link does with the module that is named
-abbrev pub link_next : Inner → ℕ → List ℕ → Entered → CallResult
+abbrev pub link_next : Processes → ℕ → List ℕ → Entered → CallResult
 link_next m p name found = links_entered m p found (length name)

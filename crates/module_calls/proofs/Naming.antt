@@ -7,12 +7,12 @@ use Rattle.user_names.specs.declared.name_fault.NameFault.{NameFault}
 use Rattle.user_names.specs.declared.name_fault.NameFault.TheVariants.{Unreadable, NoName}
 use Rattle.user_names.specs.UserNames.{name_at}
 use Rattle.call_rules.specs.CallResult.{CallResult, refused, needs, reads_name}
-use Rattle.call_rules.specs.Inner.{Inner, regs_at, cells_at}
+use Rattle.call_rules.specs.Processes.{Processes, regs_at, cells_at}
 use Rattle.call_rules.specs.ModuleLinks.{Entered, entered_at}
 use Rattle.module_calls.specs.Named.{name_or_error, names_module, IsNamed, IsUnnamed}
 
 -- there is no name
-pub named-error : (m : Inner) (p number : ℕ) → name_or_error (name_at (cells_at m p) (regs_at m p).x) ≡ Err number → IsUnnamed m p number
+pub named-error : (m : Processes) (p number : ℕ) → name_or_error (name_at (cells_at m p) (regs_at m p).x) ≡ Err number → IsUnnamed m p number
 named-error m p number is next = by_name (name_at (cells_at m p) (regs_at m p).x) is
     (λ name. needs (option_and_then (entered_at m.memory.modules) (found_module m.memory.modules name
     (regs_at m p).a)) E_MNF (λ found. next name found))
@@ -28,7 +28,7 @@ name_read (Ok other) name is = cc
 name_read (Err Unreadable) name is = absurd (let no_name = is in cc)
 name_read (Err NoName) name is = absurd (let no_name = is in cc)
 
-module _ (m : Inner) (p : ℕ) (name : List ℕ) (read : name_or_error (name_at (cells_at m p) (regs_at m p).x) ≡ Ok name) where
+module _ (m : Processes) (p : ℕ) (name : List ℕ) (read : name_or_error (name_at (cells_at m p) (regs_at m p).x) ≡ Ok name) where
   goes_on : (next : List ℕ → Entered → CallResult) → names_module m p next ≡ needs
       (option_and_then (entered_at m.memory.modules) (found_module m.memory.modules name (regs_at m p).a)) E_MNF
       (λ found. next name found)

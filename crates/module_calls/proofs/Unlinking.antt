@@ -6,17 +6,17 @@ use Rattle.proc_model.specs.Memory.{map_at, group_at}
 use Rattle.proc_model.specs.ModuleList.{ModuleEntry, passes}
 use Rattle.proc_model.proofs.ModuleListLaws.{found_entry}
 use Rattle.call_rules.specs.CallResult.{done, needs}
-use Rattle.call_rules.specs.Inner.{Inner, regs_at}
+use Rattle.call_rules.specs.Processes.{Processes, regs_at}
 use Rattle.call_rules.specs.ModuleLinks.{entered_at, is_at}
 use Rattle.call_rules.specs.UnLink.{f_unlink, after_unlink}
 
 -- a link to this module is given up
-pub record IsUnlinked (m : Inner) (p number : ℕ) : Type 0 where
+pub record IsUnlinked (m : Processes) (p number : ℕ) : Type 0 where
   pub entry : ModuleEntry
   pub group_is : group_at m.memory number ≡ entry.group
   pub goes : f_unlink m p ≡ done (after_unlink m p (record { number = number; entry = entry }))
 
-pub unlinked-at : (m : Inner) (p number : ℕ) → position (passes (is_at (map_at m.memory p) (regs_at m p).u)) m.memory.modules ≡ Some number → IsUnlinked m p number
+pub unlinked-at : (m : Processes) (p number : ℕ) → position (passes (is_at (map_at m.memory p) (regs_at m p).u)) m.memory.modules ≡ Some number → IsUnlinked m p number
 unlinked-at m p number found =
     let there = found_entry _ m.memory.modules number found in record {
       entry = there.0;

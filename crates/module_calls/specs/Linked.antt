@@ -6,7 +6,7 @@ use Rattle.proc_model.specs.declared.module.ModId.{ModId}
 use Rattle.proc_model.specs.MemoryChanges.{has_most_links}
 use Rattle.proc_model.specs.ModuleList.{ModuleEntry}
 use Rattle.call_rules.specs.CallResult.{CallResult, done, needs, refuses}
-use Rattle.call_rules.specs.Inner.{Inner, own_at}
+use Rattle.call_rules.specs.Processes.{Processes, own_at}
 use Rattle.call_rules.specs.Link.{mapped_group, links_at, after_link}
 use Rattle.call_rules.specs.ModuleLinks.{Entered}
 
@@ -15,7 +15,7 @@ abbrev pub entered_as : ModId → ModuleEntry → Entered
 entered_as id entry = record { number = id.0; entry = entry }
 
 -- a process links an entered module, and X grows by this number of characters
-abbrev pub links_entered : Inner → ℕ → Entered → ℕ → CallResult
+abbrev pub links_entered : Processes → ℕ → Entered → ℕ → CallResult
 links_entered m p found count =
     refuses (has_most_links found.entry) E_MEMFUL
     (needs (mapped_group m.memory p found.entry.group) E_MEMFUL

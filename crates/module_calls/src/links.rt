@@ -7,13 +7,13 @@ ghost use Rattle.proc_model.specs.Memory.{group_at};
 ghost use Rattle.proc_model.specs.MemoryChanges.{linked};
 ghost use Rattle.proc_model.specs.ModuleList.{ModuleEntry, module_entry_at};
 ghost use Rattle.proc_rules.specs.Records.{IsLiving};
-ghost use Rattle.call_rules.specs.Inner.{Inner, no_own, own_at, regs_at, with_memory, with_own, with_regs_of};
-ghost use Rattle.call_rules.specs.Link.{f_link as f_link_lem, Mapped, mapped_group, links_at, with_links_at, linked_regs as linked_regs_lem};
+ghost use Rattle.call_rules.specs.Processes.{Processes, no_own, own_at, regs_at, with_memory, with_own, with_regs_of};
+ghost use Rattle.call_rules.specs.Link.{f_link as f_link_model, Mapped, mapped_group, links_at, with_links_at, linked_regs as linked_regs_model};
 ghost use Rattle.call_rules.specs.ModuleLinks.{header_address};
-ghost use Rattle.call_rules.specs.UnLoad.{f_unload as f_unload_lem};
+ghost use Rattle.call_rules.specs.UnLoad.{f_unload as f_unload_model};
 ghost use Rattle.proc_state.specs.Tie.{Represents, Answers, Comes};
 ghost use Rattle.module_calls.specs.Linked.{entered_as, links_entered};
-ghost use Rattle.module_calls.specs.Named.{slot_in, link_slot as link_slot_lem};
+ghost use Rattle.module_calls.specs.Named.{slot_in, link_slot as link_slot_model};
 
 use crate::named::named_module;
 use os9_base::call::CallEnd;
@@ -37,8 +37,8 @@ use proc_state::state::ProcState;
 /// exactly if too few slots are left in the map, or no links. Nothing has changed then.
 pub fn f_link(s: &mut ProcState, p: Pid) -> CallEnd
     requires lives { IsLiving s.old.table p.0 }
-    ensures call { (m : Inner) → Represents s.old m
-        → Comes m p.0 (f_link_lem m p.0) result s.new }
+    ensures call { (m : Processes) → Represents s.old m
+        → Comes m p.0 (f_link_model m p.0) result s.new }
     ensures lives { IsLiving s.new.table p.0 }
 {
     call_end(link(s, p))
@@ -46,8 +46,8 @@ pub fn f_link(s: &mut ProcState, p: Pid) -> CallEnd
 
 fn link(s: &mut ProcState, p: Pid) -> Result<(), u8>
     requires lives { IsLiving s.old.table p.0 }
-    ensures call { (m : Inner) → Represents s.old m
-        → Answers m (f_link_lem m p.0) result s.new }
+    ensures call { (m : Processes) → Represents s.old m
+        → Answers m (f_link_model m p.0) result s.new }
     ensures lives { IsLiving s.new.table p.0 }
 {
     let (id, count) = named_module(s, p)?;
@@ -63,7 +63,7 @@ fn link(s: &mut ProcState, p: Pid) -> Result<(), u8>
 pub fn link_module(s: &mut ProcState, p: Pid, id: ModId, count: u32) -> Result<(), u8>
     requires lives { IsLiving s.old.table p.0 }
     requires entered { IsSome (module_entry_at (modules_of s.old.memory) id.0) }
-    ensures call { (m : Inner) (entry : ModuleEntry) → Represents s.old m
+    ensures call { (m : Processes) (entry : ModuleEntry) → Represents s.old m
         → module_entry_at m.memory.modules id.0 ≡ Some entry
         → Answers m (links_entered m p.0 (entered_as id entry) count) result s.new }
     ensures lives { IsLiving s.new.table p.0 }
@@ -84,9 +84,9 @@ pub fn link_module(s: &mut ProcState, p: Pid, id: ModId, count: u32) -> Result<(
 fn link_slot(s: &ProcState, p: Pid, id: ModId) -> Option<u8>
     requires process { p.0 < 33 }
     requires entered { IsSome (module_entry_at (modules_of s.now.memory) id.0) }
-    ensures slot { (m : Inner) → Represents s.now m
+    ensures slot { (m : Processes) → Represents s.now m
         → ForSome (module_entry_at m.memory.modules id.0)
-        (λ entry. result ≡ link_slot_lem m p.0 entry) }
+        (λ entry. result ≡ link_slot_model m p.0 entry) }
     ensures links { OnSome result (IsSomeAnd (module_entry_at (modules_of s.now.memory) id.0)
         (λ entry. entry.links < 65535)) }
     ensures own { IfSome result (λ slot.
@@ -109,7 +109,7 @@ fn link_slot(s: &ProcState, p: Pid, id: ModId) -> Option<u8>
 fn group_place(s: &ProcState, p: Pid, id: ModId) -> Option<u8>
     requires process { p.0 < 33 }
     requires entered { IsSome (module_entry_at (modules_of s.now.memory) id.0) }
-    ensures slot { (m : Inner) → Represents s.now m
+    ensures slot { (m : Processes) → Represents s.now m
         → result ≡ slot_in m p.0 (group_at m.memory id.0) }
     ensures fits { IfSome result (λ slot. slot + group_len s.now.memory id.0 ≤ 8) }
     ensures some { 1 ≤ group_len s.now.memory id.0 }
@@ -124,7 +124,7 @@ fn group_place(s: &ProcState, p: Pid, id: ModId) -> Option<u8>
 fn map_group(s: &mut ProcState, p: Pid, id: ModId)
     requires process { p.0 < 33 }
     requires entered { IsSome (module_entry_at (modules_of s.old.memory) id.0) }
-    ensures tied { (m : Inner) (mapped : Mapped) → Represents s.old m
+    ensures tied { (m : Processes) (mapped : Mapped) → Represents s.old m
         → mapped_group m.memory p.0 (group_at m.memory id.0) ≡ Some mapped
         → Represents s.new (with_memory m mapped.memory) }
     ensures modules { modules_of s.new.memory ≡ modules_of s.old.memory }
@@ -143,7 +143,7 @@ fn add_link(s: &mut ProcState, p: Pid, id: ModId, slot: u8)
     requires links { IsSomeAnd (module_entry_at (modules_of s.old.memory) id.0)
         (λ entry. entry.links < 65535) }
     requires own { slice_index (slice_index_or s.old.own.items p.0 no_own).links slot < 65535 }
-    ensures tied { (m : Inner) → Represents s.old m
+    ensures tied { (m : Processes) → Represents s.old m
         → Represents s.new (with_own (with_memory m (linked m.memory id.0)) p.0
         (with_links_at (own_at m p.0) slot (links_at (own_at m p.0) slot + 1))) }
     ensures records { s.new.table ≡ s.old.table }
@@ -160,7 +160,7 @@ fn linked_regs(regs: Regs, info: ModuleInfo, slot: u8, count: u32) -> Regs
     requires fits { 8192 * slot + (info.at + info.size) ≤ 65536 }
     requires runs { info.entry < info.size }
     ensures { (entry : ModuleEntry) → entry.info ≡ info
-        → result ≡ linked_regs_lem regs entry (header_address slot entry) count }
+        → result ≡ linked_regs_model regs entry (header_address slot entry) count }
 {
     let u = u16::from(slot) * BLOCK_BYTES + info.at as u16;
     Regs {
@@ -183,8 +183,8 @@ fn linked_regs(regs: Regs, info: ModuleInfo, slot: u8, count: u32) -> Regs
 /// changed then.
 pub fn f_unload(s: &mut ProcState, p: Pid) -> CallEnd
     requires lives { IsLiving s.old.table p.0 }
-    ensures call { (m : Inner) → Represents s.old m
-        → Comes m p.0 (f_unload_lem m p.0) result s.new }
+    ensures call { (m : Processes) → Represents s.old m
+        → Comes m p.0 (f_unload_model m p.0) result s.new }
     ensures lives { IsLiving s.new.table p.0 }
 {
     call_end(unload(s, p))
@@ -192,8 +192,8 @@ pub fn f_unload(s: &mut ProcState, p: Pid) -> CallEnd
 
 fn unload(s: &mut ProcState, p: Pid) -> Result<(), u8>
     requires lives { IsLiving s.old.table p.0 }
-    ensures call { (m : Inner) → Represents s.old m
-        → Answers m (f_unload_lem m p.0) result s.new }
+    ensures call { (m : Processes) → Represents s.old m
+        → Answers m (f_unload_model m p.0) result s.new }
     ensures lives { IsLiving s.new.table p.0 }
 {
     let (id, _) = named_module(s, p)?;

@@ -3,9 +3,9 @@
 ghost use Rattle.std.specs.Prelude.{◌≡◌, ◌*◌, ◌+◌, ◌≤◌, ◌<◌};
 ghost use Rattle.proc_rules.specs.Records.{IsLiving};
 ghost use Rattle.call_rules.specs.CallResult.{changes, done};
-ghost use Rattle.call_rules.specs.Inner.{Inner, with_memory};
-ghost use Rattle.call_rules.specs.Mem.{f_mem as f_mem_lem, size_regs as size_regs_lem, resized, sets_pages, with_size};
-ghost use Rattle.call_rules.specs.UserBytes.{d_of as d_of_lem};
+ghost use Rattle.call_rules.specs.Processes.{Processes, with_memory};
+ghost use Rattle.call_rules.specs.Mem.{f_mem as f_mem_model, size_regs as size_regs_model, resized, sets_pages, with_size};
+ghost use Rattle.call_rules.specs.UserBytes.{d_of as d_of_model};
 ghost use Rattle.proc_state.specs.Tie.{Represents, Answers, Comes};
 
 use crate::errors::memory_error;
@@ -27,8 +27,8 @@ use proc_state::state::ProcState;
 /// named, else E$NoRAM exactly if too few blocks are free. Nothing has changed then.
 pub fn f_mem(s: &mut ProcState, p: Pid) -> CallEnd
     requires lives { IsLiving s.old.table p.0 }
-    ensures call { (m : Inner) → Represents s.old m
-        → Comes m p.0 (f_mem_lem m p.0) result s.new }
+    ensures call { (m : Processes) → Represents s.old m
+        → Comes m p.0 (f_mem_model m p.0) result s.new }
     ensures lives { IsLiving s.new.table p.0 }
 {
     call_end(mem(s, p))
@@ -36,8 +36,8 @@ pub fn f_mem(s: &mut ProcState, p: Pid) -> CallEnd
 
 fn mem(s: &mut ProcState, p: Pid) -> Result<(), u8>
     requires lives { IsLiving s.old.table p.0 }
-    ensures call { (m : Inner) → Represents s.old m
-        → Answers m (f_mem_lem m p.0) result s.new }
+    ensures call { (m : Processes) → Represents s.old m
+        → Answers m (f_mem_model m p.0) result s.new }
     ensures lives { IsLiving s.new.table p.0 }
 {
     let regs = s.regs(p);
@@ -54,7 +54,7 @@ fn mem(s: &mut ProcState, p: Pid) -> Result<(), u8>
 fn set_pages(s: &mut ProcState, p: Pid, pages: u16) -> Result<(), u8>
     requires lives { IsLiving s.old.table p.0 }
     requires some { pages ≤ 256 }
-    ensures call { (m : Inner) → Represents s.old m
+    ensures call { (m : Processes) → Represents s.old m
         → Answers m (sets_pages m p.0 pages) result s.new }
     ensures lives { IsLiving s.new.table p.0 }
 {
@@ -69,7 +69,7 @@ fn set_pages(s: &mut ProcState, p: Pid, pages: u16) -> Result<(), u8>
 /// The data area gets this number of blocks.
 fn resize(s: &mut ProcState, p: Pid, count: u8) -> Result<(), u8>
     requires lives { IsLiving s.old.table p.0 }
-    ensures call { (m : Inner) → Represents s.old m
+    ensures call { (m : Processes) → Represents s.old m
         → Answers m (changes (resized m.memory p.0 count)
         (λ memory. done (with_memory m memory))) result s.new }
     ensures records { s.new.table ≡ s.old.table }
@@ -89,7 +89,7 @@ fn resize(s: &mut ProcState, p: Pid, count: u8) -> Result<(), u8>
 /// Sets the recorded size of the data area in bytes, and returns it in the registers.
 fn set_size(s: &mut ProcState, p: Pid, size: u16)
     requires lives { IsLiving s.old.table p.0 }
-    ensures tied { (m : Inner) → Represents s.old m
+    ensures tied { (m : Processes) → Represents s.old m
         → Represents s.new (with_size m p.0 size m.memory) }
     ensures lives { IsLiving s.new.table p.0 }
 {
@@ -100,14 +100,14 @@ fn set_size(s: &mut ProcState, p: Pid, size: u16)
 
 /// D: A is its high byte and B its low byte.
 fn d_of(regs: Regs) -> u16
-    ensures { result ≡ d_of_lem regs }
+    ensures { result ≡ d_of_model regs }
 {
     u16::from(regs.a) * 256 + u16::from(regs.b)
 }
 
 /// The registers with a size in bytes as the result.
 fn size_regs(regs: Regs, size: u16) -> Regs
-    ensures { result ≡ size_regs_lem regs size }
+    ensures { result ≡ size_regs_model regs size }
 {
     let a = (size / 256) as u8;
     let b = (size % 256) as u8;

@@ -5,7 +5,7 @@ ghost use Rattle.guest_memory.specs.Tie.{modules_of};
 ghost use Rattle.proc_model.specs.ModuleList.{module_entry_at};
 ghost use Rattle.proc_rules.specs.Records.{IsLiving};
 ghost use Rattle.user_names.specs.UserNames.{name_at};
-ghost use Rattle.call_rules.specs.Inner.{Inner, cells_at};
+ghost use Rattle.call_rules.specs.Processes.{Processes, cells_at};
 ghost use Rattle.proc_state.specs.Tie.{Represents, IsSame};
 ghost use Rattle.module_calls.specs.Named.{name_or_error, IsNamed, IsUnnamed};
 
@@ -23,7 +23,7 @@ use user_names::name_fault::NameFault;
 /// E$BPAddr and E$BNam of the name, else E$MNF exactly if no such module is entered.
 pub fn named_module(s: &mut ProcState, p: Pid) -> Result<(ModId, u8), u8>
     requires lives { IsLiving s.old.table p.0 }
-    ensures named { (m : Inner) → Represents s.old m
+    ensures named { (m : Processes) → Represents s.old m
         → MatchResult result (λ found. IsNamed m p.0 found.0.0 found.1) (IsUnnamed m p.0) }
     ensures entered { IfOk result
         (λ found. IsSome (module_entry_at (modules_of s.new.memory) found.0.0)) }
@@ -40,7 +40,7 @@ pub fn named_module(s: &mut ProcState, p: Pid) -> Result<(ModId, u8), u8>
 /// The name at an address of a process.
 fn read_name(s: &mut ProcState, p: Pid, at: u16) -> Result<Name, u8>
     requires { p.0 < 33 }
-    ensures name { (m : Inner) → Represents s.old m
+    ensures name { (m : Processes) → Represents s.old m
         → result ≡ name_or_error (name_at (cells_at m p.0) at) }
     ensures same { IsSame s.old s.new }
 {

@@ -1,7 +1,7 @@
 //! Sizes of programs that are started.
 
 ghost use Rattle.std.specs.Prelude.{◌≡◌, ◌≤◌};
-ghost use Rattle.call_rules.specs.Program.{blocks_of_pages as blocks_of_pages_lem};
+ghost use Rattle.call_rules.specs.Program as model;
 
 /// Bytes in a page (Level Two manual, "Memory management").
 pub const PAGE_BYTES: u16 = 256;
@@ -13,7 +13,7 @@ pub const MOST_PAGES: u16 = 224;
 /// The number of blocks for this number of pages.
 pub fn blocks_of_pages(pages: u16) -> u8
     requires { pages ≤ MOST_PAGES }
-    ensures { result ≡ blocks_of_pages_lem pages }
+    ensures { result ≡ model.blocks_of_pages pages }
 {
     pages.div_ceil(BLOCK_PAGES) as u8
 }

@@ -1,6 +1,7 @@
 ghost use Rattle.std.specs.Prelude.{◌≡◌, ◌+◌, ◌-◌, ◌<◌, ◌≤◌, ◌↔◌, false, IsTrue, IsSome, IsSomeAnd, IfSome, IfOk, OnOk, OnErr, MatchOption, Option, Some, None, option_map, is_some, length, replicate};
 ghost use Rattle.proc_model.specs.Group.{group_block_numbers};
-ghost use Rattle.proc_model.specs.ModuleList.{ModuleEntry, module_entry_at, is_known as is_known_lem, module_room, free_number as free_number_lem, found_module, new_entry, with_module_entry, entry_linked, is_in_use as is_in_use_lem, modules_without_group, leaving_group, after_unlink};
+ghost use Rattle.proc_model.specs.ModuleList as model;
+ghost use Rattle.proc_model.specs.ModuleList.{ModuleEntry, module_entry_at, module_room, found_module, new_entry, with_module_entry, entry_linked, modules_without_group, leaving_group, after_unlink};
 
 use crate::entry::Entry;
 use crate::list::{find_entry, free_number, is_in_use, is_known, remove_group};
@@ -65,10 +66,10 @@ impl Dir {
     /// `Known` if an entry of its name and type has the same or a greater revision; else `DirFull`
     /// if 64 modules are entered.
     pub fn enter(&mut self, info: ModuleInfo, group: Group, boot: bool) -> Result<ModId, DirFault>
-        ensures known { (result ≡ Err DirFault.Known) ↔ IsTrue (is_known_lem self.old info) }
+        ensures known { (result ≡ Err DirFault.Known) ↔ IsTrue (model.is_known self.old info) }
         ensures full { (result ≡ Err DirFault.DirFull)
-            ↔ ((is_known_lem self.old info ≡ false) × (module_room self.old ≡ 0)) }
-        ensures number { IfOk result (λ id. free_number_lem self.old ≡ Some id.0) }
+            ↔ ((model.is_known self.old info ≡ false) × (module_room self.old ≡ 0)) }
+        ensures number { IfOk result (λ id. model.free_number self.old ≡ Some id.0) }
         ensures entered { IfOk result (λ id. self.new
             ≡ with_module_entry self.old id.0 (new_entry info (group_block_numbers group) boot)) }
         ensures there { IfOk result (λ id. module_entry_at self.new id.0
@@ -205,14 +206,14 @@ impl Dir {
     /// Is a module known: is there an entry of its name and type with its revision or a greater
     /// one?
     pub fn knows(&self, info: &ModuleInfo) -> bool
-        ensures known { result ≡ is_known_lem self.now info.now }
+        ensures known { result ≡ model.is_known self.now info.now }
         ensures places { length self.now ≡ 64 }
     {
         is_known(&self.entries, info)
     }
 
     fn free_number(&self) -> Option<ModId>
-        ensures number { option_map (λ id. id.0) result ≡ free_number_lem self.now }
+        ensures number { option_map (λ id. id.0) result ≡ model.free_number self.now }
         ensures within { IfSome result (λ id. id.0 < length self.now) }
         ensures room { MatchOption result (module_room self.now
             ≡ 0) (λ _. 0 < module_room self.now) }
@@ -221,7 +222,7 @@ impl Dir {
     }
 
     fn uses(&self, group: &Group) -> bool
-        ensures { result ≡ is_in_use_lem self.now (group_block_numbers group.now) }
+        ensures { result ≡ model.is_in_use self.now (group_block_numbers group.now) }
     {
         is_in_use(&self.entries, group)
     }

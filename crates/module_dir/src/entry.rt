@@ -1,6 +1,6 @@
 ghost use Rattle.std.specs.Prelude.{◌≡◌, take};
 ghost use Rattle.proc_model.specs.Group.{group_block_numbers};
-ghost use Rattle.proc_model.specs.ModuleList.{is_of_group as is_of_group_lem, are_namesakes as are_namesakes_lem, half_matches as half_matches_lem, kind_matches as kind_matches_lem};
+ghost use Rattle.proc_model.specs.ModuleList as model;
 ghost use Rattle.module_dir.specs.Entries.{seen};
 
 use os9_base::name::same_name;
@@ -21,27 +21,27 @@ pub struct Entry {
 /// Do these two modules have the same name, case ignored, and the same type, regardless of the
 /// language?
 pub fn are_namesakes(a: &ModuleInfo, b: &ModuleInfo) -> bool
-    ensures { result ≡ are_namesakes_lem a.now b.now }
+    ensures { result ≡ model.are_namesakes a.now b.now }
 {
     same_name(&a.name, &b.name) && a.kind >> 4 == b.kind >> 4
 }
 
 /// Does this type and language match the wanted one, in which a half of 0 matches any?
 pub fn kind_matches(wanted: u8, kind: u8) -> bool
-    ensures { result ≡ kind_matches_lem wanted kind }
+    ensures { result ≡ model.kind_matches wanted kind }
 {
     half_matches(wanted >> 4, kind >> 4) && half_matches(wanted & 0x0f, kind & 0x0f)
 }
 
 fn half_matches(wanted: u8, half: u8) -> bool
-    ensures { result ≡ half_matches_lem wanted half }
+    ensures { result ≡ model.half_matches wanted half }
 {
     wanted == 0 || wanted == half
 }
 
 /// Is the entry of this group?
 pub fn is_of_group(entry: &Entry, group: &Group) -> bool
-    ensures { result ≡ is_of_group_lem (group_block_numbers group.now) (seen entry.now) }
+    ensures { result ≡ model.is_of_group (group_block_numbers group.now) (seen entry.now) }
 {
     blocks(group) == blocks(&entry.group)
 }

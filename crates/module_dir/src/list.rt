@@ -1,6 +1,7 @@
 ghost use Rattle.std.specs.Prelude.{◌≡◌, ◌<◌, ◌≤◌, ◌&&◌, nat_lt, nat_le, option_map, MatchOption, length};
 ghost use Rattle.proc_model.specs.Group.{group_block_numbers};
-ghost use Rattle.proc_model.specs.ModuleList.{passes, revision_of, are_namesakes as are_namesakes_lem, is_known as is_known_lem, is_shadowed as is_shadowed_lem, answers_to, found_module, free_number as free_number_lem, module_room, is_of_group as is_of_group_lem, is_in_use as is_in_use_lem, place_without_group as outside_lem, modules_without_group};
+ghost use Rattle.proc_model.specs.ModuleList as model;
+ghost use Rattle.proc_model.specs.ModuleList.{passes, revision_of, answers_to, found_module, module_room, modules_without_group};
 ghost use Rattle.module_dir.specs.Entries.{seen, held_entries};
 
 use crate::entry::{Entry, are_namesakes, is_of_group, kind_matches};
@@ -10,14 +11,14 @@ use proc_model::module::ModuleInfo;
 
 /// Is there an entry of the module's name and type with its revision or a greater one?
 pub fn is_known(entries: &[Option<Entry>], info: &ModuleInfo) -> bool
-    ensures { result ≡ is_known_lem (held_entries entries.now) info.now }
+    ensures { result ≡ model.is_known (held_entries entries.now) info.now }
 {
     entries.iter().any(|place| makes_known(place, info))
 }
 
 /// Is there an entry of the module's name and type with a greater revision?
 fn is_shadowed(entries: &[Option<Entry>], info: &ModuleInfo) -> bool
-    ensures { result ≡ is_shadowed_lem (held_entries entries.now) info.now }
+    ensures { result ≡ model.is_shadowed (held_entries entries.now) info.now }
 {
     entries.iter().any(|place| shadows(place, info))
 }
@@ -34,7 +35,7 @@ pub fn find_entry(entries: &[Option<Entry>], name: &Name, kind: u8) -> Option<us
 
 /// The least number that no entry has.
 pub fn free_number(entries: &[Option<Entry>]) -> Option<usize>
-    ensures number { result ≡ free_number_lem (held_entries entries.now) }
+    ensures number { result ≡ model.free_number (held_entries entries.now) }
     ensures room { MatchOption result (module_room (held_entries entries.now)
         ≡ 0) (λ _. 0 < module_room (held_entries entries.now)) }
 {
@@ -43,7 +44,7 @@ pub fn free_number(entries: &[Option<Entry>]) -> Option<usize>
 
 /// Does an entry of this group have a link?
 pub fn is_in_use(entries: &[Option<Entry>], group: &Group) -> bool
-    ensures { result ≡ is_in_use_lem (held_entries entries.now) (group_block_numbers group.now) }
+    ensures { result ≡ model.is_in_use (held_entries entries.now) (group_block_numbers group.now) }
 {
     entries.iter().any(|place| uses(place, group))
 }
@@ -61,7 +62,7 @@ pub fn remove_group(entries: &mut [Option<Entry>], group: &Group)
 /// Is there an entry here of the module's name and type with its revision or a greater one?
 fn makes_known(place: &Option<Entry>, info: &ModuleInfo) -> bool
     ensures { result
-        ≡ passes (λ entry. are_namesakes_lem info.now entry.info
+        ≡ passes (λ entry. model.are_namesakes info.now entry.info
         && nat_le (revision_of info.now) (revision_of entry.info)) (option_map seen place.now) }
 {
     match place {
@@ -75,7 +76,7 @@ fn makes_known(place: &Option<Entry>, info: &ModuleInfo) -> bool
 /// Is there an entry here of the module's name and type with a greater revision?
 fn shadows(place: &Option<Entry>, info: &ModuleInfo) -> bool
     ensures { result
-        ≡ passes (λ entry. are_namesakes_lem info.now entry.info
+        ≡ passes (λ entry. model.are_namesakes info.now entry.info
         && nat_lt (revision_of info.now) (revision_of entry.info)) (option_map seen place.now) }
 {
     match place {
@@ -102,7 +103,7 @@ fn answers(entries: &[Option<Entry>], name: &Name, kind: u8, place: &Option<Entr
 /// Is there an entry of this group here that has a link?
 fn uses(place: &Option<Entry>, group: &Group) -> bool
     ensures { result
-        ≡ passes (λ entry. is_of_group_lem (group_block_numbers group.now) entry
+        ≡ passes (λ entry. model.is_of_group (group_block_numbers group.now) entry
         && nat_lt 0 entry.links) (option_map seen place.now) }
 {
     match place {
@@ -114,7 +115,7 @@ fn uses(place: &Option<Entry>, group: &Group) -> bool
 /// What remains of a place after the entries of this group are removed.
 fn place_without_group(place: &Option<Entry>, group: &Group) -> Option<Entry>
     ensures { option_map seen result
-        ≡ outside_lem (group_block_numbers group.now) (option_map seen place.now) }
+        ≡ model.place_without_group (group_block_numbers group.now) (option_map seen place.now) }
 {
     match place {
         Some(entry) if is_of_group(entry, group) => None,

@@ -1,5 +1,6 @@
 ghost use Rattle.std.specs.Prelude.{◌≡◌, ◌≢◌, ℕ, ◌+◌, ◌<◌, ◌≤◌, ◌↔◌, All, length, drop, slice_index, slice_range};
-ghost use Rattle.proc_model.specs.Module.{next_place as next_place_lem, step_from, IfModule, IsModule};
+ghost use Rattle.proc_model.specs.Module as model;
+ghost use Rattle.proc_model.specs.Module.{step_from, IfModule, IsModule};
 
 use crate::header::read_module;
 use proc_model::module::{ModuleInfo, ModuleStep};
@@ -31,7 +32,7 @@ pub fn next_module(bytes: &[u8], from: u32) -> ModuleStep
 /// The first place from this one on with a nonzero byte, or the end.
 fn next_place(bytes: &[u8], from: usize) -> usize
     requires { from ≤ length bytes.now }
-    ensures place { result ≡ next_place_lem bytes.now from }
+    ensures place { result ≡ model.next_place bytes.now from }
     ensures from_there { from ≤ result }
     ensures within { result ≤ length bytes.now }
     ensures zeros { (k : ℕ) → from ≤ k → k < result → slice_index bytes.now k ≡ 0 }

@@ -1,7 +1,8 @@
 ghost use Rattle.std.specs.Prelude.{◌≡◌, ◌+◌, ◌<◌, ◌≤◌, ◌&&◌, length, take, true, is_some, IfOk, IfSome, Option, Some};
 ghost use Rattle.std.specs.Result.{result_err};
 ghost use Rattle.proc_model.specs.Crc.{crc_register};
-ghost use Rattle.proc_model.specs.Module.{header_word, module_size, module_name, module_entry, is_program as is_program_lem, header_length as header_length_lem, program_word as program_word_lem, has_sync, has_size, has_module_name, crc_offset, keeps_header_rule, keeps_parity_rule, keeps_crc_rule, module_fault, info_at, IsModule};
+ghost use Rattle.proc_model.specs.Module as model;
+ghost use Rattle.proc_model.specs.Module.{header_word, module_size, module_name, module_entry, has_sync, has_size, has_module_name, crc_offset, keeps_header_rule, keeps_parity_rule, keeps_crc_rule, module_fault, info_at, IsModule};
 
 use crate::crc::crc24;
 use byteorder::{BigEndian, ByteOrder};
@@ -124,7 +125,7 @@ fn word(bytes: &[u8], at: usize) -> u16
 fn program_word(bytes: &[u8], at: usize) -> u16
     requires kind { 6 < length bytes.now }
     requires within { at + 2 ≤ length bytes.now }
-    ensures { result ≡ program_word_lem bytes.now at }
+    ensures { result ≡ model.program_word bytes.now at }
 {
     if is_program(bytes) {
         word(bytes, at)
@@ -136,7 +137,7 @@ fn program_word(bytes: &[u8], at: usize) -> u16
 /// The length of the header.
 fn header_length(bytes: &[u8]) -> u16
     requires { 6 < length bytes.now }
-    ensures { result ≡ header_length_lem bytes.now }
+    ensures { result ≡ model.header_length bytes.now }
 {
     if is_program(bytes) { 13 } else { 9 }
 }
@@ -144,7 +145,7 @@ fn header_length(bytes: &[u8]) -> u16
 /// Is the type 1?
 fn is_program(bytes: &[u8]) -> bool
     requires { 6 < length bytes.now }
-    ensures { result ≡ is_program_lem bytes.now }
+    ensures { result ≡ model.is_program bytes.now }
 {
     bytes[6] >> 4 == PROGRAM
 }

@@ -1,6 +1,7 @@
 ghost use Rattle.std.specs.Prelude.{◌≡◌, ◌≢◌, [], IfOk, map, option_map, slice_get, string_bytes};
 ghost use Rattle.std.specs.List.{All};
-ghost use Rattle.option_reader.specs.Given.{only_argument as only_argument_lem, value_of, words_give};
+ghost use Rattle.option_reader.specs.Given as model;
+ghost use Rattle.option_reader.specs.Given.{value_of, words_give};
 
 use crate::command::command_with;
 use crate::dash::has_dash_value;
@@ -39,7 +40,7 @@ impl<'a> GivenWords<'a> {
 
     /// The argument, or nothing if there is none or more than one.
     pub fn only_argument(&self) -> Option<&'a str>
-        ensures { option_map (λ argument. argument.now) result ≡ only_argument_lem self.now }
+        ensures { option_map (λ argument. argument.now) result ≡ model.only_argument self.now }
     {
         match self.argument(1) {
             Some(_) => None,

@@ -1,6 +1,7 @@
 ghost use Rattle.std.specs.Prelude.{◌≡◌, ◌↔◌, ◌<◌, ◌≤◌, length, map, take, Some, None, All, true, IsTrue, IfSome, slice_get};
 ghost use Rattle.std.specs.Result.{result_ok};
-ghost use Rattle.os9_base.specs.Name.{lower as lower_lem, low_bits as low_bits_lem, is_name_character as is_name_character_lem, is_stored_character as is_stored_character_lem, name_run, parsed_name, stored_name, SameName, IsName, EndsName};
+ghost use Rattle.os9_base.specs.Name as model;
+ghost use Rattle.os9_base.specs.Name.{name_run, parsed_name, stored_name, SameName, IsName, EndsName};
 
 use std::marker::Model;
 use thiserror::Error;
@@ -102,7 +103,7 @@ pub fn same_name(a: &Name, b: &Name) -> bool
 /// Do two texts of the same length agree, regardless of the case of letters?
 fn same_letters(a: &[u8], b: &[u8]) -> bool
     requires { length a.now ≡ length b.now }
-    ensures { IsTrue result ↔ (map lower_lem a.now ≡ map lower_lem b.now) }
+    ensures { IsTrue result ↔ (map model.lower a.now ≡ map model.lower b.now) }
 {
     for i in 0..a.len() {
         if lower(a[i]) != lower(b[i]) {
@@ -114,7 +115,7 @@ fn same_letters(a: &[u8], b: &[u8]) -> bool
 
 /// A letter in lower case, or any other character unchanged.
 fn lower(character: u8) -> u8
-    ensures { result ≡ lower_lem character }
+    ensures { result ≡ model.lower character }
 {
     if character >= b'A' && character <= b'Z' {
         character + 32
@@ -125,20 +126,20 @@ fn lower(character: u8) -> u8
 
 /// A byte without bit 7, which marks the last character of a name.
 fn low_bits(byte: u8) -> u8
-    ensures value { result ≡ low_bits_lem byte }
+    ensures value { result ≡ model.low_bits byte }
     ensures below { result < 128 }
 {
     byte & 0x7f
 }
 
 fn is_name_character(character: u8) -> bool
-    ensures { result ≡ is_name_character_lem character }
+    ensures { result ≡ model.is_name_character character }
 {
     matches!(character, b'a'..=b'z' | b'A'..=b'Z' | b'0'..=b'9' | b'_' | b'.')
 }
 
 fn is_stored_character(character: u8) -> bool
-    ensures { result ≡ is_stored_character_lem character }
+    ensures { result ≡ model.is_stored_character character }
 {
     character >= 33 && character <= 126 && character != b'/'
 }
@@ -146,10 +147,10 @@ fn is_stored_character(character: u8) -> bool
 /// The number of bytes in the run of name characters at the front, or 30 if there are more.
 fn run_length(bytes: &[u8]) -> usize
     ensures within { result ≤ length bytes.now }
-    ensures short { result ≤ 29 → name_run bytes.now ≡ map low_bits_lem (take result bytes.now) }
+    ensures short { result ≤ 29 → name_run bytes.now ≡ map model.low_bits (take result bytes.now) }
     ensures long { 29 < result → 29 < length (name_run bytes.now) }
-    ensures characters { All (λ c. is_stored_character_lem c
-        ≡ true) (map low_bits_lem (take result bytes.now)) }
+    ensures characters { All (λ c. model.is_stored_character c
+        ≡ true) (map model.low_bits (take result bytes.now)) }
 {
     for (i, byte) in bytes.iter().enumerate() {
         if i > LONGEST || !is_name_character(low_bits(*byte)) {
@@ -184,8 +185,8 @@ fn marked_length(bytes: &[u8]) -> Option<usize>
 
 /// The name that these bytes spell, with bit 7 removed.
 fn without_mark(run: &[u8]) -> Name
-    requires { IsName (map low_bits_lem run.now) }
-    ensures { result ≡ map low_bits_lem run.now }
+    requires { IsName (map model.low_bits run.now) }
+    ensures { result ≡ map model.low_bits run.now }
 {
     let mut characters = [0; 29];
     for (i, byte) in run.iter().enumerate() {

@@ -1,5 +1,6 @@
 ghost use Rattle.std.specs.Prelude.{◌≡◌, ◌<◌, ◌+◌, ◌*◌, ◌%◌, true, pos, ◌≤ℤ◌};
-ghost use Rattle.civil_time.specs.CivilTime.{day_number, is_time_packet, IsAfter, month_days as month_days_lem, is_leap as is_leap_lem, packet_time, second_number, time_packet};
+ghost use Rattle.civil_time.specs.CivilTime as model;
+ghost use Rattle.civil_time.specs.CivilTime.{day_number, is_time_packet, IsAfter, packet_time, second_number, time_packet};
 ghost use Rattle.os9_clock.specs.JiffTime.{civil_of};
 ghost use Rattle.jiff.specs.Words.{IsYmd, IsHms};
 
@@ -120,7 +121,7 @@ fn packet_of(time: DateTime) -> TimePacket
 
 // The number of days of the month.
 fn month_days(year: u16, month: u8) -> u8
-    ensures { result ≡ month_days_lem year month }
+    ensures { result ≡ model.month_days year month }
 {
     match month {
         2 if is_leap(year) => 29,
@@ -132,7 +133,7 @@ fn month_days(year: u16, month: u8) -> u8
 
 // Is the year a leap year?
 fn is_leap(year: u16) -> bool
-    ensures { result ≡ is_leap_lem year }
+    ensures { result ≡ model.is_leap year }
 {
     year % 4 == 0 && (year % 100 != 0 || year % 400 == 0)
 }

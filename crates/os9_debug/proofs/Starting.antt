@@ -106,7 +106,7 @@ module _ (machine : Machine) (kernel : Kernel) (before started after : Outside) 
   tied : Represents kernel after begun
   unfolding begun was
   tied = record {
-    inner = begins.2.inner;
+    processes = begins.2.processes;
     files = subst (λ (views : List DriveView). StandsFor kernel.files views was.files) (sym drives) begins.2.files;
     is = λ i. record (begins.2.is i) { terms = after.terms };
     run = start-open (boot_with machine (drive_states started.drives) after.terms) begun starts

@@ -4,7 +4,7 @@ ghost use Rattle.std.specs.Prelude.{◌≡◌, ◌<◌, IfOk, vec_len};
 ghost use Rattle.os9_base.specs.declared.limits.TheConstants.{PROCESS_PLACES};
 ghost use Rattle.os9_kernel.specs.Outside.{OnDevices, outside};
 ghost use Rattle.debug_text.specs.Prints.{shows};
-ghost use Rattle.debug_text.specs.Show.{end_line as end_line_lem};
+ghost use Rattle.debug_text.specs.Show as model;
 ghost use Rattle.debug_text.specs.declared.command.Command.TheVariants.{To, Back};
 ghost use Rattle.os9_debug.specs.Machine.{or_no_memory};
 ghost use Rattle.os9_debug.specs.Moves.{AtPosition, HasShown, IsUnderWay, MovesOn};
@@ -21,7 +21,7 @@ use std::alloc::{AllocError, Global};
 
 // The line of the last position.
 fn end_line(alloc: Global, last: u64) -> Result<Vec<u8>, AllocError>
-    ensures { IfOk result (λ line. line.items ≡ end_line_lem last) }
+    ensures { IfOk result (λ line. line.items ≡ model.end_line last) }
 {
     let mut line = Vec::new(alloc);
     push_end(&mut line, last)?;

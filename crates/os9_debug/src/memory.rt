@@ -2,7 +2,8 @@
 
 ghost use Rattle.std.specs.Prelude.{◌≡◌, ◌<◌, ◌≤◌, ◌++◌, OnOk};
 ghost use Rattle.os9_base.specs.declared.limits.TheConstants.{PROCESS_PLACES};
-ghost use Rattle.debug_text.specs.Disassembly.{bytes_from as bytes_from_lem, dis_lines, longest_instruction};
+ghost use Rattle.debug_text.specs.Disassembly as model;
+ghost use Rattle.debug_text.specs.Disassembly.{dis_lines, longest_instruction};
 ghost use Rattle.debug_text.specs.Show.{mem_line};
 ghost use Rattle.os9_debug.specs.Moves.{SeesCells};
 
@@ -19,7 +20,7 @@ const LONGEST: usize = 5;
 fn bytes_from(position: &Position, mut at: u16) -> ArrayVec<u8, LONGEST>
     requires { position.now.process.0 < PROCESS_PLACES }
     ensures { SeesCells position.now
-        (λ cells. result.items ≡ bytes_from_lem cells at longest_instruction) }
+        (λ cells. result.items ≡ model.bytes_from cells at longest_instruction) }
 {
     let mut bytes = ArrayVec::new();
     for _k in 0..LONGEST {

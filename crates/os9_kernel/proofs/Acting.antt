@@ -3,7 +3,7 @@ use Rattle.std.proofs.Common.{◌≡◌, ℕ, Some, option_map, List, refl, sym,
 use Rattle.os9_base.specs.declared.registers.Pid.{Pid}
 use Rattle.os9_outer.specs.TerminalState.{TerminalState}
 use Rattle.proc_rules.specs.Records.{IsLiving, IsProcess}
-use Rattle.call_rules.specs.Inner.{Inner}
+use Rattle.call_rules.specs.Processes.{Processes}
 use Rattle.call_rules.specs.Ready.{Act as MachineAct, act_of}
 use Rattle.file_rules.specs.Files.{Files}
 use Rattle.file_state.specs.Tie.{StandsFor}
@@ -46,28 +46,28 @@ module _ (old : Kernel) (p : Pid) (act : Act) (next : DoesNext old p act) (befor
   pub clock-is : s.clock ≡ old.clock
   clock-is = ap (λ (s : State). s.clock) tied.is
 
-  pub lives-there : IsLiving s.inner.records p.0
-  lives-there = subst (λ (m : Inner). IsLiving m.records p.0) (sym tied.inner.is) next.lives
+  pub lives-there : IsLiving s.processes.records p.0
+  lives-there = subst (λ (m : Processes). IsLiving m.records p.0) (sym tied.processes.is) next.lives
 
-  pub acts-so : act_of s.inner p.0 ≡ act_in_machine act
-  acts-so = act-tied old.processes s.inner tied.inner p.0 ∙ next.next
+  pub acts-so : act_of s.processes p.0 ≡ act_in_machine act
+  acts-so = act-tied old.processes s.processes tied.processes p.0 ∙ next.next
 
   -- what it costs
   pub cost-is : cost s ≡ cost_of (act_in_machine act)
   cost-is = rw (chosen-is, acts-so) refl
 
   -- the kernel then, with this clock and these terminals
-  pub represents-then : (new : Kernel) → IsLooked new → IsKnown new → (after : Outside) (inner : Inner) (files : Files) (clock : Clock)
-      (terms : List TerminalState) → new.chosen ≡ old.chosen → RepresentsProcesses new.processes inner
+  pub represents-then : (new : Kernel) → IsLooked new → IsKnown new → (after : Outside) (processes : Processes) (files : Files) (clock : Clock)
+      (terms : List TerminalState) → new.chosen ≡ old.chosen → RepresentsProcesses new.processes processes
       → StandsFor new.files after.drives files → clock ≡ new.clock → terms ≡ after.terms
-      → IsRunOpen (record s { inner = inner; files = files; clock = clock; terms = terms }) → Represents new after
-      (record s { inner = inner; files = files; clock = clock; terms = terms })
-  represents-then new looked known after inner files clock terms same there stands clock_is terms_are open_then = record {
-    inner = there;
+      → IsRunOpen (record s { processes = processes; files = files; clock = clock; terms = terms }) → Represents new after
+      (record s { processes = processes; files = files; clock = clock; terms = terms })
+  represents-then new looked known after processes files clock terms same there stands clock_is terms_are open_then = record {
+    processes = there;
     files = stands;
     is =
         λ i. record {
-          inner = inner;
+          processes = processes;
           files = files;
           clock = clock_is i;
           chosen = (chosen-is ∙ sym (ap (option_map (λ (p : Pid). p.0)) (same ∙ next.chosen))) i;
@@ -78,29 +78,29 @@ module _ (old : Kernel) (p : Pid) (act : Act) (next : DoesNext old p act) (befor
     known = known;
   }
 
-  pub event-then : (new : Kernel) (after : Outside) (end : EventEnd) (inner : Inner) (files : Files) (clock : Clock)
-      (terms : List TerminalState) → new.chosen ≡ old.chosen → RepresentsProcesses new.processes inner
+  pub event-then : (new : Kernel) (after : Outside) (end : EventEnd) (processes : Processes) (files : Files) (clock : Clock)
+      (terms : List TerminalState) → new.chosen ≡ old.chosen → RepresentsProcesses new.processes processes
       → StandsFor new.files after.drives files → clock ≡ new.clock → terms ≡ after.terms
-      → (Event s end (record s { inner = inner; files = files; clock = clock; terms = terms }) → IsKnown new)
-      → Acts (act_in_machine act) s p.0 end (record s { inner = inner; files = files; clock = clock; terms = terms })
+      → (Event s end (record s { processes = processes; files = files; clock = clock; terms = terms }) → IsKnown new)
+      → Acts (act_in_machine act) s p.0 end (record s { processes = processes; files = files; clock = clock; terms = terms })
       → (t : State) × Event s end t
       × Represents (looks_again new) after t
-  event-then new after end inner files clock terms same there stands clock_is terms_are known acts =
-      let t : State = record s { inner = inner; files = files; clock = clock; terms = terms } in
+  event-then new after end processes files clock terms same there stands clock_is terms_are known acts =
+      let t : State = record s { processes = processes; files = files; clock = clock; terms = terms } in
       let event : Event s end t = (p.0, chosen-is, lives-there, subst (λ (a : MachineAct). Acts a s p.0 end t) (sym acts-so) acts) in
-      (t, event, represents-then (looks_again new) (never-looked new) (known event) after inner files clock terms same there stands clock_is terms_are (event-open s t end event tied.run))
+      (t, event, represents-then (looks_again new) (never-looked new) (known event) after processes files clock terms same there stands clock_is terms_are (event-open s t end event tied.run))
 
   -- where the clock and the devices are as they were
-  pub represents-here : (new : Kernel) → IsLooked new → IsKnown new → (inner : Inner) (files : Files) → new.chosen ≡ old.chosen
-      → new.clock ≡ old.clock → RepresentsProcesses new.processes inner → StandsFor new.files before.drives files
-      → IsRunOpen (record s { inner = inner; files = files }) → Represents new before
-      (record s { inner = inner; files = files })
-  represents-here new looked known inner files same clock there stands open_then =
-      represents-then new looked known before inner files s.clock s.terms same there stands (clock-is ∙ sym clock) terms-are open_then
+  pub represents-here : (new : Kernel) → IsLooked new → IsKnown new → (processes : Processes) (files : Files) → new.chosen ≡ old.chosen
+      → new.clock ≡ old.clock → RepresentsProcesses new.processes processes → StandsFor new.files before.drives files
+      → IsRunOpen (record s { processes = processes; files = files }) → Represents new before
+      (record s { processes = processes; files = files })
+  represents-here new looked known processes files same clock there stands open_then =
+      represents-then new looked known before processes files s.clock s.terms same there stands (clock-is ∙ sym clock) terms-are open_then
 
-  pub event-here : (new : Kernel) (end : EventEnd) (inner : Inner) (files : Files) → new.chosen ≡ old.chosen
-      → new.clock ≡ old.clock → RepresentsProcesses new.processes inner → StandsFor new.files before.drives files
-      → IsKnown new → Acts (act_in_machine act) s p.0 end (record s { inner = inner; files = files }) → (t : State) × Event s end t
+  pub event-here : (new : Kernel) (end : EventEnd) (processes : Processes) (files : Files) → new.chosen ≡ old.chosen
+      → new.clock ≡ old.clock → RepresentsProcesses new.processes processes → StandsFor new.files before.drives files
+      → IsKnown new → Acts (act_in_machine act) s p.0 end (record s { processes = processes; files = files }) → (t : State) × Event s end t
       × Represents (looks_again new) before t
-  event-here new end inner files same clock there stands known acts =
-      event-then new before end inner files s.clock s.terms same there stands (clock-is ∙ sym clock) terms-are (λ event. known) acts
+  event-here new end processes files same clock there stands known acts =
+      event-then new before end processes files s.clock s.terms same there stands (clock-is ∙ sym clock) terms-are (λ event. known) acts

@@ -8,9 +8,9 @@ use Rattle.call_rules.specs.Ready.{attempts, act_of}
 use Rattle.lock_model.specs.Locks.{request_of}
 use Rattle.lock_model.specs.Records.{Records}
 use Rattle.lock_model.specs.declared.lock.Request.{Request}
-use Rattle.io_model.specs.declared.kept.Kept.{Kept}
+use Rattle.io_model.specs.declared.pending.PendingCall.{PendingCall}
 use Rattle.io_rules.specs.Codes.{io_call_of}
-use Rattle.io_rules.specs.Io.{Io, kept_at}
+use Rattle.io_rules.specs.Io.{Io, pending_at}
 use Rattle.io_rules.specs.declared.io_call.IoCall.{IoCall}
 use Rattle.io_dispatch.proofs.RunningCalls.{may-attempt}
 use Rattle.call_laws.proofs.Codes.{attempts-code}
@@ -21,7 +21,7 @@ use Rattle.file_laws.specs.Devices.{device_call}
 use Rattle.file_dispatch.specs.Attempts.{MayAttempt, MayAttemptAs}
 use Rattle.file_rules.specs.Codes.{path_call_of}
 use Rattle.file_rules.specs.declared.path_call.PathCall.{PathCall}
-use Rattle.file_state.specs.Asking.{IsKeptRequest, KeepsRequest}
+use Rattle.file_state.specs.Asking.{IsPendingRequest, KeepsRequest}
 use Rattle.file_state.specs.declared.state.FileState.{FileState}
 use Rattle.machine_model.specs.State.{State}
 use Rattle.wait_laws.specs.Running.{IsRunning}
@@ -32,16 +32,16 @@ use Rattle.os9_kernel.specs.Outside.{Outside}
 use Rattle.os9_kernel.specs.Tie.{Represents as RepresentsState}
 use Rattle.os9_kernel.proofs.Acting.{acts-so, terms-are}
 
-module _ (s : State) (p code : ℕ) (call : PathCall) (running : IsRunning s) (next : act_of s.inner p ≡ attempts code) (coded : path_call_of code ≡ Some call) where
+module _ (s : State) (p code : ℕ) (call : PathCall) (running : IsRunning s) (next : act_of s.processes p ≡ attempts code) (coded : path_call_of code ≡ Some call) where
   -- nothing is kept of a call that is for files alone
-  none-kept : device_call call ≡ None → kept_at s.files.io p ≡ None
-  none-kept alone = by_kept (kept_at s.files.io p) refl
+  none-kept : device_call call ≡ None → pending_at s.files.io p ≡ None
+  none-kept alone = by_kept (pending_at s.files.io p) refl
     where
-      by_kept : (place : Option Kept) → kept_at s.files.io p ≡ place → place ≡ None
+      by_kept : (place : Option PendingCall) → pending_at s.files.io p ≡ place → place ≡ None
       by_kept None at = refl
       by_kept (Some kept) at =
           let it = running.kept p kept at in
-          let same : code ≡ kept.code = same_Some code kept.code (sym (attempts-code s.inner p code next) ∙ it.made) in
+          let same : code ≡ kept.code = same_Some code kept.code (sym (attempts-code s.processes p code next) ∙ it.made) in
           let here : io_call_of code ≡ Some it.call = subst (λ (c : ℕ). io_call_of c ≡ Some it.call) (sym same) it.again.code in
           absurd (none-some it.call (sym alone ∙ sym (code-there code call coded) ∙ here))
 
@@ -49,12 +49,12 @@ module _ (s : State) (p code : ℕ) (call : PathCall) (running : IsRunning s) (n
   kept-request : KeepsRequest s.files.io s.files.records.locks p
   kept-request = by_request (request_of s.files.records.locks p) refl
     where
-      by_request : (request : Option Request) → request_of s.files.records.locks p ≡ request → IfSome request (IsKeptRequest s.files.io p)
+      by_request : (request : Option Request) → request_of s.files.records.locks p ≡ request → IfSome request (IsPendingRequest s.files.io p)
       by_request None is = tt
       by_request (Some request) is =
           let it = running.requested p request is in record { kept = it.kept; owner = it.owner; covers = it.covers }
 
-  pub may-attempt-call : (processes : ProcState) (state : FileState) → p < 33 → Represents processes s.inner
+  pub may-attempt-call : (processes : ProcState) (state : FileState) → p < 33 → Represents processes s.processes
       → s.files.io ≡ state.io → s.files.records ≡ state.records → MayAttempt call processes state p (length s.terms)
   may-attempt-call processes state process tied same records = record {
     attempt =
@@ -67,7 +67,7 @@ module _ (s : State) (p code : ℕ) (call : PathCall) (running : IsRunning s) (n
       by_device : (device : Option IoCall) → device_call call ≡ device → MayAttemptAs device processes s.files.io p (length s.terms)
       by_device None is = none-kept is
       by_device (Some device) is =
-          may-attempt processes s.inner s.files.io (length s.terms) p code device process tied running.kept running.on next (code-there code call coded ∙ is)
+          may-attempt processes s.processes s.files.io (length s.terms) p code device process tied running.kept running.on next (code-there code call coded ∙ is)
 
 -- the process may attempt its call
 pub may-attempt-here : (old : Kernel) (p : Pid) (code : ℕ) → DoesNext old p (Attempt code) → (before : Outside)
@@ -76,4 +76,4 @@ pub may-attempt-here : (old : Kernel) (p : Pid) (code : ℕ) → DoesNext old p 
 may-attempt-here old p code next before s tied call is_call =
     subst (λ (terms : List TerminalState). MayAttempt call old.processes old.files p.0 (length terms)) (terms-are old p (Attempt code) next before s tied)
     (may-attempt-call s p.0 code call tied.run.locked.state.running (acts-so old p (Attempt code) next before s tied)
-    is_call old.processes old.files next.process.1 tied.inner tied.files.io tied.files.records)
+    is_call old.processes old.files next.process.1 tied.processes tied.files.io tied.files.records)

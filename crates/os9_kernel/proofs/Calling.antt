@@ -6,7 +6,7 @@ use Rattle.proc_rules.specs.declared.record.Record.{Record}
 use Rattle.proc_rules.specs.Records.{IsLiving}
 use Rattle.call_rules.specs.Attempts.{attempt_end, after_attempt, done_regs, refused_regs, goes_on}
 use Rattle.call_rules.specs.CallResult.{CallResult, done, refused, waits, ends}
-use Rattle.call_rules.specs.Inner.{Inner, regs_at}
+use Rattle.call_rules.specs.Processes.{Processes, regs_at}
 use Rattle.file_rules.specs.Files.{Files}
 use Rattle.proc_calls.specs.Telling.{LivesOn}
 use Rattle.event_rules.specs.declared.ends.EventEnd.TheVariants.{Ran, NoMemory}
@@ -28,7 +28,7 @@ never-wants (waits t) is = cc
 never-wants (ends status) is = cc
 
 -- a call behind which its process goes on
-pub goes-on : (result : CallResult) → event_end_of (attempt_end result) ≡ Ran → (m : Inner) (p : ℕ) → (t : Inner) × (regs : Regs) × (after_attempt m p result ≡ goes_on t p regs)
+pub goes-on : (result : CallResult) → event_end_of (attempt_end result) ≡ Ran → (m : Processes) (p : ℕ) → (t : Processes) × (regs : Regs) × (after_attempt m p result ≡ goes_on t p regs)
 goes-on (done t) is m p = (t, done_regs (regs_at t p), refl)
 goes-on (refused number) is m p = (m, refused_regs (regs_at m p) number, refl)
 goes-on (waits t) is m p = cc

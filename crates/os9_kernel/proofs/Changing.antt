@@ -57,9 +57,9 @@ keeps-step step asker files end before after drive kept unasked =
 -- an attempt of a call on a path
 module _ (old : Kernel) (p : Pid) (code : ℕ) (next : DoesNext old p (Attempt code)) (before : Outside) (s : State)
     (tied : Represents old before s) (call : PathCall) (serves : service_of code ≡ on_paths call) (now : TimePacket)
-    (is_now : IsNow s.clock s.inner.tick now) where
+    (is_now : IsNow s.clock s.processes.tick now) where
   abbrev step : FileStep
-  step = file_step call (asker_of s.inner p.0 now) s.files (length before.terms)
+  step = file_step call (asker_of s.processes p.0 now) s.files (length before.terms)
 
   asks : (drive : ℕ) (change : VolumeChange) → drive_of step ≡ Some drive → deed_of step s.files ≡ changes change → AsksToChange drive s
   asks drive change reached deed = record {
@@ -72,16 +72,16 @@ module _ (old : Kernel) (p : Pid) (code : ℕ) (next : DoesNext old p (Attempt c
     now = now;
     is_now = is_now;
     step = step;
-    step_is = ap (λ (terms : List TerminalState). file_step call (asker_of s.inner p.0 now) s.files (length terms)) (sym (terms-are old p (Attempt code) next before s tied));
+    step_is = ap (λ (terms : List TerminalState). file_step call (asker_of s.processes p.0 now) s.files (length terms)) (sym (terms-are old p (Attempt code) next before s tied));
     reached = reached;
     change = change;
     deed = deed;
   }
 
-  pub keeps-attempt : (end : CallEnd) (after : Outside) (drive : ℕ) → KeepsDrives step (asker_of s.inner p.0 now) s.files end before.drives after.drives → ¬ AsksToChange drive s
+  pub keeps-attempt : (end : CallEnd) (after : Outside) (drive : ℕ) → KeepsDrives step (asker_of s.processes p.0 now) s.files end before.drives after.drives → ¬ AsksToChange drive s
       → media_at after.drives drive ≡ media_at before.drives drive
   keeps-attempt end after drive kept unasked =
-      keeps-step step (asker_of s.inner p.0 now) s.files end before.drives after.drives drive kept (λ change reached deed. unasked (asks drive change reached deed))
+      keeps-step step (asker_of s.processes p.0 now) s.files end before.drives after.drives drive kept (λ change reached deed. unasked (asks drive change reached deed))
 
 -- ---- many events
 

@@ -6,7 +6,7 @@ use Rattle.os9_base.specs.declared.registers.Regs.{Regs}
 use Rattle.proc_model.specs.Memory.{MemoryState}
 use Rattle.proc_rules.specs.declared.record.Record.{Record}
 use Rattle.proc_rules.specs.Records.{IsLiving, record_at, record_passes, has_ended, with_record, with_regs}
-use Rattle.call_rules.specs.Inner.{Inner, regs_at, with_memory, with_regs_of}
+use Rattle.call_rules.specs.Processes.{Processes, regs_at, with_memory, with_regs_of}
 pub use Rattle.call_laws.proofs.OthersKept.{living-record, living-within, record-put}
 
 module _ (records : List (Option Record)) (p : ℕ) (lives : IsLiving records p) where
@@ -37,16 +37,16 @@ module _ (records : List (Option Record)) (p : ℕ) (lives : IsLiving records p)
       ∙ sym (ap (λ place. record_passes (λ r. not (has_ended r.life)) place) (living-record records p lives)) ∙ lives
 
 -- the processes with this memory, and these registers of one
-abbrev pub inner_at : Inner → ℕ → MemoryState → Regs → Inner
-inner_at m p memory regs = with_regs_of (with_memory m memory) p regs
+abbrev pub processes_at : Processes → ℕ → MemoryState → Regs → Processes
+processes_at m p memory regs = with_regs_of (with_memory m memory) p regs
 
-module _ (m : Inner) (p : ℕ) (lives : IsLiving m.records p) where
-  pub inner_at-same : inner_at m p m.memory (regs_at m p) ≡ m
-  inner_at-same = ap (λ (records : List (Option Record)). record m { records = records }) (regs-same m.records p lives)
+module _ (m : Processes) (p : ℕ) (lives : IsLiving m.records p) where
+  pub processes_at-same : processes_at m p m.memory (regs_at m p) ≡ m
+  processes_at-same = ap (λ (records : List (Option Record)). record m { records = records }) (regs-same m.records p lives)
 
-  pub inner_at-then : (memory next : MemoryState) (regs last : Regs) → inner_at (inner_at m p memory regs) p next last ≡ inner_at m p next last
-  inner_at-then memory next regs last =
+  pub processes_at-then : (memory next : MemoryState) (regs last : Regs) → processes_at (processes_at m p memory regs) p next last ≡ processes_at m p next last
+  processes_at-then memory next regs last =
       ap (λ (records : List (Option Record)). record m { memory = next; records = records }) (regs-twice m.records p lives regs last)
 
-  pub inner_at-regs : (memory : MemoryState) (regs : Regs) → regs_at (inner_at m p memory regs) p ≡ regs
-  inner_at-regs memory regs = regs-set m.records p lives regs
+  pub processes_at-regs : (memory : MemoryState) (regs : Regs) → regs_at (processes_at m p memory regs) p ≡ regs
+  processes_at-regs memory regs = regs-set m.records p lives regs

@@ -31,23 +31,23 @@ leaves-drives old before after same s now tied is =
 -- an attempt by its call, at a time
 module _ (old : Kernel) (p : Pid) (code : ℕ) (next : DoesNext old p (Attempt code)) (before : Outside) (s : State)
     (tied : Represents old before s) (service : Service) (serves : service_of code ≡ service) where
-  attempt-calls : (now : TimePacket) → event_calls s now ≡ service_calls service s.inner p.0 now s.files (length before.terms)
+  attempt-calls : (now : TimePacket) → event_calls s now ≡ service_calls service s.processes p.0 now s.files (length before.terms)
   attempt-calls now =
-      ap (λ (chosen : Option ℕ). option_map_or (λ (q : ℕ). act_calls (act_of s.inner q) s q now) chosen 0) (chosen-is old p (Attempt code) next before s tied)
+      ap (λ (chosen : Option ℕ). option_map_or (λ (q : ℕ). act_calls (act_of s.processes q) s q now) chosen 0) (chosen-is old p (Attempt code) next before s tied)
       ∙ ap (λ (act : MachineAct). act_calls act s p.0 now) (acts-so old p (Attempt code) next before s tied)
-      ∙ ap (λ (service : Service). service_calls service s.inner p.0 now s.files (length s.terms)) serves
-      ∙ ap (λ (terms : List TerminalState). service_calls service s.inner p.0 now s.files (length terms)) (terms-are old p (Attempt code) next before s tied)
+      ∙ ap (λ (service : Service). service_calls service s.processes p.0 now s.files (length s.terms)) serves
+      ∙ ap (λ (terms : List TerminalState). service_calls service s.processes p.0 now s.files (length terms)) (terms-are old p (Attempt code) next before s tied)
 
-  pub attempt-within : (now : TimePacket) (after : Outside) → CalledAtMost (service_calls service s.inner p.0 now
+  pub attempt-within : (now : TimePacket) (after : Outside) → CalledAtMost (service_calls service s.processes p.0 now
       s.files (length before.terms)) before.drives after.drives → CalledAtMost (event_calls s now) before.drives
       after.drives
   attempt-within now after calls =
       subst (λ (most : ℕ). CalledAtMost most before.drives after.drives) (sym (attempt-calls now)) calls
 
   -- at the time that it is
-  pub attempt-within-at : (time now : TimePacket) (after : Outside) → IsNow s.clock s.inner.tick time
-      → IsNow s.clock s.inner.tick now → CalledAtMost (service_calls service s.inner p.0 time s.files
+  pub attempt-within-at : (time now : TimePacket) (after : Outside) → IsNow s.clock s.processes.tick time
+      → IsNow s.clock s.processes.tick now → CalledAtMost (service_calls service s.processes p.0 time s.files
       (length before.terms)) before.drives after.drives → CalledAtMost (event_calls s now) before.drives after.drives
   attempt-within-at time now after is_time is_now calls =
-      let same : time ≡ now = same-packet s.clock.from (seconds_since s.clock s.inner.tick) time now is_time is_now in
-      attempt-within now after (subst (λ (now : TimePacket). CalledAtMost (service_calls service s.inner p.0 now s.files (length before.terms)) before.drives after.drives) same calls)
+      let same : time ≡ now = same-packet s.clock.from (seconds_since s.clock s.processes.tick) time now is_time is_now in
+      attempt-within now after (subst (λ (now : TimePacket). CalledAtMost (service_calls service s.processes p.0 now s.files (length before.terms)) before.drives after.drives) same calls)

@@ -13,7 +13,7 @@ use Rattle.proc_rules.specs.Records.{record_at, is_waiting, with_regs}
 use Rattle.proc_rules.specs.Signals.{with_signal}
 use Rattle.call_rules.specs.Attempts.{goes_on}
 use Rattle.call_rules.specs.Delivery.{delivered, after_delivery, interrupted, routine_regs, interrupted_regs, with_frame, routine_begun, has_no_room, stack_top}
-use Rattle.call_rules.specs.Inner.{Inner, no_own, own_at, regs_at, with_records}
+use Rattle.call_rules.specs.Processes.{Processes, no_own, own_at, regs_at, with_records}
 use Rattle.call_rules.specs.Ready.{next_act, delivers}
 use Rattle.proc_state.specs.Delivery.{delivery_end as call_end}
 use Rattle.file_rules.specs.Files.{Files}
@@ -27,31 +27,31 @@ use Rattle.event_rules.proofs.Ticks.{ended-tick}
 
 -- ---- how a delivery ends
 
-pub ends-so : (d : Result Inner ℕ) (end : CallEnd) → end ≡ call_end d → end ≡ CallEnd.Ended → Ended ≡ delivery_end d
+pub ends-so : (d : Result Processes ℕ) (end : CallEnd) → end ≡ call_end d → end ≡ CallEnd.Ended → Ended ≡ delivery_end d
 ends-so (Ok t) end is ended = let no : CallEnd.Done ≡ CallEnd.Ended = sym is ∙ ended in cc
 ends-so (Err status) end is ended = refl
 
-pub goes-so : (d : Result Inner ℕ) (end : CallEnd) → end ≡ call_end d → end ≢ CallEnd.Ended → Ran ≡ delivery_end d
+pub goes-so : (d : Result Processes ℕ) (end : CallEnd) → end ≡ call_end d → end ≢ CallEnd.Ended → Ran ≡ delivery_end d
 goes-so (Ok t) end is other = refl
 goes-so (Err status) end is other = absurd (other is)
 
-pub done-so : (d : Result Inner ℕ) (end : CallEnd) → end ≡ call_end d → end ≢ CallEnd.Ended → (end ≡ CallEnd.Done) × ((t : Inner) × (d ≡ Ok t))
+pub done-so : (d : Result Processes ℕ) (end : CallEnd) → end ≡ call_end d → end ≢ CallEnd.Ended → (end ≡ CallEnd.Done) × ((t : Processes) × (d ≡ Ok t))
 done-so (Ok t) end is other = (is, (t, refl))
 done-so (Err status) end is other = absurd (other is)
 
 -- files where the process has ended
-pub files-ended-so : (d : Result Inner ℕ) (end : CallEnd) → end ≡ call_end d → end ≡ CallEnd.Ended → (files : Files) (p : ℕ) → files_ended files p ≡ files_after_delivery files p d
+pub files-ended-so : (d : Result Processes ℕ) (end : CallEnd) → end ≡ call_end d → end ≡ CallEnd.Ended → (files : Files) (p : ℕ) → files_ended files p ≡ files_after_delivery files p d
 files-ended-so (Ok t) end is ended files p = let no : CallEnd.Done ≡ CallEnd.Ended = sym is ∙ ended in cc
 files-ended-so (Err status) end is ended files p = refl
 
 -- and where its routine has begun
-pub files-goes-so : (d : Result Inner ℕ) (end : CallEnd) → end ≡ call_end d → end ≢ CallEnd.Ended → (files : Files) (p : ℕ) → files_interrupted files p ≡ files_after_delivery files p d
+pub files-goes-so : (d : Result Processes ℕ) (end : CallEnd) → end ≡ call_end d → end ≢ CallEnd.Ended → (files : Files) (p : ℕ) → files_interrupted files p ≡ files_after_delivery files p d
 files-goes-so (Ok t) end is other files p = refl
 files-goes-so (Err status) end is other files p = absurd (other is)
 
 -- ---- a call that is broken off
 
-module _ (m : Inner) (p : ℕ) where
+module _ (m : Processes) (p : ℕ) where
   pub broken-tick : (count : Option ℕ) → (broken_off m p count).tick ≡ m.tick
   broken-tick None = refl
   broken-tick (Some count) = refl
@@ -87,13 +87,13 @@ call-is (Some code) (Some other) true sig is not = cc
 call-is (Some code) (Some other) false sig is not = cc
 
 -- a process has neither a call nor a signal
-pub record Quiet (m : Inner) (p : ℕ) : Type 0 where
+pub record Quiet (m : Processes) (p : ℕ) : Type 0 where
   pub call : (own_at m p).call ≡ None
   pub signal : (record_at m.records p).signal ≡ None
   pub within : p < length m.records
 
-module _ (m : Inner) (p : ℕ) (within : p < length m.records) (inside : p < length m.own) (no_call : is_waiting (record_at m.records p).life ≡ false → (own_at m p).call ≡ None) where
-  abbrev taken : Inner
+module _ (m : Processes) (p : ℕ) (within : p < length m.records) (inside : p < length m.own) (no_call : is_waiting (record_at m.records p).life ≡ false → (own_at m p).call ≡ None) where
+  abbrev taken : Processes
   taken = with_records m (with_signal m.records p None)
 
   taken-signal : (record_at taken.records p).signal ≡ None
@@ -121,7 +121,7 @@ module _ (m : Inner) (p : ℕ) (within : p < length m.records) (inside : p < len
       by_waits true is = after-wait (interrupted_regs m p signal)
       by_waits false is = record { call = no_call is; signal = taken-signal; within = taken-within }
 
-  framed-quiet : (s : Inner) (intercept : Intercept) (signal : ℕ) (regs : Regs) (frame : ℕ) → Quiet s p → Quiet (with_frame s p intercept signal regs frame) p
+  framed-quiet : (s : Processes) (intercept : Intercept) (signal : ℕ) (regs : Regs) (frame : ℕ) → Quiet s p → Quiet (with_frame s p intercept signal regs frame) p
   framed-quiet s intercept signal regs frame quiet =
       let last : Record = record (record_at s.records p) { regs = routine_regs regs intercept signal frame } in
       record {
@@ -130,26 +130,26 @@ module _ (m : Inner) (p : ℕ) (within : p < length m.records) (inside : p < len
         within = omega (arith, quiet.within, length-set s.records p (Some last));
       }
 
-  begun-quiet : (intercept : Intercept) (signal : ℕ) (t : Inner) → routine_begun m p intercept signal ≡ Ok t → Quiet t p
+  begun-quiet : (intercept : Intercept) (signal : ℕ) (t : Processes) → routine_begun m p intercept signal ≡ Ok t → Quiet t p
   begun-quiet intercept signal t is = by_room (has_no_room m p (stack_top (regs_at m p).s)) is
     where
-      begun : Inner
+      begun : Processes
       begun = with_frame (interrupted m p signal) p intercept signal (interrupted_regs m p signal) (stack_top (regs_at m p).s - 12)
 
       by_room : (full : Bool) → (if full then Err E_PRCABT else Ok begun) ≡ Ok t → Quiet t p
       by_room true is = cc
       by_room false is =
           let same : begun ≡ t = cc in
-          subst (λ (x : Inner). Quiet x p) same (framed-quiet (interrupted m p signal) intercept signal (interrupted_regs m p signal) (stack_top (regs_at m p).s - 12) (interrupted-quiet signal))
+          subst (λ (x : Processes). Quiet x p) same (framed-quiet (interrupted m p signal) intercept signal (interrupted_regs m p signal) (stack_top (regs_at m p).s - 12) (interrupted-quiet signal))
 
-  pub delivered-quiet : (signal : ℕ) (t : Inner) → delivered m p signal ≡ Ok t → Quiet t p
+  pub delivered-quiet : (signal : ℕ) (t : Processes) → delivered m p signal ≡ Ok t → Quiet t p
   delivered-quiet signal t is = by_intercept (record_at m.records p).intercept is
     where
       by_zero : (intercept : Intercept) (zero : Bool) → (if zero then Err signal else routine_begun m p intercept signal) ≡ Ok t → Quiet t p
       by_zero intercept true is = cc
       by_zero intercept false is = begun-quiet intercept signal t is
 
-      of_intercept : Option Intercept → Result Inner ℕ
+      of_intercept : Option Intercept → Result Processes ℕ
       of_intercept None = Err signal
       of_intercept (Some intercept) = if signal == 0 then Err signal else routine_begun m p intercept signal
 
@@ -159,7 +159,7 @@ module _ (m : Inner) (p : ℕ) (within : p < length m.records) (inside : p < len
 
 -- ---- the tick
 
-interrupted-tick : (m : Inner) (p signal : ℕ) → (interrupted m p signal).tick ≡ m.tick
+interrupted-tick : (m : Processes) (p signal : ℕ) → (interrupted m p signal).tick ≡ m.tick
 interrupted-tick m p signal = by_waits (is_waiting (record_at m.records p).life)
   where
     by_waits : (waits : Bool) → (if waits then goes_on (with_records m (with_signal m.records p None)) p (interrupted_regs m p signal) else with_records m (with_signal m.records p None)).tick ≡ m.tick
@@ -167,10 +167,10 @@ interrupted-tick m p signal = by_waits (is_waiting (record_at m.records p).life)
     by_waits false = refl
 
 -- a delivery leaves the tick
-pub delivery-tick : (m : Inner) (p signal : ℕ) → (after_delivery m p (delivered m p signal)).tick ≡ m.tick
+pub delivery-tick : (m : Processes) (p signal : ℕ) → (after_delivery m p (delivered m p signal)).tick ≡ m.tick
 delivery-tick m p signal = by_intercept (record_at m.records p).intercept
   where
-    begun : Intercept → Inner
+    begun : Intercept → Processes
     begun intercept = with_frame (interrupted m p signal) p intercept signal (interrupted_regs m p signal) (stack_top (regs_at m p).s - 12)
 
     by_room : (intercept : Intercept) (full : Bool) → (after_delivery m p (if full then Err E_PRCABT else Ok (begun intercept))).tick ≡ m.tick
@@ -181,7 +181,7 @@ delivery-tick m p signal = by_intercept (record_at m.records p).intercept
     by_zero intercept true = ended-tick m p signal
     by_zero intercept false = by_room intercept (has_no_room m p (stack_top (regs_at m p).s))
 
-    of_intercept : Option Intercept → Result Inner ℕ
+    of_intercept : Option Intercept → Result Processes ℕ
     of_intercept None = Err signal
     of_intercept (Some intercept) = if signal == 0 then Err signal else routine_begun m p intercept signal
 

@@ -6,7 +6,7 @@ use Rattle.std.proofs.lemmas.List.{set-set}
 use Rattle.os9_base.specs.declared.registers.Pid.{Pid}
 use Rattle.io_model.specs.Path.{closed_desc, paths_after_close, slot_of}
 use Rattle.io_model.specs.Terminal.{Terminal, forgotten, is_process, new_terminal, reader, released, without_reading}
-use Rattle.io_model.specs.declared.kept.Kept.{Kept}
+use Rattle.io_model.specs.declared.pending.PendingCall.{PendingCall}
 use Rattle.io_model.specs.declared.path.Desc.{Desc}
 use Rattle.io_model.specs.declared.path.SysPath.{SysPath}
 use Rattle.io_model.specs.declared.path.Target.{Target}
@@ -20,10 +20,10 @@ use Rattle.io_rules.specs.Waiting.{io_interrupted, pid, wait_target, without_unf
 -- ---- paths are closed whatever stands at the terminals and is kept of calls
 
 -- input and output with these terminals and these calls
-abbrev pub apart : Io → List Terminal → List (Option Kept) → Io
+abbrev pub apart : Io → List Terminal → List (Option PendingCall) → Io
 apart io terminals calls = record io { terminals = terminals; calls = calls }
 
-module _ (terminals : List Terminal) (calls : List (Option Kept)) where
+module _ (terminals : List Terminal) (calls : List (Option PendingCall)) where
   target-apart : (io : Io) (target : Target) → without_target (apart io terminals calls) target ≡ apart (without_target io target) terminals calls
   target-apart io (File drive sector) = refl
   target-apart io (Folder drive sector) = refl
@@ -77,7 +77,7 @@ map-one f g same (t ∷ terminals) (suc n) = ap (λ terminals. f t ∷ terminals
 
 module _ (io : Io) (p : ℕ) where
   -- the end with these terminals and these calls
-  end-apart : (terminals : List Terminal) (calls : List (Option Kept)) → map (forgotten (pid p)) terminals ≡ map
+  end-apart : (terminals : List Terminal) (calls : List (Option PendingCall)) → map (forgotten (pid p)) terminals ≡ map
       (forgotten (pid p)) io.terminals → slice_set calls p None ≡ slice_set io.calls p None
       → io_ended (apart io terminals calls) p ≡ io_ended io p
   end-apart terminals calls forgets keeps =

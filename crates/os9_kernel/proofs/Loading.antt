@@ -14,17 +14,17 @@ use Rattle.call_rules.specs.Attempts.{after_attempt}
 use Rattle.call_rules.specs.CallResult.{CallResult, done, refused, waits, ends}
 use Rattle.call_dispatch.specs.Waits.{waits_for}
 use Rattle.call_rules.specs.Codes.{call_of}
-use Rattle.call_rules.specs.Inner.{Inner, no_own, own_at, regs_at}
+use Rattle.call_rules.specs.Processes.{Processes, no_own, own_at, regs_at}
 use Rattle.call_rules.specs.declared.proc_call.ProcCall.{ProcCall}
 use Rattle.call_rules.specs.declared.proc_call.ProcCall.TheVariants as Call
 use Rattle.call_rules.specs.Link.{links_at, mapped_group}
-use Rattle.io_model.specs.declared.kept.Kept.{Kept}
-use Rattle.io_rules.specs.Io.{Io, kept_at}
+use Rattle.io_model.specs.declared.pending.PendingCall.{PendingCall}
+use Rattle.io_rules.specs.Io.{Io, pending_at}
 use Rattle.file_rules.specs.Locking.{call_wait}
 use Rattle.os9_sched.specs.Members.{member_of, wait_at}
 use Rattle.os9_sched.specs.declared.member.Wait.{Wait as Waiting}
 use Rattle.call_laws.proofs.OthersKept.{free-is, living-record}
-use Rattle.call_laws.specs.Kept.{AreKept}
+use Rattle.call_laws.specs.Pending.{ArePending}
 use Rattle.file_rules.specs.Attempts.{asker_of}
 use Rattle.file_rules.specs.Files.{Asker, Files}
 use Rattle.file_rules.specs.Load.{GoesOnLoaded, Loaded, LoadAttempts, links_first}
@@ -54,14 +54,14 @@ begun_on Fork left p result = files_after_fork left p result
 begun_on Chain left p result = left
 
 pub serves-load : (call : LoadCall) (s : State) (now : TimePacket) (p : ℕ) (result : CallResult) (left : Files)
-    → AttemptsLoad call s.inner (asker_of s.inner p now) s.files (length s.terms) p result left
+    → AttemptsLoad call s.processes (asker_of s.processes p now) s.files (length s.terms) p result left
     → Serves (load_in_machine call) s now p result (with_files s (begun_on call left p result))
 serves-load Load s now p result left it = (left, it, refl)
 serves-load Fork s now p result left it = (left, it, refl)
 serves-load Chain s now p result left it = (left, it, refl)
 
 -- the processes that a call leaves have the same tick
-pub load-tick : (call : LoadCall) (m : Inner) (asker : Asker) (old : Files) (terms p : ℕ) (result : CallResult)
+pub load-tick : (call : LoadCall) (m : Processes) (asker : Asker) (old : Files) (terms p : ℕ) (result : CallResult)
     (new : Files) → IsLiving m.records p → AttemptsLoad call m asker old terms p result new
     → (after_attempt m p result).tick ≡ m.tick
 load-tick Load m asker old terms p result new lives it = (load-over m asker old terms p result new it).tick
@@ -70,7 +70,7 @@ load-tick Fork m asker old terms p result new lives it =
 load-tick Chain m asker old terms p result new lives it = (chain-over m asker old terms p result new it).tick
 
 -- an attempt of the call that this one is
-pub loads-as : (call one : LoadCall) (m : Inner) (was : Files) (now : TimePacket) (terms p : ℕ) (end : CallEnd)
+pub loads-as : (call one : LoadCall) (m : Processes) (was : Files) (now : TimePacket) (terms p : ℕ) (end : CallEnd)
     (before after : Standing) → call ≡ one → LoadsSo one m was now terms p end before after → LoadsSo call m was now
     terms p end before after
 loads-as call one m was now terms p end before after is it =
@@ -78,26 +78,26 @@ loads-as call one m was now terms p end before after is it =
 
 -- ---- F$Load waits for nothing
 
-abbrev Anything : Inner → Type 0
+abbrev Anything : Processes → Type 0
 Anything t = Unit {0}
 
-links-answers : (m : Inner) (p : ℕ) (file : ProgramFile) (loaded : Loaded) → IsOver Anything (links_first m p file loaded)
+links-answers : (m : Processes) (p : ℕ) (file : ProgramFile) (loaded : Loaded) → IsOver Anything (links_first m p file loaded)
 links-answers m p file loaded =
     of-needs Anything (mapped_group loaded.memory p loaded.first.entry.group) E_MEMFUL _
     (λ mapped is. of-refuses Anything (nat_le MOST_LINKS (links_at (own_at m p) mapped.slot)) E_MEMFUL _ tt)
 
-goes-answers : (m : Inner) (p : ℕ) (reading : Result ProgramFile ℕ) (result : CallResult) → GoesOnLoaded m reading (links_first m p) result → IsOver Anything result
+goes-answers : (m : Processes) (p : ℕ) (reading : Result ProgramFile ℕ) (result : CallResult) → GoesOnLoaded m reading (links_first m p) result → IsOver Anything result
 goes-answers m p (Err number) result is = subst (IsOver Anything) (sym is) tt
 goes-answers m p (Ok file) result (Err number, loads, is) = subst (IsOver Anything) (sym is) tt
 goes-answers m p (Ok file) result (Ok loaded, loads, is) = subst (IsOver Anything) (sym is) (links-answers m p file loaded)
 
-answers-so : (m : Inner) (p : ℕ) (result : CallResult) (processes : ProcState) → IsOver Anything result → Comes m p result Wait processes → ⊥
+answers-so : (m : Processes) (p : ℕ) (result : CallResult) (processes : ProcState) → IsOver Anything result → Comes m p result Wait processes → ⊥
 answers-so m p (done t) processes over (end, there) = let no : Wait ≡ Done = end in cc
 answers-so m p (refused number) processes over (end, there) = let no : Wait ≡ Error number = end in cc
 answers-so m p (waits t) processes over told = over
 answers-so m p (ends status) processes over told = over
 
-load-answers : (m : Inner) (asker : Asker) (old : Files) (terms p : ℕ) (result : CallResult) (new : Files)
+load-answers : (m : Processes) (asker : Asker) (old : Files) (terms p : ℕ) (result : CallResult) (new : Files)
     (processes : ProcState) → LoadAttempts m asker old terms p result new → Comes m p result Wait processes → ⊥
 load-answers m asker old terms p result new processes it told =
     answers-so m p result processes (goes-answers m p it.reading result it.comes) told
@@ -105,19 +105,19 @@ load-answers m asker old terms p result new processes it told =
 -- ---- the child of F$Fork
 
 -- no call is kept of a process that does not live
-quiet-at : (m : Inner) (io : Io) → AreKept m io → (q : ℕ) → (IsLiving m.records q → ⊥) → (place : Option Kept) → kept_at io q ≡ place → place ≡ None
+quiet-at : (m : Processes) (io : Io) → ArePending m io → (q : ℕ) → (IsLiving m.records q → ⊥) → (place : Option PendingCall) → pending_at io q ≡ place → place ≡ None
 quiet-at m io kept q gone None is = refl
 quiet-at m io kept q gone (Some call) is = absurd (gone (kept q call is).lives)
 
-number-tied : (t : Inner) (p : ℕ) (processes : ProcState) → Represents processes t → number_in_a processes.table p ≡ (regs_at t p).a
-number-tied t p processes there = sym (ap (λ (m : Inner). number_in_a m.records p) there.is)
+number-tied : (t : Processes) (p : ℕ) (processes : ProcState) → Represents processes t → number_in_a processes.table p ≡ (regs_at t p).a
+number-tied t p processes there = sym (ap (λ (m : Processes). number_in_a m.records p) there.is)
 
-module _ (m : Inner) (io : Io) (p : ℕ) (processes : ProcState) (kept : AreKept m io) (long : length m.records ≡ 33) where
+module _ (m : Processes) (io : Io) (p : ℕ) (processes : ProcState) (kept : ArePending m io) (long : length m.records ≡ 33) where
   free-begins : (child : ℕ) → free_process m.records ≡ Some child → MayBegin io child
   free-begins child free =
       let place = free-is m.records child free in
       let gone : IsLiving m.records child → ⊥ = (λ lives. none-some (record_at m.records child) (sym place.none ∙ living-record m.records child lives)) in
-      record { process = omega (arith, place.within, long); quiet = quiet-at m io kept child gone (kept_at io child) refl }
+      record { process = omega (arith, place.within, long); quiet = quiet-at m io kept child gone (pending_at io child) refl }
 
   child-by : (result : CallResult) → IsOver (Child m p) result → Comes m p result Done processes → MayBegin io (number_in_a processes.table p)
   child-by (done t) child (end, there) =
@@ -127,8 +127,8 @@ module _ (m : Inner) (io : Io) (p : ℕ) (processes : ProcState) (kept : AreKept
   child-by (ends status) child told = absurd child
 
 -- it may begin
-pub child-begins : (call : LoadCall) (m : Inner) (was : Files) (now : TimePacket) (terms p : ℕ)
-    (before after : Standing) → AreKept m was.io → length m.records ≡ 33 → IsLiving m.records p → call ≡ Fork
+pub child-begins : (call : LoadCall) (m : Processes) (was : Files) (now : TimePacket) (terms p : ℕ)
+    (before after : Standing) → ArePending m was.io → length m.records ≡ 33 → IsLiving m.records p → call ≡ Fork
     → LoadsSo call m was now terms p Done before after → MayBegin after.files.io (number_in_a after.processes.table p)
 child-begins Load m was now terms p before after kept long lives is it = cc
 child-begins Fork m was now terms p before after kept long lives is it =
@@ -139,7 +139,7 @@ child-begins Fork m was now terms p before after kept long lives is it =
 child-begins Chain m was now terms p before after kept long lives is it = cc
 
 -- the files then are those of the machine
-fork-tied : (m : Inner) (p : ℕ) (left : Files) (processes : ProcState) (result : CallResult) (end : CallEnd)
+fork-tied : (m : Processes) (p : ℕ) (left : Files) (processes : ProcState) (result : CallResult) (end : CallEnd)
     → Comes m p result end processes → files_begun Fork end left p (number_in_a processes.table p) ≡ files_after_fork
     left p result
 fork-tied m p left processes (done t) end (is, there) =
@@ -152,7 +152,7 @@ fork-tied m p left processes (waits t) end (is, there) =
 fork-tied m p left processes (ends status) end (is, there) =
     ap (λ (end : CallEnd). files_begun Fork end left p (number_in_a processes.table p)) is
 
-pub begun-tied : (call : LoadCall) (m : Inner) (p : ℕ) (left : Files) (processes : ProcState) (result : CallResult)
+pub begun-tied : (call : LoadCall) (m : Processes) (p : ℕ) (left : Files) (processes : ProcState) (result : CallResult)
     (end : CallEnd) → Comes m p result end processes → files_begun call end left p (number_in_a processes.table p) ≡
     begun_on call left p result
 begun-tied Load m p left processes result end told = refl
@@ -162,7 +162,7 @@ begun-tied Chain m p left processes result end told = refl
 -- ---- what it waits for
 
 -- the calls that start a program wait for nothing that the scheduler has to know
-pub loads-rest : (call : LoadCall) (m : Inner) (was : Files) (now : TimePacket) (terms p : ℕ) (before after : Standing) → LoadsSo call m was now terms p Wait before after → call ≢ Load
+pub loads-rest : (call : LoadCall) (m : Processes) (was : Files) (now : TimePacket) (terms p : ℕ) (before after : Standing) → LoadsSo call m was now terms p Wait before after → call ≢ Load
 loads-rest Load m was now terms p before after it is =
     load-answers m (asker_of m p now) was terms p it.result it.left after.processes it.attempted it.comes
 loads-rest Fork m was now terms p before after it is = cc

@@ -11,7 +11,7 @@ use Rattle.proc_model.specs.Memory.{first_memory}
 use Rattle.proc_rules.specs.Ends.{ended_child}
 use Rattle.proc_rules.specs.Records.{IsLiving, is_living, is_waiting, record_at}
 use Rattle.proc_rules.specs.declared.own.Own.{Own}
-use Rattle.call_rules.specs.Inner.{Inner, no_own, own_at}
+use Rattle.call_rules.specs.Processes.{Processes, no_own, own_at}
 use Rattle.call_rules.specs.Ready.{is_ready, may_go_on}
 use Rattle.call_rules.specs.Send.{is_call}
 use Rattle.call_rules.specs.Sleep.{may_wake}
@@ -26,7 +26,7 @@ use Rattle.file_rules.specs.Locking.{call_wait, end_of_wait, files_may_go, reque
 use Rattle.file_state.specs.declared.state.FileState.{FileState}
 use Rattle.machine_model.specs.State.{State}
 use Rattle.proc_state.proofs.Living.{place-living}
-use Rattle.proc_state.specs.Tie.{inner_of}
+use Rattle.proc_state.specs.Tie.{processes_of}
 use Rattle.proc_state.specs.declared.state.ProcState.{ProcState}
 use Rattle.process_choice.specs.Active.{AreActiveAt}
 use Rattle.os9_kernel.specs.Causes.{awaited}
@@ -93,7 +93,7 @@ module _ (now tick until : ℕ) (from : now ≤ tick) (below : tick < until) whe
       by_end (Some end) ends =
           ap (λ (due : Bool). own.woken || due) (end-same end now tick from (λ later. omega (arith, ends later, below)))
 
-  go-same : (m : Inner) (p : ℕ) → m.tick ≡ now → EndsNotBefore now until (own_at m p).until → may_go_on m p ≡ may_go_on (record m { tick = tick }) p
+  go-same : (m : Processes) (p : ℕ) → m.tick ≡ now → EndsNotBefore now until (own_at m p).until → may_go_on m p ≡ may_go_on (record m { tick = tick }) p
   go-same m p is ends =
       let sleep : may_wake m.tick (own_at m p) ≡ may_wake tick (own_at m p) = ap (λ (t : ℕ). may_wake t (own_at m p)) is ∙ sleep-same (own_at m p) ends in
       ap (λ (due : Bool). (is_call (own_at m p).call F_WAIT && is_some (ended_child m.records p)) || (is_call (own_at m p).call F_SLEEP && due)) sleep
@@ -105,7 +105,7 @@ asked true waits signalled one other same = λ i. not waits || (signalled || sam
 asked false waits signalled one other same = refl
 
 -- who lives and may go on in one tick as in another
-ready-same : (io other : ℕ → Bool) (m : Inner) (tick p : ℕ)
+ready-same : (io other : ℕ → Bool) (m : Processes) (tick p : ℕ)
     → (IsLiving m.records p → (may_go_on m p || io p) ≡ (may_go_on (record m { tick = tick }) p || other p))
     → is_ready io m p ≡ is_ready other (record m { tick = tick }) p
 ready-same io other m tick p same =
@@ -114,7 +114,7 @@ ready-same io other m tick p same =
 
 -- the processes were settled now, by those that may go on now
 module _ (files : FileState) (processes : ProcState) (io : ℕ → Bool)
-    (active : (p : ℕ) → is_active_in processes.sched.members p ≡ is_ready io (inner_of processes (first_memory 0)) p)
+    (active : (p : ℕ) → is_active_in processes.sched.members p ≡ is_ready io (processes_of processes (first_memory 0)) p)
     (same : (p : ℕ) → p < 33 → io p ≡ may_go_in files processes.tick p) where
   few : (p : ℕ) → IsLiving processes.table p → p < 33
   few p lives =
@@ -123,7 +123,7 @@ module _ (files : FileState) (processes : ProcState) (io : ℕ → Bool)
 
   pub active-now : AreActiveAt (may_go_in files processes.tick) processes.tick processes
   active-now p =
-      let m : Inner = inner_of processes (first_memory 0) in
+      let m : Processes = processes_of processes (first_memory 0) in
       active p ∙ ready-same io (may_go_in files processes.tick) m processes.tick p
       (λ lives. ap (λ (go : Bool). may_go_on m p || go) (same p (few p lives)))
 
@@ -132,7 +132,7 @@ module _ (files : FileState) (processes : ProcState) (io : ℕ → Bool)
       → ((p : ℕ) → p < 33 → EndsNotBefore processes.tick until (option_and_then (λ (wait : Waiting). wait.until) (awaited files p)))
       → (tick : ℕ) → processes.tick ≤ tick → tick < until → AreActiveAt (may_go_in files tick) tick processes
   active-until until fits sleeps waits tick from below p =
-      let m : Inner = inner_of processes (first_memory 0) in
+      let m : Processes = processes_of processes (first_memory 0) in
       active p ∙ ready-same io (may_go_in files tick) m tick p (λ lives.
       let within = few p lives in
       let go = go-same processes.tick tick until from below m p refl (sleeps p within) in
@@ -142,14 +142,14 @@ module _ (files : FileState) (processes : ProcState) (io : ℕ → Bool)
 -- by the state that is represented
 pub active-there : (kernel : Kernel) (devices : Outside) (s : State) → Represents kernel devices s → (processes : ProcState)
     → AreActiveAt (may_go_in kernel.files (ticks kernel)) (ticks kernel) processes
-    → AreActiveAt (files_may_go s.files s.inner.tick) s.inner.tick processes
+    → AreActiveAt (files_may_go s.files s.processes.tick) s.processes.tick processes
 active-there kernel devices s tied processes active p =
-    let tick_is : ticks kernel ≡ s.inner.tick = sym (ap (λ (m : Inner). m.tick) tied.inner.is) in
+    let tick_is : ticks kernel ≡ s.processes.tick = sym (ap (λ (m : Processes). m.tick) tied.processes.is) in
     let io_is : kernel.files.io ≡ s.files.io = sym tied.files.io in
     let records_is : kernel.files.records ≡ s.files.records = sym tied.files.records in
     active p
     ∙ (λ i. is_ready (λ q. io_may_go (io_is i) q || lock_may_go (records_is i).locks (tick_is i) q)
-    (record (inner_of processes (first_memory 0)) { tick = tick_is i }) p)
+    (record (processes_of processes (first_memory 0)) { tick = tick_is i }) p)
 
 -- who may go on now may until the next wait for a record ends
 pub known-until : (files : FileState) (processes : ProcState) (known : Known)

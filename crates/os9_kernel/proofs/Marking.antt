@@ -62,15 +62,15 @@ same-code : (code other : ℕ) → attempts code ≡ attempts other → code ≡
 same-code code other is = cc
 
 module _ (s t : State) (end : EventEnd) (p code : ℕ) (call : PathCall) (it : IsRunOpen s) (event : Event s end t) (chosen : s.chosen ≡ Some p)
-    (next : act_of s.inner p ≡ attempts code) (serves : service_of code ≡ on_paths call) (lives : IsLiving t.inner.records p) where
+    (next : act_of s.processes p ≡ attempts code) (serves : service_of code ≡ on_paths call) (lives : IsLiving t.processes.records p) where
   -- it is on nothing but what its number names
-  apart : (cause : Cause) → ((now : TimePacket) → named_cause s.files.io p (number_in call (asker_of s.inner p now)) ≡ Some cause → ⊥) → Touches s p t cause → ⊥
+  apart : (cause : Cause) → ((now : TimePacket) → named_cause s.files.io p (number_in call (asker_of s.processes p now)) ≡ Some cause → ⊥) → Touches s p t cause → ⊥
   apart cause other (Touches.by_call made asked now attempted served names) =
       let same : code ≡ made = same-code code made (sym next ∙ attempted) in
       let asks : on_paths call ≡ on_paths asked = sym serves ∙ ap service_of same ∙ served in
       let call_is : call ≡ asked = cc in
-      other now (names-so s.files.io p (number_in call (asker_of s.inner p now)) cause
-      (subst (λ (call : PathCall). NamesCause s.files.io p (number_in call (asker_of s.inner p now)) cause) (sym call_is) names))
+      other now (names-so s.files.io p (number_in call (asker_of s.processes p now)) cause
+      (subst (λ (call : PathCall). NamesCause s.files.io p (number_in call (asker_of s.processes p now)) cause) (sym call_is) names))
   apart cause other (Touches.by_fork made n attempted served low names) =
       let same : code ≡ made = same-code code made (sym next ∙ attempted) in
       let asks : on_paths call ≡ on_processes Fork = sym serves ∙ ap service_of same ∙ served in
@@ -88,7 +88,7 @@ module _ (s t : State) (end : EventEnd) (p code : ℕ) (call : PathCall) (it : I
       (ready : new.known.ready ≡ old.known.ready) (until : new.known.until ≡ old.known.until) (same : new.processes.tick ≡ old.processes.tick)
       (kept : (q : ℕ) (cause : Cause) → Concerns old.known.marks q cause → Concerns new.known.marks q cause)
       (own : (cause : Cause) → Concerns new.known.marks p cause)
-      (waiters : (q : ℕ) (cause : Cause) (now : TimePacket) → named_cause s.files.io p (number_in call (asker_of s.inner p now)) ≡ Some cause → Concerns new.known.marks q cause) where
+      (waiters : (q : ℕ) (cause : Cause) (now : TimePacket) → named_cause s.files.io p (number_in call (asker_of s.processes p now)) ≡ Some cause → Concerns new.known.marks q cause) where
     pub known-after : IsKnown old → IsKnown new
     known-after known tick q cause from below few waits clear =
         ap (λ ready. has_io ready q) ready

@@ -9,7 +9,7 @@ use Rattle.proc_rules.specs.Records.{IsLiving}
 use Rattle.proc_calls.specs.Telling.{LivesOn}
 use Rattle.call_rules.specs.Attempts.{after_attempt, attempt_end}
 use Rattle.call_rules.specs.CallResult.{CallResult}
-use Rattle.call_rules.specs.Inner.{Inner}
+use Rattle.call_rules.specs.Processes.{Processes}
 use Rattle.io_rules.specs.Attempts.{result_by, result_of}
 use Rattle.io_rules.specs.Step.{IoEffect, IoEnd, answers, fails, keeps}
 use Rattle.event_rules.specs.declared.ends.EventEnd.TheVariants as Event
@@ -38,17 +38,17 @@ is-sound old before s tied = record { files = s.files; stands = tied.files; kind
 pub is-clock : (old : Kernel) (before : Outside) (s : State) → Represents old before s → IsClock old.clock old.processes.tick
 is-clock old before s tied =
     subst (λ (clock : Clock). IsClock clock old.processes.tick) (ap (λ (s : State). s.clock) tied.is)
-    (subst (λ (tick : ℕ). IsClock s.clock tick) (ap (λ (m : Inner). m.tick) tied.inner.is) tied.run.locked.state.running.clock)
+    (subst (λ (tick : ℕ). IsClock s.clock tick) (ap (λ (m : Processes). m.tick) tied.processes.is) tied.run.locked.state.running.clock)
 
 -- it shows a time
-pub some-time : (old : Kernel) (before : Outside) (s : State) → Represents old before s → (now : TimePacket) × IsNow s.clock s.inner.tick now
-some-time old before s tied = later-packet s.clock.from (seconds_since s.clock s.inner.tick) tied.run.locked.state.running.clock.civil
+pub some-time : (old : Kernel) (before : Outside) (s : State) → Represents old before s → (now : TimePacket) × IsNow s.clock s.processes.tick now
+some-time old before s tied = later-packet s.clock.from (seconds_since s.clock s.processes.tick) tied.run.locked.state.running.clock.civil
 
 -- and that one is the machine's
-pub now-here : (old : Kernel) (before : Outside) (s : State) → Represents old before s → (now : TimePacket) → IsNow old.clock old.processes.tick now → IsNow s.clock s.inner.tick now
+pub now-here : (old : Kernel) (before : Outside) (s : State) → Represents old before s → (now : TimePacket) → IsNow old.clock old.processes.tick now → IsNow s.clock s.processes.tick now
 now-here old before s tied now is =
-    subst (λ (clock : Clock). IsNow clock s.inner.tick now) (sym (ap (λ (s : State). s.clock) tied.is))
-    (subst (λ (tick : ℕ). IsNow old.clock tick now) (sym (ap (λ (m : Inner). m.tick) tied.inner.is)) is)
+    subst (λ (clock : Clock). IsNow clock s.processes.tick now) (sym (ap (λ (s : State). s.clock) tied.is))
+    (subst (λ (tick : ℕ). IsNow old.clock tick now) (sym (ap (λ (m : Processes). m.tick) tied.processes.is)) is)
 
 -- so does the kernel's
 pub time-shown : (old : Kernel) (before : Outside) (s : State) → Represents old before s → (time : TimePacket) × IsNow old.clock old.processes.tick time
@@ -85,7 +85,7 @@ cases-memory Ended = inr (λ is. cc)
 cases-memory NoMemory = inl refl
 
 -- an attempt leaves the tick
-effect-tick : (m : Inner) (p : ℕ) (effect : IoEffect) → (after_attempt m p (result_of m p effect)).tick ≡ m.tick
+effect-tick : (m : Processes) (p : ℕ) (effect : IoEffect) → (after_attempt m p (result_of m p effect)).tick ≡ m.tick
 effect-tick m p effect = by_end effect.end
   where
     by_end : (end : IoEnd) → (after_attempt m p (result_by end m p effect)).tick ≡ m.tick
@@ -93,14 +93,14 @@ effect-tick m p effect = by_end effect.end
     by_end (fails number) = refl
     by_end (keeps kept) = refl
 
-pub attempt-tick : (call : PathCall) (m : Inner) (files : Files) (now : TimePacket) (p : ℕ) (result : CallResult)
+pub attempt-tick : (call : PathCall) (m : Processes) (files : Files) (now : TimePacket) (p : ℕ) (result : CallResult)
     (new : Files) (before after : List TerminalState) → FileAttempts call m files now p result new before after
     → (after_attempt m p result).tick ≡ m.tick
 attempt-tick call m files now p result new before after it =
     ap (λ (result : CallResult). (after_attempt m p result).tick) it.result_is ∙ effect-tick m p (io_effect it.effect)
 
 -- it does not end its process, and memory is there
-effect-ends : (m : Inner) (p : ℕ) (effect : IoEffect) (end : CallEnd) → end ≡ attempt_end (result_of m p effect) → (end ≢ Ended) × (end ≢ NoMemory)
+effect-ends : (m : Processes) (p : ℕ) (effect : IoEffect) (end : CallEnd) → end ≡ attempt_end (result_of m p effect) → (end ≢ Ended) × (end ≢ NoMemory)
 effect-ends m p effect = by_end effect.end
   where
     by_end : (left : IoEnd) (end : CallEnd) → end ≡ attempt_end (result_by left m p effect) → (end ≢ Ended) × (end ≢ NoMemory)
@@ -109,7 +109,7 @@ effect-ends m p effect = by_end effect.end
     by_end (keeps kept) end is = (λ out. cc, λ out. cc)
 
 -- so its process lives then
-pub path-lives : (end : CallEnd) (call : PathCall) (m : Inner) (files : Files) (now : TimePacket) (p : ℕ) (result : CallResult)
+pub path-lives : (end : CallEnd) (call : PathCall) (m : Processes) (files : Files) (now : TimePacket) (p : ℕ) (result : CallResult)
     (new : Files) (before after : List TerminalState) → FileAttempts call m files now p result new before after
     → end ≡ attempt_end result → (records : List (Option Record)) → LivesOn end records p → IsLiving records p
 path-lives end call m files now p result new before after it is records = by end (effect-ends m p (io_effect it.effect) end (is ∙ ap attempt_end it.result_is))

@@ -6,7 +6,7 @@ use Rattle.os9_base.specs.declared.registers.Regs.{Regs}
 use Rattle.proc_rules.specs.declared.own.Own.{Own}
 use Rattle.proc_rules.specs.Records.{IsLiving}
 use Rattle.call_rules.specs.Attempts.{goes_on}
-use Rattle.call_rules.specs.Inner.{Inner, no_own, own_at}
+use Rattle.call_rules.specs.Processes.{Processes, no_own, own_at}
 use Rattle.call_rules.specs.Ready.{act_of}
 use Rattle.proc_state.specs.declared.state.ProcState.{ProcState}
 use Rattle.proc_state.specs.Tie.{Represents}
@@ -21,28 +21,29 @@ use Rattle.os9_kernel.proofs.Columns.{living-within}
 pub use Rattle.dir_calls.proofs.SameLemmas.{some-machine}
 
 -- there are 33 places for processes
-pub places-there : (processes : ProcState) (m : Inner) → Represents processes m → length m.records ≡ 33
-places-there processes m tied = ap (λ (s : Inner). length s.records) tied.is ∙ processes.numbers.places
+pub places-there : (processes : ProcState) (m : Processes) → Represents processes m → length m.records ≡ 33
+places-there processes m tied = ap (λ (s : Processes). length s.records) tied.is ∙ processes.numbers.places
 
 -- a process that lives has one of them
-pub living-few : (processes : ProcState) (m : Inner) → Represents processes m → (p : ℕ) → IsLiving m.records p → p < 33
+pub living-few : (processes : ProcState) (m : Processes) → Represents processes m → (p : ℕ) → IsLiving m.records p → p < 33
 living-few processes m tied p lives = omega (arith, living-within m.records p lives, places-there processes m tied)
 
 -- the tick stays where a change of the machine leaves it
-pub tick-kept : (old new : ProcState) (change : Inner → Inner) → ((m : Inner) → Represents old m → Represents new (change m)) → ((m : Inner) → (change m).tick ≡ m.tick) → new.tick ≡ old.tick
+pub tick-kept : (old new : ProcState) (change : Processes → Processes) → ((m : Processes) → Represents old m → Represents new (change m)) → ((m : Processes) → (change m).tick ≡ m.tick) → new.tick
+    ≡ old.tick
 tick-kept old new change ties keeps =
     let (m, tied) = some-machine old in
-    sym (ap (λ (s : Inner). s.tick) (ties m tied).is) ∙ keeps m ∙ ap (λ (s : Inner). s.tick) tied.is
+    sym (ap (λ (s : Processes). s.tick) (ties m tied).is) ∙ keeps m ∙ ap (λ (s : Processes). s.tick) tied.is
 
 -- what a process does next is what it does in the machine
-pub act-tied : (processes : ProcState) (m : Inner) → Represents processes m → (p : ℕ) → act_of m p ≡ next_of processes p
-act-tied processes m tied p = ap (λ (s : Inner). act_of s p) tied.is
+pub act-tied : (processes : ProcState) (m : Processes) → Represents processes m → (p : ℕ) → act_of m p ≡ next_of processes p
+act-tied processes m tied p = ap (λ (s : Processes). act_of s p) tied.is
 
 -- a process that goes on has no call
-pub no-call : (new : ProcState) (t : Inner) (p : ℕ) (regs : Regs) → p < 33 → Represents new (goes_on t p regs) → (slice_index_or new.own.items p no_own).call ≡ None
+pub no-call : (new : ProcState) (t : Processes) (p : ℕ) (regs : Regs) → p < 33 → Represents new (goes_on t p regs) → (slice_index_or new.own.items p no_own).call ≡ None
 no-call new t p regs within tied =
     let own : Own = record (own_at t p) { call = None; until = None; woken = false } in
-    let items : set t.own p own ≡ new.own.items = ap (λ (s : Inner). s.own) tied.is in
+    let items : set t.own p own ≡ new.own.items = ap (λ (s : Processes). s.own) tied.is in
     let places : length new.own.items ≡ 33 = sym new.own.ok.0 ∙ new.places in
     let inside : p < length t.own = omega (arith, ap length items, length-set t.own p own) in
     ap (λ (owns : List Own). (get_or owns p no_own).call) (sym items)
@@ -53,7 +54,7 @@ pub represents-emptied : (kernel : Kernel) (devices : Outside) (s : State) → R
     → RepresentsState kernel (record devices { terms = terminals_emptied devices.terms })
     (record s { terms = terminals_emptied s.terms })
 represents-emptied kernel devices s tied = record {
-  inner = tied.inner;
+  processes = tied.processes;
   files = tied.files;
   is = λ i. record (tied.is i) { terms = terminals_emptied (tied.is i).terms };
   run = emptied-open s tied.run;
@@ -64,4 +65,4 @@ represents-emptied kernel devices s tied = record {
 -- the instructions that were counted are nothing of the state
 pub represents-counted : (kernel : Kernel) (executed : ℕ) (devices : Outside) (s : State) → RepresentsState kernel devices s → RepresentsState (record kernel { executed = executed }) devices s
 represents-counted kernel executed devices s tied =
-    record { inner = tied.inner; files = tied.files; is = tied.is; run = tied.run; looked = tied.looked; known = tied.known }
+    record { processes = tied.processes; files = tied.files; is = tied.is; run = tied.run; looked = tied.looked; known = tied.known }

@@ -6,7 +6,7 @@ use Rattle.cpu_model.specs.Step.{Outcome, Done}
 use Rattle.proc_model.specs.Memory.{MemoryState}
 use Rattle.proc_model.specs.MemoryChanges.{written}
 use Rattle.proc_rules.specs.Records.{IsLiving, record_at, is_waiting}
-use Rattle.call_rules.specs.Inner.{Inner, own_at, regs_at}
+use Rattle.call_rules.specs.Processes.{Processes, own_at, regs_at}
 use Rattle.call_rules.specs.Ready.{Act as MachineAct, executes, act_of, next_act}
 use Rattle.event_rules.specs.declared.ends.EventEnd.{EventEnd}
 use Rattle.event_rules.specs.declared.ends.EventEnd.TheVariants.{Ran}
@@ -15,28 +15,28 @@ use Rattle.machine_model.specs.Event.{Acts, Event, cost, files_after_instruction
 use Rattle.machine_model.specs.State.{State}
 use Rattle.os9_kernel.specs.Slice.{Instructions, last, more}
 use Rattle.os9_kernel.proofs.Executing.{AreDone, none, first, next_outcome}
-use Rattle.os9_kernel.proofs.Columns.{inner_at, inner_at-same, inner_at-then, inner_at-regs, lives-set, living-within, record-put}
+use Rattle.os9_kernel.proofs.Columns.{processes_at, processes_at-same, processes_at-then, processes_at-regs, lives-set, living-within, record-put}
 
 -- ---- a process that was chosen and executes an instruction next, with other memory and registers
 
-module _ (s : State) (p : ℕ) (chosen : s.chosen ≡ Some p) (lives : IsLiving s.inner.records p) (next : act_of s.inner p ≡ executes) where
+module _ (s : State) (p : ℕ) (chosen : s.chosen ≡ Some p) (lives : IsLiving s.processes.records p) (next : act_of s.processes p ≡ executes) where
   -- the state with this memory, and these registers of the process
   abbrev pub state_at : MemoryState → Regs → State
-  state_at memory regs = record s { inner = inner_at s.inner p memory regs }
+  state_at memory regs = record s { processes = processes_at s.processes p memory regs }
 
-  pub state_at-same : state_at s.inner.memory (regs_at s.inner p) ≡ s
-  state_at-same = ap (λ (m : Inner). record s { inner = m }) (inner_at-same s.inner p lives)
+  pub state_at-same : state_at s.processes.memory (regs_at s.processes p) ≡ s
+  state_at-same = ap (λ (m : Processes). record s { processes = m }) (processes_at-same s.processes p lives)
 
   module _ (memory : MemoryState) (regs : Regs) where
-    acts-still : act_of (inner_at s.inner p memory regs) p ≡ executes
+    acts-still : act_of (processes_at s.processes p memory regs) p ≡ executes
     acts-still =
-        (λ i. next_act (own_at s.inner p).call (is_waiting (put i).life) (put i).signal) ∙ next
+        (λ i. next_act (own_at s.processes p).call (is_waiting (put i).life) (put i).signal) ∙ next
       where
-        put : record_at (inner_at s.inner p memory regs).records p ≡ record (record_at s.inner.records p) { regs = regs }
-        put = record-put s.inner.records p _ (living-within s.inner.records p lives)
+        put : record_at (processes_at s.processes p memory regs).records p ≡ record (record_at s.processes.records p) { regs = regs }
+        put = record-put s.processes.records p _ (living-within s.processes.records p lives)
 
-    outcome-is : next_instruction (inner_at s.inner p memory regs) p ≡ next_outcome memory p regs
-    outcome-is = ap (λ (r : Regs). next_outcome memory p r) (inner_at-regs s.inner p lives memory regs)
+    outcome-is : next_instruction (processes_at s.processes p memory regs) p ≡ next_outcome memory p regs
+    outcome-is = ap (λ (r : Regs). next_outcome memory p r) (processes_at-regs s.processes p lives memory regs)
 
     -- an instruction costs one
     pub cost-one : cost (state_at memory regs) ≡ 1
@@ -44,22 +44,22 @@ module _ (s : State) (p : ℕ) (chosen : s.chosen ≡ Some p) (lives : IsLiving 
 
     pub instruction-event : (outcome : Outcome) → next_outcome memory p regs ≡ outcome → Event (state_at memory regs)
         (instruction_end outcome) (record s {
-          inner = after_instruction (inner_at s.inner p memory regs) p outcome;
+          processes = after_instruction (processes_at s.processes p memory regs) p outcome;
           files = files_after_instruction s.files p outcome;
         })
     instruction-event outcome is = (
       p,
       chosen,
-      lives-set s.inner.records p lives regs,
+      lives-set s.processes.records p lives regs,
       subst (λ (a : MachineAct). Acts a (state_at memory regs) p (instruction_end outcome)
           (record s {
-            inner = after_instruction (inner_at s.inner p memory regs) p outcome;
+            processes = after_instruction (processes_at s.processes p memory regs) p outcome;
             files =
                 files_after_instruction s.files p outcome;
           })) (sym acts-still) (
             sym (ap instruction_end (outcome-is ∙ is)),
             (λ i. record s {
-              inner = after_instruction (inner_at s.inner p memory regs) p (sym (outcome-is ∙ is) i);
+              processes = after_instruction (processes_at s.processes p memory regs) p (sym (outcome-is ∙ is) i);
               files = files_after_instruction s.files p (sym (outcome-is ∙ is) i);
             }),
           ),
@@ -68,7 +68,7 @@ module _ (s : State) (p : ℕ) (chosen : s.chosen ≡ Some p) (lives : IsLiving 
     -- one that is done leaves other memory and registers
     pub done-event : (effect : Effect) → next_outcome memory p regs ≡ Done effect → Event (state_at memory regs) Ran (state_at (written memory p effect.writes) effect.regs)
     done-event effect is =
-        subst (λ (m : Inner). Event (state_at memory regs) Ran (record s { inner = m })) (inner_at-then s.inner p lives memory (written memory p effect.writes) regs effect.regs)
+        subst (λ (m : Processes). Event (state_at memory regs) Ran (record s { processes = m })) (processes_at-then s.processes p lives memory (written memory p effect.writes) regs effect.regs)
         (instruction-event (Done effect) is)
 
   -- those that are done, and then others

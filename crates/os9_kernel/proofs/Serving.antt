@@ -47,7 +47,8 @@ module _ (code : ℕ) where
 
 -- a call on processes that loads nothing comes to what it is attempted as
 module _ (s : State) (now : TimePacket) (p : ℕ) (result : CallResult) (rest : Rest) where
-  pub serves-plain : (call : ProcCall) → IsPlain call → result ≡ attempted call s.inner p → rest ≡ with_files s (files_after_call s.files p result) → Serves (on_processes call) s now p result rest
+  pub serves-plain : (call : ProcCall) → IsPlain call → result ≡ attempted call s.processes p → rest ≡ with_files s (files_after_call s.files p result)
+      → Serves (on_processes call) s now p result rest
   serves-plain Call.Link plain is left = (is, left)
   serves-plain Call.UnLink plain is left = (is, left)
   serves-plain Call.Fork plain is left = absurd plain

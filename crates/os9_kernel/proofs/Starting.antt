@@ -1,7 +1,7 @@
 -- The start of a kernel is one of the machine.
 use Rattle.std.proofs.Common.{◌≡◌, ℕ, ◌<◌, ◌≤◌, true, Ok, Err, None, option_map, List, length, refl, sym, subst, arith}
 use Rattle.os9_base.specs.declared.registers.Pid.{Pid}
-use Rattle.call_rules.specs.Inner.{Inner}
+use Rattle.call_rules.specs.Processes.{Processes}
 use Rattle.civil_time.specs.CivilTime.{is_time_packet}
 use Rattle.file_drives.specs.Drives.{DriveView}
 use Rattle.file_start.specs.Start.{StartedOn, StartsDrives}
@@ -21,7 +21,7 @@ use Rattle.wake_laws.proofs.OpenRuns.{start-open}
 
 -- the processes are those of a machine that starts
 abbrev pub ProcessesStart : List ℕ → ℕ → ProcState → Type 0
-ProcessesStart file blocks processes = (m : Inner) × StartsProcesses file blocks m × RepresentsProcesses processes m
+ProcessesStart file blocks processes = (m : Processes) × StartsProcesses file blocks m × RepresentsProcesses processes m
 
 pub kernel-starts : (config : Config) (file : List ℕ) (images : List (List ℕ)) (after : Outside) (kernel : Kernel)
     → ProcessesStart file config.blocks kernel.processes → StartedOn images kernel.files after.drives
@@ -29,8 +29,8 @@ pub kernel-starts : (config : Config) (file : List ℕ) (images : List (List ℕ
     → 0 < length after.terms → length after.terms ≤ 4 → IsStarted config file images after kernel
 kernel-starts config file images after kernel processes on clock none again none_known civil some few =
     let (was, begins, there) = processes in
-    let m : Inner = only_process begins.memory (first_start begins.number begins.entry) in
-    let s : State = record { inner = m; files = on.was; clock = first_clock config.time; chosen = None; terms = after.terms } in
+    let m : Processes = only_process begins.memory (first_start begins.number begins.entry) in
+    let s : State = record { processes = m; files = on.was; clock = first_clock config.time; chosen = None; terms = after.terms } in
     let starts : Starts (boot_of config file images after) s = record {
       entries = begins.entries;
       number =
@@ -47,10 +47,10 @@ kernel-starts config file images after kernel processes on clock none again none
       s,
       starts,
       record {
-        inner = subst (λ (m : Inner). RepresentsProcesses kernel.processes m) begins.is there;
+        processes = subst (λ (m : Processes). RepresentsProcesses kernel.processes m) begins.is there;
         files = on.stands;
         is = λ i. record {
-          inner = m;
+          processes = m;
           files = on.was;
           clock = sym clock i;
           chosen = option_map (λ (p : Pid). p.0) (sym none i);

@@ -1,11 +1,11 @@
 -- A tick of the kernel is one of the machine.
 use Rattle.std.proofs.Common.{◌≡◌, ℕ, ◌+◌, Bool, List, refl, sym, ap, subst, arith}
 use Rattle.os9_outer.specs.TerminalState.{TerminalState}
-use Rattle.call_rules.specs.Inner.{Inner}
+use Rattle.call_rules.specs.Processes.{Processes}
 use Rattle.io_rules.specs.Arrivals.{Arrivals, ArrivesFrom, Desk}
 use Rattle.io_rules.specs.Io.{Io}
 use Rattle.key_arrivals.specs.Keys.{PollBreaks, desk}
-use Rattle.proc_state.specs.Tie.{Represents as RepresentsProcesses, inner_of}
+use Rattle.proc_state.specs.Tie.{Represents as RepresentsProcesses, processes_of}
 use Rattle.proc_state.specs.declared.state.ProcState.{ProcState}
 use Rattle.file_drives.specs.Drives.{DriveView}
 use Rattle.file_rules.specs.Files.{with_io}
@@ -29,20 +29,20 @@ with_keys files io = record files { io = io }
 
 module _ (old : Kernel) (before : Outside) (s : State) (tied : Represents old before s) where
   -- the processes at the next tick
-  abbrev pub raised : Inner
-  raised = record s.inner { tick = s.inner.tick + 1 }
+  abbrev pub raised : Processes
+  raised = record s.processes { tick = s.processes.tick + 1 }
 
-  pub raised-is : raised ≡ record (inner_of old.processes s.inner.memory) { tick = ticks old + 1 }
-  raised-is = λ i. record (tied.inner.is i) { tick = (tied.inner.is i).tick + 1 }
+  pub raised-is : raised ≡ record (processes_of old.processes s.processes.memory) { tick = ticks old + 1 }
+  raised-is = λ i. record (tied.processes.is i) { tick = (tied.processes.is i).tick + 1 }
 
-  tick-is : ticks old + 1 ≡ s.inner.tick + 1
-  tick-is = ap (λ (m : Inner). m.tick + 1) (sym tied.inner.is)
+  tick-is : ticks old + 1 ≡ s.processes.tick + 1
+  tick-is = ap (λ (m : Processes). m.tick + 1) (sym tied.processes.is)
 
   terms-are : before.terms ≡ s.terms
   terms-are = sym (ap (λ (s : State). s.terms) tied.is)
 
   desk-is : desk raised old.files.io before.terms ≡ desk_of s
-  desk-is = λ i. record { inner = raised; io = sym tied.files.io i; terms = terms-are i }
+  desk-is = λ i. record { processes = raised; io = sym tied.files.io i; terms = terms-are i }
 
   -- the kernel then, with these processes and this input and output
   abbrev pub then : ProcState → Io → ℕ → Known → Kernel
@@ -57,22 +57,23 @@ module _ (old : Kernel) (before : Outside) (s : State) (tied : Represents old be
   }
 
   pub tick-then : (processes : ProcState) (io : Io) (until : ℕ) (known : Known) → IsLooked (then processes io until known)
-      → IsKnown (then processes io until known) → (after : Outside) (next : Inner) → after.drives ≡ before.drives
+      → IsKnown (then processes io until known) → (after : Outside) (next : Processes) → after.drives ≡ before.drives
       → Arrivals (ticks old + 1) (desk raised old.files.io before.terms) (desk next io after.terms)
       → RepresentsProcesses processes next → (t : State) × Tick s t × Represents (then processes io until known) after t
   tick-then processes io until known looked is_known after next drives arrives there =
       let here : Desk = desk next io after.terms in
-      let arrivals : Arrivals (s.inner.tick + 1) (desk_of s) here = subst (λ n. Arrivals n (desk_of s) here) tick-is (subst (λ (from : Desk). Arrivals (ticks old + 1) from here) desk-is arrives) in
-      let t : State = record s { inner = next; files = with_io s.files io; terms = after.terms } in
+      let arrivals : Arrivals (s.processes.tick + 1) (desk_of s) here =
+          subst (λ n. Arrivals n (desk_of s) here) tick-is (subst (λ (from : Desk). Arrivals (ticks old + 1) from here) desk-is arrives) in
+      let t : State = record s { processes = next; files = with_io s.files io; terms = after.terms } in
       let ticked : Tick s t = (here, arrivals, refl) in
       let stands : StandsFor (with_keys old.files io) before.drives (with_io s.files io) = stands-with_io old.files before.drives s.files io io refl tied.files in (
         t,
         ticked,
         record {
-          inner = there;
+          processes = there;
           files = subst (λ (views : List DriveView). StandsFor (with_keys old.files io) views (with_io s.files io)) (sym drives) stands;
           is = λ i. record {
-            inner = next;
+            processes = next;
             files = with_io s.files io;
             clock = (tied.is i).clock;
             chosen = (tied.is i).chosen;
@@ -101,7 +102,7 @@ module _ (old : Kernel) (before : Outside) (s : State) (tied : Represents old be
       → PollBreaks (ticks old + 1) (0 + polled) between now after → BreaksTick s after
   tick-breaks polled between now after arrives breaks =
       let first : 0 + polled ≡ polled = omega arith in
-      let here : PollBreaks (s.inner.tick + 1) polled between now after = subst (λ n. PollBreaks n polled between now
+      let here : PollBreaks (s.processes.tick + 1) polled between now after = subst (λ n. PollBreaks n polled between now
       after) tick-is (subst (λ n. PollBreaks (ticks old + 1) n between now after) first breaks) in record {
         count = polled;
         desk = between;

@@ -3,7 +3,7 @@ use Rattle.std.proofs.Common.{◌≡◌, ◌∙◌, ℕ, refl, sym, ap}
 use Rattle.os9_base.specs.declared.registers.TimePacket.{TimePacket}
 use Rattle.call_rules.specs.Attempts.{after_attempt, attempt_end}
 use Rattle.call_rules.specs.CallResult.{CallResult}
-use Rattle.call_rules.specs.Inner.{Inner}
+use Rattle.call_rules.specs.Processes.{Processes}
 use Rattle.event_rules.specs.declared.ends.EventEnd.TheVariants.{Waits}
 use Rattle.time_rules.specs.Attempts.{TimeAttempts, result_of, time_step}
 use Rattle.time_rules.specs.Step.{TimeStep, refused, tells, sets}
@@ -11,7 +11,7 @@ use Rattle.time_rules.specs.declared.clock.Clock.{Clock}
 use Rattle.time_rules.specs.declared.time_call.TimeCall.{TimeCall}
 use Rattle.os9_kernel.specs.Ends.{event_end_of}
 
-module _ (m : Inner) (p : ℕ) where
+module _ (m : Processes) (p : ℕ) where
   step-tick : (step : TimeStep) → (after_attempt m p (result_of m p step)).tick ≡ m.tick
   step-tick (refused number) = refl
   step-tick (tells at packet) = refl

@@ -13,7 +13,7 @@ use Rattle.proc_rules.specs.Records.{IsLiving, record_at, is_waiting}
 use Rattle.proc_calls.specs.Telling.{WaitsFor}
 use Rattle.proc_state.specs.Tie.{Comes}
 use Rattle.proc_state.specs.declared.state.ProcState.{ProcState}
-use Rattle.call_rules.specs.Inner.{Inner}
+use Rattle.call_rules.specs.Processes.{Processes}
 use Rattle.call_rules.specs.Ready.{attempts, next_act}
 use Rattle.io_rules.specs.Attempts.{result_by, result_of}
 use Rattle.io_rules.specs.Step.{IoEffect, IoEnd, answers, fails, keeps}
@@ -61,13 +61,13 @@ rests-so (Some wait) before after p lives first waits =
     ∙ rests-at before.sched p wait (member-within before p lives)
 
 -- an attempt of a call on a path that waits leaves the records
-pub records-kept : (m : Inner) (p : ℕ) (effect : IoEffect) (processes : ProcState) → Comes m p (result_of m p effect) Wait processes → processes.table ≡ m.records
+pub records-kept : (m : Processes) (p : ℕ) (effect : IoEffect) (processes : ProcState) → Comes m p (result_of m p effect) Wait processes → processes.table ≡ m.records
 records-kept m p effect processes came = by effect.end came
   where
     by : (end : IoEnd) → Comes m p (result_by end m p effect) Wait processes → processes.table ≡ m.records
     by (answers regs) came = let e : Wait ≡ Done = came.0 in cc
     by (fails number) came = let e : Wait ≡ Error number = came.0 in cc
-    by (keeps kept) came = sym (ap (λ (m : Inner). m.records) came.1.is)
+    by (keeps kept) came = sym (ap (λ (m : Processes). m.records) came.1.is)
 
 -- what is told is what is waited for
 pub told-so : (wait : Option Waiting) (told : Waiting) → IfSome wait (λ wait. told ≡ wait) → (Told : Waiting → Type 0)

@@ -6,7 +6,7 @@ use Rattle.os9_sched.specs.declared.member.Wait.{Wait}
 use Rattle.proc_rules.specs.Records.{record_at, is_waiting}
 use Rattle.proc_rules.specs.declared.own.Own.{Own}
 use Rattle.call_rules.specs.Codes.{call_of}
-use Rattle.call_rules.specs.Inner.{no_own}
+use Rattle.call_rules.specs.Processes.{no_own}
 use Rattle.call_rules.specs.declared.proc_call.ProcCall.{ProcCall}
 use Rattle.call_dispatch.specs.Waits.{waits_for}
 use Rattle.file_rules.specs.Locking.{call_wait}

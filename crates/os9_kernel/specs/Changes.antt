@@ -21,13 +21,13 @@ pub record AsksToChange (drive : ℕ) (s : State) : Type 0 where
   pub p : ℕ
   pub chosen : s.chosen ≡ Some p
   pub code : ℕ
-  pub act : act_of s.inner p ≡ attempts code
+  pub act : act_of s.processes p ≡ attempts code
   pub call : PathCall
   pub serves : service_of code ≡ on_paths call
   pub now : TimePacket
-  pub is_now : IsNow s.clock s.inner.tick now
+  pub is_now : IsNow s.clock s.processes.tick now
   pub step : FileStep
-  pub step_is : step ≡ file_step call (asker_of s.inner p now) s.files (length s.terms)
+  pub step_is : step ≡ file_step call (asker_of s.processes p now) s.files (length s.terms)
   pub reached : drive_of step ≡ Some drive
   pub change : VolumeChange
   pub deed : deed_of step s.files ≡ changes change

@@ -3,7 +3,7 @@
 use Rattle.std.specs.Prelude.{ℕ, length}
 use Rattle.std.specs.Option.{option_map_or}
 use Rattle.os9_base.specs.declared.registers.TimePacket.{TimePacket}
-use Rattle.call_rules.specs.Inner.{Inner}
+use Rattle.call_rules.specs.Processes.{Processes}
 use Rattle.call_rules.specs.Ready.{Act, attempts, delivers, executes, act_of}
 use Rattle.call_rules.specs.declared.proc_call.ProcCall.TheVariants as Call
 use Rattle.file_dispatch.specs.Bounds.{attempt_calls}
@@ -25,7 +25,7 @@ reaching_calls call asker files terms =
     calls_of (file_step call asker files terms) (attempt_calls call asker files terms)
 
 -- in an attempt by a process, at a time, on a machine with this number of terminals
-abbrev pub service_calls : Service → Inner → ℕ → TimePacket → Files → ℕ → ℕ
+abbrev pub service_calls : Service → Processes → ℕ → TimePacket → Files → ℕ → ℕ
 service_calls loads m p now files terms = file_calls (asker_of m p now) files terms (λ step. step)
 service_calls (on_processes Call.Fork) m p now files terms = start_calls m p now files terms
 service_calls (on_processes Call.Chain) m p now files terms = start_calls m p now files terms
@@ -37,15 +37,15 @@ service_calls no_call m p now files terms = 0
 -- in what a process does, at a time
 abbrev pub act_calls : Act → State → ℕ → TimePacket → ℕ
 act_calls executes s p now = 0
-act_calls (attempts code) s p now = service_calls (service_of code) s.inner p now s.files (length s.terms)
+act_calls (attempts code) s p now = service_calls (service_of code) s.processes p now s.files (length s.terms)
 act_calls (delivers signal) s p now = 0
 
 -- in the next event of the chosen process, at a time
 abbrev pub event_calls : State → TimePacket → ℕ
-event_calls s now = option_map_or (λ p. act_calls (act_of s.inner p) s p now) s.chosen 0
+event_calls s now = option_map_or (λ p. act_calls (act_of s.processes p) s p now) s.chosen 0
 
 -- from each state that a kernel represents, at its time
 abbrev pub CallsWithin : Kernel → Outside → Outside → Type 0
 CallsWithin old before after =
-    (s : State) (now : TimePacket) → Represents old before s → IsNow s.clock s.inner.tick now
+    (s : State) (now : TimePacket) → Represents old before s → IsNow s.clock s.processes.tick now
     → CalledAtMost (event_calls s now) before.drives after.drives

@@ -7,7 +7,7 @@ use Rattle.os9_base.specs.declared.registers.TimePacket.{TimePacket}
 use Rattle.os9_outer.specs.declared.drive.BlockDriver.{Ghosts}
 use Rattle.device_table.specs.declared.devices.DeviceTable.{DeviceTable}
 use Rattle.call_rules.specs.CallResult.{CallResult}
-use Rattle.call_rules.specs.Inner.{Inner}
+use Rattle.call_rules.specs.Processes.{Processes}
 use Rattle.file_rules.specs.Attempts.{asker_of}
 use Rattle.file_rules.specs.Files.{Asker, Files}
 use Rattle.file_rules.specs.Load.{LoadAttempts}
@@ -28,14 +28,14 @@ abbrev pub kernel_standing : {Table : Type 0} {Driver : Table → Type 0} {Termi
 kernel_standing members kernel devices = standing members kernel.processes kernel.files devices
 
 -- the attempt of the machine
-abbrev pub AttemptsLoad : LoadCall → Inner → Asker → Files → ℕ → ℕ → CallResult → Files → Type 0
+abbrev pub AttemptsLoad : LoadCall → Processes → Asker → Files → ℕ → ℕ → CallResult → Files → Type 0
 AttemptsLoad Load m asker old terms p result new = LoadAttempts m asker old terms p result new
 AttemptsLoad Fork m asker old terms p result new = ForkAttempts m asker old terms p result new
 AttemptsLoad Chain m asker old terms p result new = ChainAttempts m asker old terms p result new
 
 -- an attempt of a call by a process, at a time, on a machine with this number of terminals: its end, the processes, the
 -- files and the drives then, and the calls of the drives; its process does not have the result yet
-abbrev pub LoadsSo : LoadCall → Inner → Files → TimePacket → ℕ → ℕ → CallEnd → Standing → Standing → Type 0
+abbrev pub LoadsSo : LoadCall → Processes → Files → TimePacket → ℕ → ℕ → CallEnd → Standing → Standing → Type 0
 LoadsSo call m files now terms p end before after =
     AttemptsBy (AttemptsLoad call m (asker_of m p now) files terms p) m p end
     (service_calls (load_in_machine call) m p now files terms) before after

@@ -2,7 +2,7 @@
 use Rattle.std.specs.Prelude.{◌≡◌, ◌≢◌, ℕ, ◌+◌, ◌-◌, ◌*◌, ◌<◌, ◌≤◌, Some, slice_index_or}
 use Rattle.os9_base.specs.declared.registers.Pid.{Pid}
 use Rattle.proc_rules.specs.Records.{IsLiving, IsProcess, record_at, is_waiting}
-use Rattle.call_rules.specs.Inner.{no_own}
+use Rattle.call_rules.specs.Processes.{no_own}
 use Rattle.call_rules.specs.Ready.{Act as MachineAct, attempts, delivers, executes, next_act}
 use Rattle.proc_state.specs.declared.state.ProcState.{ProcState}
 use Rattle.event_rules.specs.declared.ends.EventEnd.{EventEnd}

@@ -4,7 +4,7 @@ use Rattle.os9_base.specs.declared.call.CallEnd.{CallEnd}
 use Rattle.os9_base.specs.declared.call.CallEnd.TheVariants.{Done, Error, Wait, Ended, NoMemory}
 use Rattle.proc_rules.specs.declared.record.Record.{Record}
 use Rattle.proc_rules.specs.Records.{record_at}
-use Rattle.io_rules.specs.Io.{Io, kept_at}
+use Rattle.io_rules.specs.Io.{Io, pending_at}
 use Rattle.file_rules.specs.Files.{Files}
 use Rattle.file_rules.specs.Processes.{files_ended, files_started}
 use Rattle.os9_kernel.specs.declared.service.LoadCall.{LoadCall}
@@ -17,7 +17,7 @@ number_in_a records p = (record_at records p).regs.a
 -- a process may begin with this number: it is a valid number, and no call of it is kept
 pub record MayBegin (io : Io) (child : ℕ) : Type 0 where
   pub process : child < 33
-  pub quiet : kept_at io child ≡ None
+  pub quiet : pending_at io child ≡ None
 
 -- the files after a call with this end: what an ended process had is closed
 abbrev pub files_then : CallEnd → Files → ℕ → Files

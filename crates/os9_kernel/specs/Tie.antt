@@ -2,7 +2,7 @@
 use Rattle.std.specs.Prelude.{◌≡◌, ◌<◌, ◌≤◌, ℕ, ◌+◌, ◌*◌, is_some, Bool, true, false, Option, Some, None, option_map, slice_index_or}
 use Rattle.os9_base.specs.declared.registers.Pid.{Pid}
 use Rattle.proc_rules.specs.Records.{IsLiving, record_at}
-use Rattle.call_rules.specs.Inner.{no_own}
+use Rattle.call_rules.specs.Processes.{no_own}
 use Rattle.call_rules.specs.IoReady.{has_io}
 use Rattle.os9_sched.specs.declared.member.Cause.{Cause}
 use Rattle.file_rules.specs.Locking.{wait_cause}
@@ -34,11 +34,11 @@ IsKnown kernel =
 -- A kernel and its devices represent a state: its processes and its files are those of the machine, everything else is
 -- equal, it is a state of a run, and what the kernel knows of those who are Ready is so.
 pub record Represents (kernel : Kernel) (devices : Outside) (s : State) : Type 0 where
-  pub inner : RepresentsProcesses kernel.processes s.inner
+  pub processes : RepresentsProcesses kernel.processes s.processes
   pub files : StandsFor kernel.files devices.drives s.files
   pub is : s
       ≡ record {
-        inner = s.inner;
+        processes = s.processes;
         files = s.files;
         clock = kernel.clock;
         chosen = option_map (λ (p : Pid). p.0) kernel.chosen;

@@ -46,7 +46,7 @@ impl Kernel {
     /// The number of living processes.
     pub fn living(&self) -> u8
         ensures { (devices : Outside) (s : State) → Represents self.now devices s
-            → result ≡ living_count s.inner }
+            → result ≡ living_count s.processes }
     {
         self.processes.living()
     }
@@ -54,7 +54,7 @@ impl Kernel {
     /// The number of slices begun.
     pub fn ticks(&self) -> u32
         ensures machine { (devices : Outside) (s : State) → Represents self.now devices s
-            → result ≡ s.inner.tick }
+            → result ≡ s.processes.tick }
         ensures count { result ≡ ticks self.now }
     {
         self.processes.tick
@@ -94,7 +94,8 @@ impl Kernel {
             → (t : State) × Choose s t × Represents self.new devices t
             × (option_map (λ p. p.0) result ≡ t.chosen) }
         ensures active { (devices : Outside) (s : State) → Represents self.old devices s
-            → AreActiveAt (files_may_go s.files s.inner.tick) s.inner.tick self.new.processes }
+            → AreActiveAt
+            (files_may_go s.files s.processes.tick) s.processes.tick self.new.processes }
         ensures going { IfSome result (λ p. IsGoing self.new) }
         ensures count { ticks self.new ≡ ticks self.old }
         ensures executed { executed self.new ≡ 0 }

@@ -1,7 +1,7 @@
 //! Who is Ready: whom a choice looks at.
 
 ghost use Rattle.std.specs.Prelude.{◌≡◌, ◌<◌, ◌^◌, ℕ, true, IfNone, IfSome, option_and_then, slice_index_or};
-ghost use Rattle.call_rules.specs.Inner.{no_own};
+ghost use Rattle.call_rules.specs.Processes.{no_own};
 ghost use Rattle.call_rules.specs.IoReady.{has_io};
 ghost use Rattle.file_rules.specs.Locking.{files_may_go};
 ghost use Rattle.machine_model.specs.State.{State};
@@ -27,7 +27,8 @@ impl Kernel {
         ensures represents { (devices : Outside) (s : State) → Represents self.old devices s
             → Represents self.new devices s }
         ensures active { (devices : Outside) (s : State) → Represents self.old devices s
-            → AreActiveAt (files_may_go s.files s.inner.tick) s.inner.tick self.new.processes }
+            → AreActiveAt
+            (files_may_go s.files s.processes.tick) s.processes.tick self.new.processes }
         ensures count { ticks self.new ≡ ticks self.old }
     {
         let tick = self.processes.tick;

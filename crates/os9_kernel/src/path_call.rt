@@ -5,8 +5,8 @@ ghost use Rattle.proc_calls.specs.Telling.{LivesOn, WaitsFor};
 ghost use Rattle.proc_state.specs.Tie.{Comes, Represents};
 ghost use Rattle.call_rules.specs.Attempts.{after_attempt, attempt_end};
 ghost use Rattle.call_rules.specs.CallResult.{CallResult};
-ghost use Rattle.call_rules.specs.Inner.{Inner};
-ghost use Rattle.file_dispatch.specs.Dates.{sets_date as sets_date_lem};
+ghost use Rattle.call_rules.specs.Processes.{Processes};
+ghost use Rattle.file_dispatch.specs.Dates.{sets_date as sets_date_model};
 ghost use Rattle.file_state.specs.Attempt.{records_settled};
 ghost use Rattle.machine_model.specs.Services.{on_paths, service_of};
 ghost use Rattle.file_rules.specs.Attempts.{asker_of};
@@ -22,8 +22,8 @@ ghost use Rattle.os9_kernel.specs.Tie.{Stands, executed, pending};
 ghost use Rattle.os9_sched.specs.declared.member.Cause.{Cause as CauseModel};
 ghost use Rattle.proc_rules.specs.Records.{IsLiving};
 ghost use Rattle.time_rules.specs.Clock.{IsClock, IsNow};
-ghost use Rattle.file_laws.specs.Devices.{number_in as number_in_lem};
-ghost use Rattle.wake_laws.specs.Touches.{cause_on as cause_on_lem};
+ghost use Rattle.file_laws.specs.Devices.{number_in as number_in_model};
+ghost use Rattle.wake_laws.specs.Touches.{cause_on as cause_on_model};
 
 use crate::act::Act;
 use crate::calls::event_end;
@@ -85,14 +85,15 @@ impl Kernel {
         ensures kept { (q : ℕ) (cause : CauseModel) → Concerns self.now.known.marks q cause
             → Concerns result q cause }
         ensures own { (cause : CauseModel) → Concerns result p.0 cause }
-        ensures waiters { (m : Inner) (now : TimePacketModel) (q : ℕ) (cause : CauseModel)
+        ensures waiters { (m : Processes) (now : TimePacketModel) (q : ℕ) (cause : CauseModel)
             → Represents self.now.processes m
-            → named_cause self.now.files.io p.0 (number_in_lem call (asker_of m p.0 now)) ≡ Some cause
+            → named_cause self.now.files.io p.0 (number_in_model call (asker_of m p.0 now))
+            ≡ Some cause
             → Concerns result q cause }
         ensures paths { ArePaths self.now.files.io.paths }
     {
         // Each path that a number names is there.
-        prove!(self.files.io.kept(p).is_none() || self.files.io.kept(p).is_some());
+        prove!(self.files.io.pending(p).is_none() || self.files.io.pending(p).is_some());
         match self.known.marks {
             Marks::Everyone => Marks::Everyone,
             Marks::Nobody | Marks::Waiters { .. } => {
@@ -104,8 +105,9 @@ impl Kernel {
     /// What calls wait for on the path that a call of a process names by its number.
     fn cause_named(&self, p: Pid, call: PathCall) -> Option<Cause>
         requires { IsLiving self.now.processes.table p.0 }
-        ensures is { (m : Inner) (now : TimePacketModel) → Represents self.now.processes m
-            → result ≡ named_cause self.now.files.io p.0 (number_in_lem call (asker_of m p.0 now)) }
+        ensures is { (m : Processes) (now : TimePacketModel) → Represents self.now.processes m
+            → result ≡ named_cause self.now.files.io p.0
+            (number_in_model call (asker_of m p.0 now)) }
     {
         let number = number_in(call, self.processes.regs(p));
         let (_, desc) = self.files.io.open_path(p, number)?;
@@ -115,7 +117,7 @@ impl Kernel {
     /// The time for a call that sets a date. For any other call, any time is right.
     fn time_for(&self, call: PathCall) -> TimePacket
         requires { IsClock self.now.clock self.now.processes.tick }
-        ensures { sets_date_lem call ≡ true
+        ensures { sets_date_model call ≡ true
             → IsNow self.now.clock self.now.processes.tick result }
     {
         if sets_date(call) {
@@ -130,7 +132,7 @@ impl Kernel {
     pub(crate) fn tell_end(&mut self, p: Pid, end: CallEnd)
         requires lives { LivesOn end self.old.processes.table p.0 }
         requires process { p.0 < 33 }
-        ensures told { (m : Inner) (call : CallResult) → Comes m p.0 call end self.old.processes
+        ensures told { (m : Processes) (call : CallResult) → Comes m p.0 call end self.old.processes
             → Represents self.new.processes (after_attempt m p.0 call) × (end ≡ attempt_end call) }
         ensures lives { LivesOn end self.new.processes.table p.0 }
         ensures waits { end ≡ CallEnd.Wait → IfSome (awaited self.old.files p.0)
@@ -170,7 +172,7 @@ fn forget_request(records: &mut Records, p: Pid, end: CallEnd)
 
 /// The number of a path that a call takes.
 fn number_in(call: PathCall, regs: Regs) -> u8
-    ensures { (asker : Asker) → asker.caller.regs ≡ regs → number_in_lem call asker ≡ result }
+    ensures { (asker : Asker) → asker.caller.regs ≡ regs → number_in_model call asker ≡ result }
 {
     match call {
         PathCall::PErr => STANDARD_ERROR,
@@ -181,7 +183,7 @@ fn number_in(call: PathCall, regs: Regs) -> u8
 /// What calls wait for on this: a key of a terminal, bytes or room of a pipe, or a record of a
 /// file.
 fn cause_on(target: Target) -> Option<Cause>
-    ensures { result ≡ cause_on_lem target }
+    ensures { result ≡ cause_on_model target }
 {
     match target {
         Target::File(drive, number) => Some(Cause::Lock(drive, number)),

@@ -4,7 +4,7 @@ ghost use Rattle.std.specs.Prelude.{◌≡◌, ◌<◌, List, Some};
 ghost use Rattle.proc_rules.specs.Records.{IsLiving, record_at};
 ghost use Rattle.proc_state.specs.Tie.{Represents};
 ghost use Rattle.call_rules.specs.End.{ended};
-ghost use Rattle.call_rules.specs.Inner.{Inner, own_at, with_own};
+ghost use Rattle.call_rules.specs.Processes.{Processes, own_at, with_own};
 ghost use Rattle.io_rules.specs.Waiting.{interrupted_count};
 ghost use Rattle.file_drives.specs.Drives.{DriveView};
 ghost use Rattle.file_rules.specs.Files.{Files};
@@ -22,7 +22,7 @@ impl Kernel {
     /// A process has executed a system call with this code.
     pub(crate) fn begin_call(&mut self, p: Pid, code: u8)
         requires lives { IsLiving self.old.processes.table p.0 }
-        ensures tied { (m : Inner) → Represents self.old.processes m
+        ensures tied { (m : Processes) → Represents self.old.processes m
             → Represents self.new.processes
             (with_own m p.0 (record (own_at m p.0) { call = Some code })) }
         ensures chosen { self.new.chosen ≡ self.old.chosen }
@@ -47,8 +47,8 @@ impl Kernel {
     /// does: Y has what the call has moved, if it answers a count.
     pub(crate) fn break_off(&mut self, p: Pid)
         requires lives { IsLiving self.old.processes.table p.0 }
-        ensures tied { (m : Inner) → Represents self.old.processes m → Represents self.new.processes
-            (broken_off m p.0 (interrupted_count self.old.files.io p.0)) }
+        ensures tied { (m : Processes) → Represents self.old.processes m → Represents
+            self.new.processes (broken_off m p.0 (interrupted_count self.old.files.io p.0)) }
         ensures files { (views : List DriveView) (files : Files)
             → StandsFor self.old.files views files
             → StandsFor self.new.files views (files_interrupted files p.0) }
@@ -69,7 +69,7 @@ impl Kernel {
     pub(crate) fn end_process(&mut self, p: Pid, status: u8)
         requires lives { IsLiving self.old.processes.table p.0 }
         requires process { p.0 < 33 }
-        ensures tied { (m : Inner) → Represents self.old.processes m
+        ensures tied { (m : Processes) → Represents self.old.processes m
             → Represents self.new.processes (ended m p.0 status) }
         ensures files { (views : List DriveView) (files : Files)
             → StandsFor self.old.files views files

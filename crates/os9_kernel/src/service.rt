@@ -1,7 +1,8 @@
 //! What the code of a call asks for.
 
 ghost use Rattle.std.specs.Prelude.{◌≡◌};
-ghost use Rattle.machine_model.specs.Services.{on_processes as on_processes_lem, service_of};
+ghost use Rattle.machine_model.specs.Services as model;
+ghost use Rattle.machine_model.specs.Services.{service_of};
 ghost use Rattle.os9_kernel.specs.Services.{IsPlainService, service_in_machine};
 
 use call_rules::proc_call::{ProcCall, proc_call};
@@ -55,7 +56,7 @@ pub(crate) fn service_by_code(code: u8) -> Service
 
 /// The service of a call on processes and modules.
 fn on_processes(call: ProcCall) -> Service
-    ensures is { service_in_machine result ≡ on_processes_lem call }
+    ensures is { service_in_machine result ≡ model.on_processes call }
     ensures plain { IsPlainService result }
 {
     match call {

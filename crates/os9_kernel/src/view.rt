@@ -2,13 +2,13 @@
 //! record locks, and of each process the registers, the bytes and whether a tick ends its wait.
 
 ghost use Rattle.std.specs.Prelude.{◌≡◌, ◌<◌, option_map};
-ghost use Rattle.call_rules.specs.Inner.{cells_at};
-ghost use Rattle.call_rules.specs.Send.{is_call as is_call_lem};
+ghost use Rattle.call_rules.specs.Processes.{cells_at};
+ghost use Rattle.call_rules.specs.Send.{is_call as is_call_model};
 ghost use Rattle.lock_model.specs.History.{AtomicPairs};
 ghost use Rattle.machine_model.specs.State.{State};
 ghost use Rattle.os9_kernel.specs.Outside.{Outside};
 ghost use Rattle.os9_kernel.specs.Tie.{Represents, executed};
-ghost use Rattle.os9_kernel.specs.View.{has_limit as has_limit_lem, living_regs, sleeps_by_clock as sleeps_by_clock_lem, wakes_by_clock as wakes_by_clock_lem};
+ghost use Rattle.os9_kernel.specs.View.{has_limit as has_limit_model, living_regs, sleeps_by_clock as sleeps_by_clock_model, wakes_by_clock as wakes_by_clock_model};
 ghost use Rattle.user_names.specs.UserNames.{user_cell};
 
 use crate::kernel::Kernel;
@@ -39,7 +39,7 @@ impl Kernel {
     /// The registers of a process, if it lives.
     pub fn regs(&self, p: Pid) -> Option<Regs>
         ensures { (devices : Outside) (s : State) → Represents self.now devices s
-            → result ≡ living_regs s.inner p.0 }
+            → result ≡ living_regs s.processes p.0 }
     {
         match self.processes.table.life(p) {
             None | Some(Life::Ended(_)) => None,
@@ -51,7 +51,7 @@ impl Kernel {
     pub fn byte(&self, p: Pid, at: u16) -> Option<u8>
         requires { p.0 < 33 }
         ensures { (devices : Outside) (s : State) → Represents self.now devices s
-            → result ≡ user_cell (cells_at s.inner p.0) at }
+            → result ≡ user_cell (cells_at s.processes p.0) at }
     {
         self.processes.memory.byte(p, at, 0)
     }
@@ -80,7 +80,7 @@ impl Kernel {
     pub fn wakes_by_clock(&self, p: Pid) -> bool
         requires { p.0 < 33 }
         ensures { (devices : Outside) (s : State) → Represents self.now devices s
-            → result ≡ wakes_by_clock_lem s p.0 }
+            → result ≡ wakes_by_clock_model s p.0 }
     {
         self.sleeps_by_clock(p) || has_limit(self.files.records.locks().request_of(p))
     }
@@ -89,7 +89,7 @@ impl Kernel {
     fn sleeps_by_clock(&self, p: Pid) -> bool
         requires { p.0 < 33 }
         ensures { (devices : Outside) (s : State) → Represents self.now devices s
-            → result ≡ sleeps_by_clock_lem s.inner p.0 }
+            → result ≡ sleeps_by_clock_model s.processes p.0 }
     {
         let waits = matches!(self.processes.table.life(p), Some(Life::Waiting));
         let own = self.processes.own(p);
@@ -99,7 +99,7 @@ impl Kernel {
 
 /// Does a request for a record wait for a limited number of ticks?
 fn has_limit(request: Option<Request>) -> bool
-    ensures { result ≡ has_limit_lem request }
+    ensures { result ≡ has_limit_model request }
 {
     match request {
         None => false,
@@ -109,7 +109,7 @@ fn has_limit(request: Option<Request>) -> bool
 
 /// Has the unfinished call this code?
 fn is_call(call: Option<u8>, code: u8) -> bool
-    ensures { result ≡ is_call_lem call code }
+    ensures { result ≡ is_call_model call code }
 {
     match call {
         None => false,

@@ -1,5 +1,6 @@
 ghost use Rattle.std.specs.Prelude.{◌≡◌, ◌≢◌, ℕ, Some, IfOk, OnOk, OnErr, IsOkUnless, option_copied, List, position};
-ghost use Rattle.os9_outer.specs.HostFile.{file_named, is_named as is_named_lem};
+ghost use Rattle.os9_outer.specs.HostFile as model;
+ghost use Rattle.os9_outer.specs.HostFile.{file_named};
 
 use crate::host::HostFault;
 use std::alloc::{AllocError, Global};
@@ -23,7 +24,7 @@ pub(crate) fn bytes_of<'a>(files: &'a [HostFile], name: &str) -> Option<&'a [u8]
 
 // The place of the first file of this name.
 fn place_of(files: &[HostFile], name: &str) -> Option<usize>
-    ensures { result ≡ position (is_named_lem name.now) files.now }
+    ensures { result ≡ position (model.is_named name.now) files.now }
 {
     files.iter().position(|file| file.name.as_str() == name)
 }

@@ -1,9 +1,9 @@
 ghost use Rattle.std.specs.Prelude.{◌≡◌, ◌==◌, Some, None, IfOk, IfSome, IfNone, option_map, map, length, replicate};
 ghost use Rattle.std.specs.List.{find};
-ghost use Rattle.proc_rules.specs.Turns.{age_in as age_in_lem, ready_turns, greatest_age as greatest_age_lem, eldest as eldest_lem, aged};
-ghost use Rattle.os9_sched.specs.Elder.{elder as elder_lem};
-ghost use Rattle.os9_sched.specs.Waits.{woken_at as woken_at_lem};
-ghost use Rattle.os9_sched.specs.Members.{IsMember, is_active_in as is_active_in_lem, priority_in as priority_in_lem, IsNextWaiting, NobodyWaits};
+ghost use Rattle.proc_rules.specs.Turns.{age_in as age_in_model, ready_turns, greatest_age as greatest_age_model, eldest as eldest_model, aged};
+ghost use Rattle.os9_sched.specs.Elder.{elder as elder_model};
+ghost use Rattle.os9_sched.specs.Waits.{woken_at as woken_at_model};
+ghost use Rattle.os9_sched.specs.Members.{IsMember, is_active_in as is_active_in_model, priority_in as priority_in_model, IsNextWaiting, NobodyWaits};
 
 use crate::member::{Cause, Member, is_active, waits_for, woken_at};
 use os9_base::limits::PROCESS_PLACES;
@@ -24,7 +24,7 @@ pub fn empty_places(alloc: Global) -> Result<Vec<Option<Member>>, AllocError>
 
 /// Is this process a member, and active?
 pub fn is_active_in(members: &[Option<Member>], p: Pid) -> bool
-    ensures { result ≡ is_active_in_lem members.now p.0 }
+    ensures { result ≡ is_active_in_model members.now p.0 }
 {
     match members.get(p.0 as usize) {
         Some(Some(member)) => is_active(member.standing),
@@ -34,7 +34,7 @@ pub fn is_active_in(members: &[Option<Member>], p: Pid) -> bool
 
 /// The priority of a process, if it is a member.
 pub fn priority_in(members: &[Option<Member>], p: Pid) -> u8
-    ensures { result ≡ priority_in_lem members.now p.0 }
+    ensures { result ≡ priority_in_model members.now p.0 }
 {
     match members.get(p.0 as usize) {
         Some(Some(member)) => member.priority,
@@ -44,7 +44,7 @@ pub fn priority_in(members: &[Option<Member>], p: Pid) -> u8
 
 /// The age of a process, if it has a turn.
 pub fn age_in(order: &[Turn], p: Pid) -> Option<u8>
-    ensures { result ≡ age_in_lem order.now p.0 }
+    ensures { result ≡ age_in_model order.now p.0 }
 {
     let turn = order.iter().find(|turn| turn.process == p)?;
     Some(turn.age)
@@ -52,7 +52,8 @@ pub fn age_in(order: &[Turn], p: Pid) -> Option<u8>
 
 /// The active process of greatest age; of several the first one.
 pub fn eldest(order: &[Turn], members: &[Option<Member>]) -> Option<Pid>
-    ensures eldest { result ≡ eldest_lem (ready_turns (is_active_in_lem members.now) order.now) }
+    ensures eldest { result ≡ eldest_model
+        (ready_turns (is_active_in_model members.now) order.now) }
     ensures member { IfSome result (λ p. IsMember members.now p.0) }
 {
     let turn = eldest_turn(order, members)?;
@@ -61,8 +62,8 @@ pub fn eldest(order: &[Turn], members: &[Option<Member>]) -> Option<Pid>
 
 /// The turn of this process.
 fn eldest_turn(order: &[Turn], members: &[Option<Member>]) -> Option<Turn>
-    ensures eldest { let turns = ready_turns (is_active_in_lem members.now) order.now in
-        result ≡ find (λ t. t.age == greatest_age_lem turns) turns }
+    ensures eldest { let turns = ready_turns (is_active_in_model members.now) order.now in
+        result ≡ find (λ t. t.age == greatest_age_model turns) turns }
     ensures member { IfSome result (λ t. IsMember members.now t.process.0) }
 {
     let mut eldest = None;
@@ -76,7 +77,7 @@ fn eldest_turn(order: &[Turn], members: &[Option<Member>]) -> Option<Turn>
 
 /// The elder of two turns, if there are two; of equals the first one.
 fn elder(first: Option<Turn>, second: Turn) -> Turn
-    ensures { Some result ≡ elder_lem first second }
+    ensures { Some result ≡ elder_model first second }
 {
     match first {
         Some(turn) if second.age <= turn.age => turn,
@@ -88,7 +89,7 @@ fn elder(first: Option<Turn>, second: Turn) -> Turn
 /// resting one has its priority.
 pub fn age(order: &mut [Turn], members: &[Option<Member>])
     ensures { order.new
-        ≡ map (aged (is_active_in_lem members.now) (priority_in_lem members.now)) order.old }
+        ≡ map (aged (is_active_in_model members.now) (priority_in_model members.now)) order.old }
 {
     for turn in order.iter_mut() {
         turn.age = age_after(*turn, members);
@@ -98,7 +99,7 @@ pub fn age(order: &mut [Turn], members: &[Option<Member>])
 /// The age of a turn after a choice of another process.
 fn age_after(turn: Turn, members: &[Option<Member>]) -> u8
     ensures { result
-        ≡ (aged (is_active_in_lem members.now) (priority_in_lem members.now) turn).age }
+        ≡ (aged (is_active_in_model members.now) (priority_in_model members.now) turn).age }
 {
     match members.get(turn.process.0 as usize) {
         Some(Some(member)) if is_active(member.standing) => turn.age.saturating_add(1),
@@ -109,7 +110,7 @@ fn age_after(turn: Turn, members: &[Option<Member>]) -> u8
 
 /// Makes each process active if its tick is reached.
 pub fn wake_due(members: &mut [Option<Member>], tick: u32)
-    ensures { members.new ≡ map (option_map (woken_at_lem tick)) members.old }
+    ensures { members.new ≡ map (option_map (woken_at_model tick)) members.old }
 {
     for place in members.iter_mut() {
         *place = place.map(|member| woken_at(tick, member));

@@ -1,6 +1,6 @@
 ghost use Rattle.std.specs.Prelude.{◌≡◌, ◌↔◌, IsTrue, Some, Option, option_map};
 ghost use Rattle.os9_sched.specs.Members.{wait_at};
-ghost use Rattle.os9_sched.specs.Waits.{is_active as is_active_lem, wait_of as wait_of_lem, woken as woken_lem, rested as rested_lem, is_due as is_due_lem, woken_at as woken_at_lem};
+ghost use Rattle.os9_sched.specs.Waits as model;
 
 /// What a process waits for.
 #[derive(Clone, Copy, Debug, PartialEq, Eq)]
@@ -44,7 +44,7 @@ pub struct Member {
 
 /// May a process of this standing be chosen?
 pub fn is_active(standing: Standing) -> bool
-    ensures { result ≡ is_active_lem standing }
+    ensures { result ≡ model.is_active standing }
 {
     match standing {
         Standing::Going | Standing::Woken(_) => true,
@@ -54,7 +54,7 @@ pub fn is_active(standing: Standing) -> bool
 
 /// The standing made active; the cause stays.
 pub fn woken(standing: Standing) -> Standing
-    ensures { result ≡ woken_lem standing }
+    ensures { result ≡ model.woken standing }
 {
     match standing {
         Standing::Going => Standing::Going,
@@ -64,7 +64,7 @@ pub fn woken(standing: Standing) -> Standing
 
 /// The standing put to rest, if it has a cause; the cause stays.
 pub fn rested(standing: Standing) -> Standing
-    ensures { result ≡ rested_lem standing }
+    ensures { result ≡ model.rested standing }
 {
     match standing {
         Standing::Going => Standing::Going,
@@ -74,7 +74,7 @@ pub fn rested(standing: Standing) -> Standing
 
 /// The process made active if it has a tick that is reached.
 pub fn woken_at(tick: u32, member: Member) -> Member
-    ensures { result ≡ woken_at_lem tick member }
+    ensures { result ≡ model.woken_at tick member }
 {
     if !is_due(tick, member.standing) {
         return member;
@@ -85,7 +85,7 @@ pub fn woken_at(tick: u32, member: Member) -> Member
 
 /// Does a process of this standing have a tick that is reached?
 fn is_due(tick: u32, standing: Standing) -> bool
-    ensures { result ≡ is_due_lem tick standing }
+    ensures { result ≡ model.is_due tick standing }
 {
     let until = wait_of(standing).and_then(|wait| wait.until);
     until.is_some_and(|until| until <= tick)
@@ -106,7 +106,7 @@ pub fn waits_for(place: Option<Member>, cause: Cause) -> bool
 
 /// The cause and its tick, if there is a cause.
 fn wait_of(standing: Standing) -> Option<Wait>
-    ensures { result ≡ wait_of_lem standing }
+    ensures { result ≡ model.wait_of standing }
 {
     match standing {
         Standing::Going => None,

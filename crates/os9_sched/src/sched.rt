@@ -1,7 +1,8 @@
 ghost use Rattle.std.specs.Prelude.{◌≡◌, ◌<◌, ◌≤◌, ◌++◌, ◌∷◌, [], None, Some, IfOk, IfSome, IfNone, length, replicate, slice_set, vec_len};
 ghost use Rattle.std.specs.Vec.{vec_capacity};
 ghost use Rattle.proc_rules.specs.Records.{IsProcess};
-ghost use Rattle.proc_rules.specs.Turns.{age_in as age_in_lem, without_turn};
+ghost use Rattle.proc_rules.specs.Turns as model;
+ghost use Rattle.proc_rules.specs.Turns.{without_turn};
 ghost use Rattle.os9_sched.specs.Members.{member_of, member_at, IsMember, HasWait, HasNoWait, IsNextWaiting, NobodyWaits};
 ghost use Rattle.os9_sched.specs.Schedule.{IsSchedule, with_priority, with_standing, after_add, after_remove, after_wait, after_wake, after_rest, after_go, after_tick, chosen, after_dispatch};
 ghost use Rattle.os9_sched.specs.Dispatch.{grown_older, with_last};
@@ -92,7 +93,7 @@ impl Sched {
     /// The age of a process.
     pub fn age(&self, p: Pid) -> u8
         requires { IsMember self.now.members p.0 }
-        ensures age { age_in_lem self.now.order p.0 ≡ Some result }
+        ensures age { model.age_in self.now.order p.0 ≡ Some result }
         ensures shape { IsSchedule self.now }
     {
         age_in(&self.order, p).unwrap()

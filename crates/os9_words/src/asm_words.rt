@@ -3,7 +3,8 @@
 ghost use Rattle.std.specs.Prelude.{◌≡◌, IfOk, None, Some, map, option_and_then, string_bytes};
 ghost use Rattle.option_reader.specs.Given.{words_give};
 ghost use Rattle.os9_words.specs.Command.{OnRefused};
-ghost use Rattle.os9_words.specs.Asm.{asm_of as asm_of_lem, asm_options};
+ghost use Rattle.os9_words.specs.Asm as model;
+ghost use Rattle.os9_words.specs.Asm.{asm_options};
 
 use crate::command::{WordsFault, read_options};
 use crate::word::Word;
@@ -21,9 +22,9 @@ pub struct AsmWords {
 
 // Reads the words after `asm`.
 pub(crate) fn read_asm(alloc: Global, words: &[String]) -> Result<AsmWords, WordsFault>
-    ensures words { IfOk result (λ read. option_and_then asm_of_lem
+    ensures words { IfOk result (λ read. option_and_then model.asm_of
         (words_give asm_options (map string_bytes words.now)) ≡ Some read) }
-    ensures refused { OnRefused result (option_and_then asm_of_lem
+    ensures refused { OnRefused result (option_and_then model.asm_of
         (words_give asm_options (map string_bytes words.now)) ≡ None) }
 {
     let given = read_options(alloc, &[], words)?;
@@ -32,8 +33,8 @@ pub(crate) fn read_asm(alloc: Global, words: &[String]) -> Result<AsmWords, Word
 
 // `asm SOURCE OUT`.
 fn asm_of(alloc: Global, given: &GivenWords<'_>) -> Result<AsmWords, WordsFault>
-    ensures words { IfOk result (λ read. asm_of_lem given.now ≡ Some read) }
-    ensures refused { OnRefused result (asm_of_lem given.now ≡ None) }
+    ensures words { IfOk result (λ read. model.asm_of given.now ≡ Some read) }
+    ensures refused { OnRefused result (model.asm_of given.now ≡ None) }
 {
     let source = given.argument(0);
     let out = given.argument(1);

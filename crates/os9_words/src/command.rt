@@ -2,13 +2,13 @@ ghost use Rattle.std.specs.Prelude.{◌≡◌, ◌≢◌, ◌<◌, ◌≤◌, �
 ghost use Rattle.std.specs.List.{All};
 ghost use Rattle.civil_time.specs.CivilTime.{is_time_packet};
 ghost use Rattle.os9_words.specs.Command.{boot_options, command_of, check_options, most_images, stress_options, IsCommand, IsRun, OnRefused};
-ghost use Rattle.os9_words.specs.Command.{boot_of as boot_of_lem, check_of as check_of_lem, run_of as run_of_lem};
-ghost use Rattle.os9_words.specs.Command.{seed_of as seed_of_lem, stress_of as stress_of_lem};
-ghost use Rattle.os9_words.specs.Times.{time_of as time_of_lem};
-ghost use Rattle.os9_words.specs.Asm.{asm_of as asm_of_lem, asm_options};
-ghost use Rattle.os9_words.specs.Debug.{debug_of as debug_of_lem, debug_options};
-ghost use Rattle.os9_words.specs.Run.{blocks_of as blocks_of_lem, run_options, run_words_of};
-ghost use Rattle.os9_words.specs.Vol.{vol_of as vol_of_lem, vol_options};
+ghost use Rattle.os9_words.specs.Command.{boot_of as boot_of_model, check_of as check_of_model, run_of as run_of_model};
+ghost use Rattle.os9_words.specs.Command.{seed_of as seed_of_model, stress_of as stress_of_model};
+ghost use Rattle.os9_words.specs.Times.{time_of as time_of_model};
+ghost use Rattle.os9_words.specs.Asm.{asm_of as asm_of_model, asm_options};
+ghost use Rattle.os9_words.specs.Debug.{debug_of as debug_of_model, debug_options};
+ghost use Rattle.os9_words.specs.Run.{blocks_of as blocks_of_model, run_options, run_words_of};
+ghost use Rattle.os9_words.specs.Vol.{vol_of as vol_of_model, vol_options};
 ghost use Rattle.os9_words.specs.declared.command.Command.TheVariants.{Asm, Debug, Vol};
 ghost use Rattle.option_reader.specs.Given.{value_of, words_give};
 
@@ -126,10 +126,10 @@ pub fn read_words(alloc: Global, words: &[String]) -> Result<Command, WordsFault
 
 // Reads the words after `run`.
 fn read_run(alloc: Global, words: &[String]) -> Result<Command, WordsFault>
-    ensures command { IfOk result (λ read. option_and_then run_of_lem
+    ensures command { IfOk result (λ read. option_and_then run_of_model
         (words_give run_options (map string_bytes words.now)) ≡ Some read) }
     ensures complete { IfOk result IsCommand }
-    ensures refused { OnRefused result (option_and_then run_of_lem
+    ensures refused { OnRefused result (option_and_then run_of_model
         (words_give run_options (map string_bytes words.now)) ≡ None) }
 {
     let names = ["slices", "script", "blocks", "time"];
@@ -139,10 +139,10 @@ fn read_run(alloc: Global, words: &[String]) -> Result<Command, WordsFault>
 
 // Reads the words after `boot`.
 fn read_boot(alloc: Global, words: &[String]) -> Result<Command, WordsFault>
-    ensures command { IfOk result (λ read. option_and_then boot_of_lem
+    ensures command { IfOk result (λ read. option_and_then boot_of_model
         (words_give boot_options (map string_bytes words.now)) ≡ Some read) }
     ensures complete { IfOk result IsCommand }
-    ensures refused { OnRefused result (option_and_then boot_of_lem
+    ensures refused { OnRefused result (option_and_then boot_of_model
         (words_give boot_options (map string_bytes words.now)) ≡ None) }
 {
     let options = ["slices", "script", "blocks", "time", "history"];
@@ -152,10 +152,10 @@ fn read_boot(alloc: Global, words: &[String]) -> Result<Command, WordsFault>
 
 // Reads the words after `check`.
 fn read_check(alloc: Global, words: &[String]) -> Result<Command, WordsFault>
-    ensures command { IfOk result (λ read. option_and_then check_of_lem
+    ensures command { IfOk result (λ read. option_and_then check_of_model
         (words_give check_options (map string_bytes words.now)) ≡ Some read) }
     ensures complete { IfOk result IsCommand }
-    ensures refused { OnRefused result (option_and_then check_of_lem
+    ensures refused { OnRefused result (option_and_then check_of_model
         (words_give check_options (map string_bytes words.now)) ≡ None) }
 {
     let given = read_options(alloc, &[], words)?;
@@ -164,10 +164,10 @@ fn read_check(alloc: Global, words: &[String]) -> Result<Command, WordsFault>
 
 // Reads the words after `stress`.
 fn read_stress(alloc: Global, words: &[String]) -> Result<Command, WordsFault>
-    ensures command { IfOk result (λ read. option_and_then stress_of_lem
+    ensures command { IfOk result (λ read. option_and_then stress_of_model
         (words_give stress_options (map string_bytes words.now)) ≡ Some read) }
     ensures complete { IfOk result IsCommand }
-    ensures refused { OnRefused result (option_and_then stress_of_lem
+    ensures refused { OnRefused result (option_and_then stress_of_model
         (words_give stress_options (map string_bytes words.now)) ≡ None) }
 {
     stress_of(&read_options(alloc, &[], words)?)
@@ -175,10 +175,10 @@ fn read_stress(alloc: Global, words: &[String]) -> Result<Command, WordsFault>
 
 // Reads the words after `vol`.
 fn read_tool(alloc: Global, words: &[String]) -> Result<Command, WordsFault>
-    ensures command { IfOk result (λ read. option_map Vol (option_and_then vol_of_lem
+    ensures command { IfOk result (λ read. option_map Vol (option_and_then vol_of_model
         (words_give vol_options (map string_bytes words.now))) ≡ Some read) }
     ensures complete { IfOk result IsCommand }
-    ensures refused { OnRefused result (option_map Vol (option_and_then vol_of_lem
+    ensures refused { OnRefused result (option_map Vol (option_and_then vol_of_model
         (words_give vol_options (map string_bytes words.now))) ≡ None) }
 {
     match read_vol(alloc, words) {
@@ -189,10 +189,10 @@ fn read_tool(alloc: Global, words: &[String]) -> Result<Command, WordsFault>
 
 // Reads the words after `asm`.
 fn read_source(alloc: Global, words: &[String]) -> Result<Command, WordsFault>
-    ensures command { IfOk result (λ read. option_map Asm (option_and_then asm_of_lem
+    ensures command { IfOk result (λ read. option_map Asm (option_and_then asm_of_model
         (words_give asm_options (map string_bytes words.now))) ≡ Some read) }
     ensures complete { IfOk result IsCommand }
-    ensures refused { OnRefused result (option_map Asm (option_and_then asm_of_lem
+    ensures refused { OnRefused result (option_map Asm (option_and_then asm_of_model
         (words_give asm_options (map string_bytes words.now))) ≡ None) }
 {
     match read_asm(alloc, words) {
@@ -203,10 +203,10 @@ fn read_source(alloc: Global, words: &[String]) -> Result<Command, WordsFault>
 
 // Reads the words after `debug`.
 fn read_session(alloc: Global, words: &[String]) -> Result<Command, WordsFault>
-    ensures command { IfOk result (λ read. option_map Debug (option_and_then debug_of_lem
+    ensures command { IfOk result (λ read. option_map Debug (option_and_then debug_of_model
         (words_give debug_options (map string_bytes words.now))) ≡ Some read) }
     ensures complete { IfOk result IsCommand }
-    ensures refused { OnRefused result (option_map Debug (option_and_then debug_of_lem
+    ensures refused { OnRefused result (option_map Debug (option_and_then debug_of_model
         (words_give debug_options (map string_bytes words.now))) ≡ None) }
 {
     match read_debug(alloc, words) {
@@ -236,9 +236,9 @@ pub(crate) fn read_options<'a>(
 
 // `run MODULES --slices SLICES`, optionally with `--script SCRIPT`, `--blocks N` and `--time T`.
 fn run_of(alloc: Global, given: &GivenWords<'_>) -> Result<Command, WordsFault>
-    ensures command { IfOk result (λ read. run_of_lem given.now ≡ Some read) }
+    ensures command { IfOk result (λ read. run_of_model given.now ≡ Some read) }
     ensures complete { IfOk result IsCommand }
-    ensures refused { OnRefused result (run_of_lem given.now ≡ None) }
+    ensures refused { OnRefused result (run_of_model given.now ≡ None) }
 {
     match run_given(alloc, given) {
         Ok(run) => Ok(Command::Run(run)),
@@ -269,9 +269,9 @@ pub(crate) fn run_given(alloc: Global, given: &GivenWords<'_>) -> Result<RunWord
 // `boot IMAGE.. --script SCRIPT --slices SLICES`, optionally with `--blocks N`, `--time T` and
 // `--history FILE`.
 fn boot_of(alloc: Global, given: &GivenWords<'_>) -> Result<Command, WordsFault>
-    ensures command { IfOk result (λ read. boot_of_lem given.now ≡ Some read) }
+    ensures command { IfOk result (λ read. boot_of_model given.now ≡ Some read) }
     ensures complete { IfOk result IsCommand }
-    ensures refused { OnRefused result (boot_of_lem given.now ≡ None) }
+    ensures refused { OnRefused result (boot_of_model given.now ≡ None) }
 {
     let script = given.value("script");
     let slices = given.value("slices");
@@ -341,9 +341,9 @@ fn image_words(alloc: Global, given: &GivenWords<'_>) -> Result<Words, AllocErro
 
 // `check IMAGE`.
 fn check_of(alloc: Global, given: &GivenWords<'_>) -> Result<Command, WordsFault>
-    ensures command { IfOk result (λ read. check_of_lem given.now ≡ Some read) }
+    ensures command { IfOk result (λ read. check_of_model given.now ≡ Some read) }
     ensures complete { IfOk result IsCommand }
-    ensures refused { OnRefused result (check_of_lem given.now ≡ None) }
+    ensures refused { OnRefused result (check_of_model given.now ≡ None) }
 {
     let Some(image) = given.only_argument() else {
         return Err(WordsFault::Refused);
@@ -356,9 +356,9 @@ fn check_of(alloc: Global, given: &GivenWords<'_>) -> Result<Command, WordsFault
 
 // `stress N`.
 fn stress_of(given: &GivenWords<'_>) -> Result<Command, WordsFault>
-    ensures command { IfOk result (λ read. stress_of_lem given.now ≡ Some read) }
+    ensures command { IfOk result (λ read. stress_of_model given.now ≡ Some read) }
     ensures complete { IfOk result IsCommand }
-    ensures refused { OnRefused result (stress_of_lem given.now ≡ None) }
+    ensures refused { OnRefused result (stress_of_model given.now ≡ None) }
 {
     let Some(number) = given.only_argument() else {
         return Err(WordsFault::Refused);
@@ -409,7 +409,7 @@ fn copy_if_given(alloc: Global, text: Option<&str>) -> Result<Option<Word>, Allo
 
 // The number of blocks: 64 without `--blocks`.
 fn blocks_of(given: &GivenWords<'_>) -> Option<u16>
-    ensures number { result ≡ blocks_of_lem given.now }
+    ensures number { result ≡ blocks_of_model given.now }
     ensures least { IfSome result (λ blocks. 8 ≤ blocks) }
     ensures most { IfSome result (λ blocks. blocks ≤ 256) }
 {
@@ -422,7 +422,7 @@ fn blocks_of(given: &GivenWords<'_>) -> Option<u16>
 
 // The date and time at the start: the beginning of 1990 without `--time`.
 pub(crate) fn time_of(given: &GivenWords<'_>) -> Option<TimePacket>
-    ensures time { result ≡ time_of_lem given.now }
+    ensures time { result ≡ time_of_model given.now }
     ensures civil { IfSome result (λ start. is_time_packet start ≡ true) }
 {
     match given.value("time") {
@@ -433,7 +433,7 @@ pub(crate) fn time_of(given: &GivenWords<'_>) -> Option<TimePacket>
 
 // The seed that a number spells.
 fn seed_of(number: &str) -> Option<u32>
-    ensures seed { result ≡ seed_of_lem number.now }
+    ensures seed { result ≡ seed_of_model number.now }
     ensures most { IfSome result (λ seed. seed < 2147483648) }
 {
     read_number(number.as_bytes(), 0, MOST_SEED)

@@ -3,7 +3,8 @@
 ghost use Rattle.std.specs.Prelude.{◌≡◌, IfOk, None, Some, map, option_and_then, string_bytes};
 ghost use Rattle.option_reader.specs.Given.{words_give};
 ghost use Rattle.os9_words.specs.Command.{IsRun, OnRefused};
-ghost use Rattle.os9_words.specs.Debug.{debug_of as debug_of_lem, debug_options};
+ghost use Rattle.os9_words.specs.Debug as model;
+ghost use Rattle.os9_words.specs.Debug.{debug_options};
 
 use crate::command::{RunWords, WordsFault, read_options, run_given};
 use crate::word::Word;
@@ -21,10 +22,10 @@ pub struct DebugWords {
 
 // Reads the words after `debug`.
 pub(crate) fn read_debug(alloc: Global, words: &[String]) -> Result<DebugWords, WordsFault>
-    ensures words { IfOk result (λ read. option_and_then debug_of_lem
+    ensures words { IfOk result (λ read. option_and_then model.debug_of
         (words_give debug_options (map string_bytes words.now)) ≡ Some read) }
     ensures complete { IfOk result (λ read. IsRun read.run) }
-    ensures refused { OnRefused result (option_and_then debug_of_lem
+    ensures refused { OnRefused result (option_and_then model.debug_of
         (words_give debug_options (map string_bytes words.now)) ≡ None) }
 {
     let names = ["slices", "commands", "script", "blocks", "time"];
@@ -35,9 +36,9 @@ pub(crate) fn read_debug(alloc: Global, words: &[String]) -> Result<DebugWords, 
 // `debug MODULES --slices SLICES --commands COMMANDS`, optionally with `--script SCRIPT`,
 // `--blocks N` and `--time T`.
 fn debug_of(alloc: Global, given: &GivenWords<'_>) -> Result<DebugWords, WordsFault>
-    ensures words { IfOk result (λ read. debug_of_lem given.now ≡ Some read) }
+    ensures words { IfOk result (λ read. model.debug_of given.now ≡ Some read) }
     ensures complete { IfOk result (λ read. IsRun read.run) }
-    ensures refused { OnRefused result (debug_of_lem given.now ≡ None) }
+    ensures refused { OnRefused result (model.debug_of given.now ≡ None) }
 {
     let run = match run_given(alloc, given) {
         Ok(run) => run,

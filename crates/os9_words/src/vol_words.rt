@@ -2,11 +2,11 @@
 
 ghost use Rattle.std.specs.Prelude.{◌≡◌, ◌≢◌, ◌+◌, ◌≤◌, nat_eq, codes, IfOk, IfSome, Some, None, drop, length, map, option_and_then, slice_get, string_bytes, take, true};
 ghost use Rattle.civil_time.specs.CivilTime.{is_time_packet};
-ghost use Rattle.rbf_model.specs.Geometry.{is_cluster_size as is_cluster_size_lem};
+ghost use Rattle.rbf_model.specs.Geometry.{is_cluster_size as is_cluster_size_model};
 ghost use Rattle.option_reader.specs.Given.{value_of, words_give};
 ghost use Rattle.os9_words.specs.Command.{OnRefused};
-ghost use Rattle.os9_words.specs.Vol.{cluster_of as cluster_of_lem, format_with, rest_count as rest_count_lem, sectors_in, tool_with};
-ghost use Rattle.os9_words.specs.Vol.{verb_of as verb_of_lem, vol_of as vol_of_lem, vol_options, IsVol};
+ghost use Rattle.os9_words.specs.Vol.{cluster_of as cluster_of_model, format_with, rest_count as rest_count_model, sectors_in, tool_with};
+ghost use Rattle.os9_words.specs.Vol.{verb_of as verb_of_model, vol_of as vol_of_model, vol_options, IsVol};
 
 use crate::command::{WordsFault, read_options, time_of};
 use crate::word::{Word, Words};
@@ -65,10 +65,10 @@ const DEFAULT_CLUSTER: u16 = 1;
 
 // Reads the words after `vol`.
 pub(crate) fn read_vol(alloc: Global, words: &[String]) -> Result<VolWords, WordsFault>
-    ensures words { IfOk result (λ read. option_and_then vol_of_lem
+    ensures words { IfOk result (λ read. option_and_then vol_of_model
         (words_give vol_options (map string_bytes words.now)) ≡ Some read) }
     ensures complete { IfOk result IsVol }
-    ensures refused { OnRefused result (option_and_then vol_of_lem
+    ensures refused { OnRefused result (option_and_then vol_of_model
         (words_give vol_options (map string_bytes words.now)) ≡ None) }
 {
     let names = ["time", "cluster"];
@@ -78,9 +78,9 @@ pub(crate) fn read_vol(alloc: Global, words: &[String]) -> Result<VolWords, Word
 
 // `vol VERB IMAGE ..`, optionally with `--time T`.
 fn vol_of(alloc: Global, given: &GivenWords<'_>) -> Result<VolWords, WordsFault>
-    ensures words { IfOk result (λ read. vol_of_lem given.now ≡ Some read) }
+    ensures words { IfOk result (λ read. vol_of_model given.now ≡ Some read) }
     ensures complete { IfOk result IsVol }
-    ensures refused { OnRefused result (vol_of_lem given.now ≡ None) }
+    ensures refused { OnRefused result (vol_of_model given.now ≡ None) }
 {
     let verb = verb_in(given);
     let image = given.argument(1);
@@ -103,10 +103,10 @@ fn format_of(
 ) -> Result<VolWords, WordsFault>
     requires { is_time_packet start ≡ true }
     ensures words { IfOk result (λ read. format_with image.now start
-        (sectors_in given.now.arguments) (cluster_of_lem given.now) ≡ Some read) }
+        (sectors_in given.now.arguments) (cluster_of_model given.now) ≡ Some read) }
     ensures complete { IfOk result IsVol }
     ensures refused { OnRefused result (format_with image.now start
-        (sectors_in given.now.arguments) (cluster_of_lem given.now) ≡ None) }
+        (sectors_in given.now.arguments) (cluster_of_model given.now) ≡ None) }
 {
     let sectors = sectors_of(given);
     let cluster = cluster_of(given);
@@ -159,7 +159,7 @@ fn tool_words(
     image: &str,
     start: TimePacket,
 ) -> Result<VolWords, AllocError>
-    requires { length given.now.arguments ≡ rest_count_lem verb + 2 }
+    requires { length given.now.arguments ≡ rest_count_model verb + 2 }
     ensures { IfOk result (λ words. words ≡ record {
       verb = verb;
       image = image.now;
@@ -197,14 +197,14 @@ fn rest_words(alloc: Global, given: &GivenWords<'_>, count: usize) -> Result<Wor
 
 // The verb, which is the first argument.
 fn verb_in(given: &GivenWords<'_>) -> Option<Verb>
-    ensures { result ≡ option_and_then verb_of_lem (slice_get given.now.arguments 0) }
+    ensures { result ≡ option_and_then verb_of_model (slice_get given.now.arguments 0) }
 {
     verb_of(given.argument(0)?)
 }
 
 // The verb that a word spells.
 fn verb_of(word: &str) -> Option<Verb>
-    ensures { result ≡ verb_of_lem word.now }
+    ensures { result ≡ verb_of_model word.now }
 {
     match word {
         "format" => Some(Verb::Format),
@@ -220,7 +220,7 @@ fn verb_of(word: &str) -> Option<Verb>
 
 // The number of words that a verb takes after IMAGE, without SECTORS.
 fn rest_count(verb: Verb) -> usize
-    ensures { result ≡ rest_count_lem verb }
+    ensures { result ≡ rest_count_model verb }
 {
     match verb {
         Verb::Put | Verb::Get => 2,
@@ -253,8 +253,8 @@ fn sectors_of(given: &GivenWords<'_>) -> Option<u32>
 
 // The sectors of a cluster: 1 without `--cluster`.
 fn cluster_of(given: &GivenWords<'_>) -> Option<u16>
-    ensures cluster { result ≡ cluster_of_lem given.now }
-    ensures size { IfSome result (λ cluster. is_cluster_size_lem cluster ≡ true) }
+    ensures cluster { result ≡ cluster_of_model given.now }
+    ensures size { IfSome result (λ cluster. is_cluster_size_model cluster ≡ true) }
 {
     let Some(number) = given.value("cluster") else {
         return Some(DEFAULT_CLUSTER);
@@ -269,7 +269,7 @@ fn cluster_of(given: &GivenWords<'_>) -> Option<u16>
 
 // Is this a valid number of sectors of a cluster?
 fn is_cluster_size(sectors: u32) -> bool
-    ensures { result ≡ is_cluster_size_lem sectors }
+    ensures { result ≡ is_cluster_size_model sectors }
 {
     matches!(sectors, 1 | 2 | 4 | 8 | 16 | 32 | 64)
 }

@@ -1,6 +1,7 @@
 ghost use Rattle.std.specs.Prelude.{◌≡◌, ◌+◌, ◌<◌, None, is_none, option_map, IfOk, IfSome, IsSome, length, drop, position, replicate, slice_index_or};
 ghost use Rattle.std.specs.List.{list_any};
-ghost use Rattle.io_model.specs.Path.{is_image as is_image_lem, inherited_numbers};
+ghost use Rattle.io_model.specs.Path as model;
+ghost use Rattle.io_model.specs.Path.{inherited_numbers};
 
 use io_model::path::{Desc, PROCESS_PATHS, SysPath};
 use std::alloc::{AllocError, Global};
@@ -58,7 +59,7 @@ pub(crate) fn free_path(descs: &[Option<Desc>]) -> Option<SysPath>
 
 // Is the place an image of this path?
 fn is_image(place: &Option<SysPath>, s: SysPath) -> bool
-    ensures { result ≡ is_image_lem s.0 place.now }
+    ensures { result ≡ model.is_image s.0 place.now }
 {
     match place {
         None => false,
@@ -68,14 +69,14 @@ fn is_image(place: &Option<SysPath>, s: SysPath) -> bool
 
 // Is one of the numbers an image of this path?
 pub(crate) fn has_image(numbers: &[Option<SysPath>], s: SysPath) -> bool
-    ensures { result ≡ list_any (is_image_lem s.0) numbers.now }
+    ensures { result ≡ list_any (model.is_image s.0) numbers.now }
 {
     numbers.iter().any(|place| is_image(place, s))
 }
 
 // Does some process hold this path?
 pub(crate) fn is_held(own: &[[Option<SysPath>; PROCESS_PATHS]], s: SysPath) -> bool
-    ensures { result ≡ list_any (list_any (is_image_lem s.0)) own.now }
+    ensures { result ≡ list_any (list_any (model.is_image s.0)) own.now }
 {
     own.iter().any(|numbers| has_image(numbers, s))
 }

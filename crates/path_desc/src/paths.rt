@@ -1,6 +1,7 @@
 ghost use Rattle.std.specs.Prelude.{◌≡◌, ◌<◌, false, Some, None, option_map, IfOk, IfSome, IsSome};
 ghost use Rattle.std.specs.Result.{result_ok};
-ghost use Rattle.io_model.specs.Path.{PathTable, ArePaths, IsOpen, no_paths, desc_of, slot_of, holds_path, is_held as is_held_lem, with_desc, with_slot, free_number as free_number_lem, free_path as free_path_lem, new_number, paths_after_begin, paths_after_dup, paths_after_inherit, paths_after_close, closed_desc};
+ghost use Rattle.io_model.specs.Path as model;
+ghost use Rattle.io_model.specs.Path.{PathTable, ArePaths, IsOpen, no_paths, desc_of, slot_of, holds_path, with_desc, with_slot, new_number, paths_after_begin, paths_after_dup, paths_after_inherit, paths_after_close, closed_desc};
 
 use crate::numbers::{
     empty_descs, free_number, free_numbers, free_path, has_image, inherited, is_held,
@@ -84,7 +85,7 @@ impl Paths {
     /// `PathsFull` if the process's sixteen numbers are in use. A refused call changes nothing.
     pub fn dup(&mut self, p: Pid, n: u8) -> Result<u8, PathsFull>
         requires { IsOpen self.old p.0 n }
-        ensures number { result_ok result ≡ free_number_lem self.old p.0 }
+        ensures number { result_ok result ≡ model.free_number self.old p.0 }
         ensures paths { self.new ≡ paths_after_dup self.old p.0 n }
         ensures shape { ArePaths self.new }
     {
@@ -179,7 +180,7 @@ impl Paths {
 impl Paths {
     fn free_number(&self, p: Pid) -> Option<u8>
         requires { p.0 < 33 }
-        ensures number { result ≡ free_number_lem self.now p.0 }
+        ensures number { result ≡ model.free_number self.now p.0 }
         ensures place { IfSome result (λ n. n < 16) }
         ensures shape { ArePaths self.now }
     {
@@ -187,7 +188,7 @@ impl Paths {
     }
 
     fn free_path(&self) -> Option<SysPath>
-        ensures number { option_map (λ s. s.0) result ≡ free_path_lem self.now }
+        ensures number { option_map (λ s. s.0) result ≡ model.free_path self.now }
         ensures place { IfSome result (λ s. (0 < s.0) × (s.0 < 65)) }
         ensures shape { ArePaths self.now }
     {
@@ -195,7 +196,7 @@ impl Paths {
     }
 
     fn is_held(&self, s: SysPath) -> bool
-        ensures held { result ≡ is_held_lem self.now s.0 }
+        ensures held { result ≡ model.is_held self.now s.0 }
         ensures shape { ArePaths self.now }
     {
         is_held(&self.own, s)
@@ -210,7 +211,7 @@ impl Paths {
     }
 
     fn remove(&mut self, s: SysPath)
-        requires unheld { is_held_lem self.old s.0 ≡ false }
+        requires unheld { model.is_held self.old s.0 ≡ false }
         requires there { s.0 < 65 }
         ensures paths { self.new ≡ with_desc self.old s.0 None }
         ensures shape { ArePaths self.new }

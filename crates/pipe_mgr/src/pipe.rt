@@ -1,6 +1,7 @@
 ghost use Rattle.std.specs.Prelude.{◌≡◌, ℕ, ◌<◌, ◌≤◌, ◌==◌, Some, None, IsSome, is_none, [], unwrap_or, IfOk, length};
 ghost use Rattle.io_model.specs.Pipe.{read_answer, read_line_answer, write_answer, left_by, added_to, buffer_after_read};
-ghost use Rattle.io_model.specs.Line.{line_length, return_place as return_place_lem};
+ghost use Rattle.io_model.specs.Line as model;
+ghost use Rattle.io_model.specs.Line.{line_length};
 
 use circular_buffer::HeapCircularBuffer;
 use io_model::keys::RETURN;
@@ -117,7 +118,7 @@ impl Pipe {
 
 // The place of the first carriage return.
 fn return_place(ring: &HeapCircularBuffer<u8>) -> Option<usize>
-    ensures { result ≡ return_place_lem ring.now.items }
+    ensures { result ≡ model.return_place ring.now.items }
 {
     ring.iter().position(|byte| *byte == RETURN)
 }

@@ -1,5 +1,6 @@
 ghost use Rattle.std.specs.Prelude.{◌≡◌, ℕ, ◌<◌, ◌≤◌, Some, None, option_map, IfOk, IfSome, length, replicate};
-ghost use Rattle.io_model.specs.Pipe.{IsPipe, ArePipes, held_bytes, with_pipe, without_pipe, free_pipe as free_pipe_lem, pipes_after_begin, read_answer, read_line_answer, write_answer, left_by, added_to, buffer_after_read};
+ghost use Rattle.io_model.specs.Pipe as model;
+ghost use Rattle.io_model.specs.Pipe.{IsPipe, ArePipes, held_bytes, with_pipe, without_pipe, pipes_after_begin, read_answer, read_line_answer, write_answer, left_by, added_to, buffer_after_read};
 
 use crate::pipe::Pipe;
 use io_model::pipe::{PipeAns, PipeId};
@@ -40,7 +41,7 @@ impl Pipes {
 
     /// Makes an empty pipe with the least free number. None if there are 16 pipes.
     pub fn begin(&mut self) -> Option<PipeId>
-        ensures number { option_map (λ id. id.0) result ≡ free_pipe_lem self.old }
+        ensures number { option_map (λ id. id.0) result ≡ model.free_pipe self.old }
         ensures made { self.new ≡ pipes_after_begin self.old }
         ensures shape { ArePipes self.new }
     {
@@ -115,7 +116,7 @@ impl Pipes {
 // The least free number of a pipe.
 fn free_pipe(pipes: &[Pipe]) -> Option<PipeId>
     requires { length pipes.now ≡ 17 }
-    ensures number { option_map (λ id. id.0) result ≡ free_pipe_lem pipes.now }
+    ensures number { option_map (λ id. id.0) result ≡ model.free_pipe pipes.now }
     ensures place { IfSome result (λ id. id.0 < 17) }
 {
     let place = pipes[1..].iter().position(|pipe| pipe.is_free())?;

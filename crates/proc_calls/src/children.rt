@@ -3,9 +3,9 @@
 ghost use Rattle.std.specs.Prelude.{◌≡◌, OnErr};
 ghost use Rattle.proc_rules.specs.Ends.{reaped, after_reap};
 ghost use Rattle.proc_rules.specs.Records.{IsLiving, record_at};
-ghost use Rattle.call_rules.specs.Exit.{f_exit as f_exit_lem};
-ghost use Rattle.call_rules.specs.Inner.{Inner, with_records};
-ghost use Rattle.call_rules.specs.Wait.{f_wait as f_wait_lem};
+ghost use Rattle.call_rules.specs.Exit.{f_exit as f_exit_model};
+ghost use Rattle.call_rules.specs.Processes.{Processes, with_records};
+ghost use Rattle.call_rules.specs.Wait.{f_wait as f_wait_model};
 ghost use Rattle.proc_state.specs.Tie.{Represents, Comes};
 ghost use Rattle.proc_calls.specs.Telling.{KeepsTurns};
 
@@ -24,8 +24,8 @@ use proc_state::state::ProcState;
 /// E$NoChld exactly if the process has no children.
 pub fn f_wait(s: &mut ProcState, p: Pid) -> CallEnd
     requires lives { IsLiving s.old.table p.0 }
-    ensures call { (m : Inner) → Represents s.old m
-        → Comes m p.0 (f_wait_lem m p.0) result s.new }
+    ensures call { (m : Processes) → Represents s.old m
+        → Comes m p.0 (f_wait_model m p.0) result s.new }
     ensures lives { IsLiving s.new.table p.0 }
     ensures still { result ≡ CallEnd.Wait → KeepsTurns s.old s.new }
 {
@@ -46,8 +46,8 @@ pub fn f_wait(s: &mut ProcState, p: Pid) -> CallEnd
 /// may wait for the status.
 pub fn f_exit(s: &mut ProcState, p: Pid) -> CallEnd
     requires lives { IsLiving s.old.table p.0 }
-    ensures call { (m : Inner) → Represents s.old m
-        → Comes m p.0 (f_exit_lem m p.0) result s.new }
+    ensures call { (m : Processes) → Represents s.old m
+        → Comes m p.0 (f_exit_model m p.0) result s.new }
 {
     let regs = s.regs(p);
     s.end(p, regs.b);
@@ -58,7 +58,7 @@ pub fn f_exit(s: &mut ProcState, p: Pid) -> CallEnd
 fn reap(s: &mut ProcState, p: Pid) -> Result<(Pid, u8), Reap>
     requires lives { IsLiving s.old.table p.0 }
     ensures child { result ≡ reaped s.old.table p.0 }
-    ensures tied { (m : Inner) → Represents s.old m
+    ensures tied { (m : Processes) → Represents s.old m
         → Represents s.new (with_records m (after_reap s.old.table p.0)) }
     ensures record { record_at s.new.table p.0 ≡ record_at s.old.table p.0 }
     ensures lives { IsLiving s.new.table p.0 }

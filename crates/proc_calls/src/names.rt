@@ -1,11 +1,11 @@
 //! Calls on names.
 
 ghost use Rattle.std.specs.Prelude.{◌≡◌, ◌<◌, IfNone, IfSome};
-ghost use Rattle.os9_base.specs.Name.{lower as lower_lem};
+ghost use Rattle.os9_base.specs.Name.{lower as lower_model};
 ghost use Rattle.proc_rules.specs.Records.{IsLiving};
-ghost use Rattle.call_rules.specs.CmpNam.{f_cmpnam as f_cmpnam_lem, agrees as agrees_lem, same_names as same_names_lem};
-ghost use Rattle.call_rules.specs.Inner.{Inner, cells_at, regs_at};
-ghost use Rattle.call_rules.specs.PrsNam.{f_prsnam as f_prsnam_lem, past_slash as past_slash_lem, parses_name as parses_name_lem};
+ghost use Rattle.call_rules.specs.CmpNam.{f_cmpnam as f_cmpnam_model, agrees as agrees_model, same_names as same_names_model};
+ghost use Rattle.call_rules.specs.Processes.{Processes, cells_at, regs_at};
+ghost use Rattle.call_rules.specs.PrsNam.{f_prsnam as f_prsnam_model, past_slash as past_slash_model, parses_name as parses_name_model};
 ghost use Rattle.guest_memory.specs.Tie.{cells_of};
 ghost use Rattle.proc_state.specs.Tie.{Represents, Comes};
 
@@ -26,8 +26,8 @@ use user_names::name_fault::NameFault;
 /// exactly if the bytes are not a name; else E$BPAddr exactly if the byte at Y is missing.
 pub fn f_prsnam(s: &mut ProcState, p: Pid) -> CallEnd
     requires lives { IsLiving s.old.table p.0 }
-    ensures call { (m : Inner) → Represents s.old m
-        → Comes m p.0 (f_prsnam_lem m p.0) result s.new }
+    ensures call { (m : Processes) → Represents s.old m
+        → Comes m p.0 (f_prsnam_model m p.0) result s.new }
     ensures lives { IsLiving s.new.table p.0 }
 {
     let regs = s.table.regs(p);
@@ -40,8 +40,8 @@ pub fn f_prsnam(s: &mut ProcState, p: Pid) -> CallEnd
 /// Parses the name at this address.
 fn parses_name(s: &mut ProcState, p: Pid, first: u16) -> CallEnd
     requires lives { IsLiving s.old.table p.0 }
-    ensures call { (m : Inner) → Represents s.old m
-        → Comes m p.0 (parses_name_lem m p.0 first) result s.new }
+    ensures call { (m : Processes) → Represents s.old m
+        → Comes m p.0 (parses_name_model m p.0 first) result s.new }
     ensures lives { IsLiving s.new.table p.0 }
 {
     let regs = s.table.regs(p);
@@ -65,8 +65,8 @@ fn parses_name(s: &mut ProcState, p: Pid, first: u16) -> CallEnd
 fn past_slash(memory: &Memory, p: Pid, at: u16) -> Option<u16>
     requires { p.0 < 33 }
     ensures some { IfSome result
-        (λ first. past_slash_lem (cells_of memory.now p.0) at ≡ first) }
-    ensures none { IfNone result (past_slash_lem (cells_of memory.now p.0) at ≡ 65536) }
+        (λ first. past_slash_model (cells_of memory.now p.0) at ≡ first) }
+    ensures none { IfNone result (past_slash_model (cells_of memory.now p.0) at ≡ 65536) }
 {
     match memory.byte(p, at, 0) {
         Some(b'/') => at.checked_add(1),
@@ -85,8 +85,8 @@ fn past_slash(memory: &Memory, p: Pid, at: u16) -> Option<u16>
 /// exactly if the names differ or B is 0.
 pub fn f_cmpnam(s: &mut ProcState, p: Pid) -> CallEnd
     requires lives { IsLiving s.old.table p.0 }
-    ensures call { (m : Inner) → Represents s.old m
-        → Comes m p.0 (f_cmpnam_lem m p.0) result s.new }
+    ensures call { (m : Processes) → Represents s.old m
+        → Comes m p.0 (f_cmpnam_model m p.0) result s.new }
     ensures lives { IsLiving s.new.table p.0 }
 {
     match compares(s, p) {
@@ -100,8 +100,8 @@ pub fn f_cmpnam(s: &mut ProcState, p: Pid) -> CallEnd
 /// is missing.
 fn compares(s: &ProcState, p: Pid) -> Option<bool>
     requires lives { IsLiving s.now.table p.0 }
-    ensures { (m : Inner) → Represents s.now m → result
-        ≡ same_names_lem (cells_at m p.0) (regs_at m p.0).x (regs_at m p.0).y (regs_at m p.0).b }
+    ensures { (m : Processes) → Represents s.now m → result
+        ≡ same_names_model (cells_at m p.0) (regs_at m p.0).x (regs_at m p.0).y (regs_at m p.0).b }
 {
     let regs = s.table.regs(p);
     same_names(&s.memory, p, regs.x, regs.y, regs.b)
@@ -111,7 +111,7 @@ fn compares(s: &ProcState, p: Pid) -> Option<bool>
 /// read is missing.
 fn same_names(memory: &Memory, p: Pid, one: u16, other: u16, length: u8) -> Option<bool>
     requires { p.0 < 33 }
-    ensures { result ≡ same_names_lem (cells_of memory.now p.0) one other length }
+    ensures { result ≡ same_names_model (cells_of memory.now p.0) one other length }
 {
     for place in 0..length {
         let a = memory.byte(p, one, place as u16)?;
@@ -128,14 +128,14 @@ fn same_names(memory: &Memory, p: Pid, one: u16, other: u16, length: u8) -> Opti
 
 /// Does a character of the first name agree with one of the second name?
 fn agrees(one: u8, other: u8) -> bool
-    ensures { result ≡ agrees_lem one other }
+    ensures { result ≡ agrees_model one other }
 {
     lower(one) == lower(other % 128)
 }
 
 /// A letter in lower case, or any other character unchanged.
 fn lower(character: u8) -> u8
-    ensures { result ≡ lower_lem character }
+    ensures { result ≡ lower_model character }
 {
     if character >= b'A' && character <= b'Z' {
         character + 32

@@ -3,10 +3,10 @@
 ghost use Rattle.std.specs.Prelude.{◌≡◌};
 ghost use Rattle.proc_rules.specs.Records.{IsLiving, is_living};
 ghost use Rattle.proc_rules.specs.Signals.{is_reached};
-ghost use Rattle.call_rules.specs.Inner.{Inner};
-ghost use Rattle.call_rules.specs.Id.{f_id as f_id_lem};
-ghost use Rattle.call_rules.specs.SPrior.{f_sprior as f_sprior_lem};
-ghost use Rattle.call_rules.specs.SUser.{f_suser as f_suser_lem};
+ghost use Rattle.call_rules.specs.Processes.{Processes};
+ghost use Rattle.call_rules.specs.Id.{f_id as f_id_model};
+ghost use Rattle.call_rules.specs.SPrior.{f_sprior as f_sprior_model};
+ghost use Rattle.call_rules.specs.SUser.{f_suser as f_suser_model};
 ghost use Rattle.proc_state.specs.Tie.{Represents, Comes};
 
 use os9_base::call::CallEnd;
@@ -23,7 +23,8 @@ const SUPERUSER: u16 = 0;
 /// A and the user in Y.
 pub fn f_id(s: &mut ProcState, p: Pid) -> CallEnd
     requires lives { IsLiving s.old.table p.0 }
-    ensures call { (m : Inner) → Represents s.old m → Comes m p.0 (f_id_lem m p.0) result s.new }
+    ensures call { (m : Processes) → Represents s.old m
+        → Comes m p.0 (f_id_model m p.0) result s.new }
     ensures lives { IsLiving s.new.table p.0 }
 {
     let user = s.table.user(p);
@@ -40,8 +41,8 @@ pub fn f_id(s: &mut ProcState, p: Pid) -> CallEnd
 /// F$SUser: gives the process to the user in Y (System Programmer's Manual, F$SUser).
 pub fn f_suser(s: &mut ProcState, p: Pid) -> CallEnd
     requires lives { IsLiving s.old.table p.0 }
-    ensures call { (m : Inner) → Represents s.old m
-        → Comes m p.0 (f_suser_lem m p.0) result s.new }
+    ensures call { (m : Processes) → Represents s.old m
+        → Comes m p.0 (f_suser_model m p.0) result s.new }
     ensures lives { IsLiving s.new.table p.0 }
 {
     let regs = s.regs(p);
@@ -58,8 +59,8 @@ pub fn f_suser(s: &mut ProcState, p: Pid) -> CallEnd
 /// user 0.
 pub fn f_sprior(s: &mut ProcState, p: Pid) -> CallEnd
     requires lives { IsLiving s.old.table p.0 }
-    ensures call { (m : Inner) → Represents s.old m
-        → Comes m p.0 (f_sprior_lem m p.0) result s.new }
+    ensures call { (m : Processes) → Represents s.old m
+        → Comes m p.0 (f_sprior_model m p.0) result s.new }
     ensures lives { IsLiving s.new.table p.0 }
 {
     let regs = s.regs(p);

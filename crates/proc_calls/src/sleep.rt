@@ -3,8 +3,8 @@
 ghost use Rattle.std.specs.Prelude.{◌≡◌, ◌+◌, ◌≤◌};
 ghost use Rattle.std.specs.Option.{ForSome};
 ghost use Rattle.proc_rules.specs.Records.{IsLiving};
-ghost use Rattle.call_rules.specs.Inner.{Inner};
-ghost use Rattle.call_rules.specs.Sleep.{f_sleep as f_sleep_lem, falls_asleep as falls_asleep_lem, sleeps_on as sleeps_on_lem, may_wake as may_wake_lem, sleep_end as sleep_end_lem, ticks_left as ticks_left_lem};
+ghost use Rattle.call_rules.specs.Processes.{Processes};
+ghost use Rattle.call_rules.specs.Sleep as model;
 ghost use Rattle.os9_base.specs.declared.limits.TheConstants.{LAST_TICK};
 ghost use Rattle.proc_state.specs.Tie.{Represents, Comes};
 ghost use Rattle.proc_calls.specs.Telling.{KeepsTurns};
@@ -20,8 +20,8 @@ use proc_state::state::ProcState;
 /// ever.
 pub fn f_sleep(s: &mut ProcState, p: Pid) -> CallEnd
     requires lives { IsLiving s.old.table p.0 }
-    ensures call { (m : Inner) → Represents s.old m
-        → Comes m p.0 (f_sleep_lem m p.0) result s.new }
+    ensures call { (m : Processes) → Represents s.old m
+        → Comes m p.0 (model.f_sleep m p.0) result s.new }
     ensures lives { IsLiving s.new.table p.0 }
     ensures still { result ≡ CallEnd.Wait → KeepsTurns s.old s.new }
 {
@@ -34,8 +34,8 @@ pub fn f_sleep(s: &mut ProcState, p: Pid) -> CallEnd
 /// The first attempt: the sleep begins.
 fn falls_asleep(s: &mut ProcState, p: Pid) -> CallEnd
     requires lives { IsLiving s.old.table p.0 }
-    ensures call { (m : Inner) → Represents s.old m
-        → Comes m p.0 (falls_asleep_lem m p.0) result s.new }
+    ensures call { (m : Processes) → Represents s.old m
+        → Comes m p.0 (model.falls_asleep m p.0) result s.new }
     ensures lives { IsLiving s.new.table p.0 }
     ensures still { result ≡ CallEnd.Wait → KeepsTurns s.old s.new }
 {
@@ -55,8 +55,8 @@ fn falls_asleep(s: &mut ProcState, p: Pid) -> CallEnd
 /// A further attempt.
 fn sleeps_on(s: &mut ProcState, p: Pid) -> CallEnd
     requires lives { IsLiving s.old.table p.0 }
-    ensures call { (m : Inner) → Represents s.old m
-        → Comes m p.0 (sleeps_on_lem m p.0) result s.new }
+    ensures call { (m : Processes) → Represents s.old m
+        → Comes m p.0 (model.sleeps_on m p.0) result s.new }
     ensures lives { IsLiving s.new.table p.0 }
     ensures still { result ≡ CallEnd.Wait → KeepsTurns s.old s.new }
 {
@@ -73,7 +73,7 @@ fn sleeps_on(s: &mut ProcState, p: Pid) -> CallEnd
 /// The tick that ends a sleep of `ticks` ticks that begins now; None if it is for ever.
 fn sleep_end(tick: u32, ticks: u16) -> Option<u32>
     requires { tick ≤ LAST_TICK }
-    ensures end { result ≡ sleep_end_lem tick ticks }
+    ensures end { result ≡ model.sleep_end tick ticks }
     ensures soon { ForSome result (λ until. until ≤ tick + 65535) }
 {
     if ticks == 0 {
@@ -84,7 +84,7 @@ fn sleep_end(tick: u32, ticks: u16) -> Option<u32>
 
 /// May a sleep end? Its tick is reached, or a wake has arrived.
 fn may_wake(tick: u32, own: Own) -> bool
-    ensures { result ≡ may_wake_lem tick own }
+    ensures { result ≡ model.may_wake tick own }
 {
     own.woken || own.until.is_some_and(|until| until <= tick)
 }
@@ -92,7 +92,7 @@ fn may_wake(tick: u32, own: Own) -> bool
 /// The ticks that are left of a sleep.
 fn ticks_left(tick: u32, own: Own) -> u16
     requires { ForSome own.until (λ until. until ≤ tick + 65535) }
-    ensures { result ≡ ticks_left_lem tick own }
+    ensures { result ≡ model.ticks_left tick own }
 {
     match own.until {
         None => 0,

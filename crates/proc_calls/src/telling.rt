@@ -4,7 +4,7 @@ ghost use Rattle.std.specs.Prelude.{◌≡◌};
 ghost use Rattle.os9_base.specs.declared.call.CallEnd.TheVariants.{Wait};
 ghost use Rattle.call_rules.specs.Attempts.{after_attempt, attempt_end};
 ghost use Rattle.call_rules.specs.CallResult.{CallResult};
-ghost use Rattle.call_rules.specs.Inner.{Inner};
+ghost use Rattle.call_rules.specs.Processes.{Processes};
 ghost use Rattle.proc_state.specs.Tie.{Represents, Comes};
 ghost use Rattle.proc_calls.specs.Telling.{LivesOn, WaitsFor};
 
@@ -17,9 +17,9 @@ use proc_state::state::ProcState;
 /// for `wait` if the call waits.
 pub fn tell(s: &mut ProcState, p: Pid, end: CallEnd, wait: Waiting)
     requires lives { LivesOn end s.old.table p.0 }
-    ensures told { (m : Inner) (call : CallResult) → Comes m p.0 call end s.old
+    ensures told { (m : Processes) (call : CallResult) → Comes m p.0 call end s.old
         → Represents s.new (after_attempt m p.0 call) }
-    ensures same { (m : Inner) (call : CallResult) → Comes m p.0 call end s.old
+    ensures same { (m : Processes) (call : CallResult) → Comes m p.0 call end s.old
         → end ≡ attempt_end call }
     ensures lives { LivesOn end s.new.table p.0 }
     ensures waits { end ≡ Wait → WaitsFor s.old s.new p.0 wait }

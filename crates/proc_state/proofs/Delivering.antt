@@ -13,7 +13,7 @@ use Rattle.proc_rules.specs.Records.{record_at, is_waiting}
 use Rattle.proc_rules.specs.Signals.{with_signal}
 use Rattle.call_rules.specs.Attempts.{goes_on, refused_regs}
 use Rattle.call_rules.specs.Delivery.{frame_bytes, stack_top, has_no_room, interrupted, interrupted_regs, routine_begun, routine_regs, with_frame}
-use Rattle.call_rules.specs.Inner.{Inner, cells_at, regs_at, with_memory, with_records, with_regs_of}
+use Rattle.call_rules.specs.Processes.{Processes, cells_at, regs_at, with_memory, with_records, with_regs_of}
 use Rattle.call_rules.specs.UserBytes.{user_bytes}
 use Rattle.proc_state.specs.Delivery.{frame_place}
 use Rattle.proc_state.proofs.UserBytes.{user_bytes-fits, user_bytes-None}
@@ -27,7 +27,7 @@ not_none (Some x) some = refl
 pub stack_top-most : (stack : ℕ) → stack ≤ 65535 → stack_top stack ≤ 65536
 stack_top-most stack most = grind (arith, nat_tests)
 
-module _ (m : Inner) (p stack : ℕ) where
+module _ (m : Processes) (p stack : ℕ) where
   -- where all of its bytes are in named slots
   pub place-fits : 12 ≤ stack_top stack → FitsIn (cells_at m p) (stack_top stack - 12) 12 → Some (stack_top stack - 12) ≡ frame_place m p stack
   place-fits above fits =
@@ -44,11 +44,11 @@ module _ (m : Inner) (p stack : ℕ) where
 
 -- ---- the state in which it is pushed
 
-module _ (m : Inner) (p signal : ℕ) where
+module _ (m : Processes) (p signal : ℕ) where
   abbrev waits : Bool
   waits = is_waiting (record_at m.records p).life
 
-  abbrev taken : Inner
+  abbrev taken : Processes
   taken = with_records m (with_signal m.records p None)
 
   pub interrupted-waiting : waits ≡ true → interrupted m p signal ≡ goes_on taken p (interrupted_regs m p signal)
@@ -82,7 +82,7 @@ module _ (m : Inner) (p signal : ℕ) where
         (λ i. with_regs_of (there i) p pushed)
         ∙ (λ i. with_regs_of (with_memory (interrupted m p signal) (stored (sym interrupted-memory i) p frame (all i))) p (set i))
 
-    abbrev begun : ℕ → Inner
+    abbrev begun : ℕ → Processes
     begun at = with_frame (interrupted m p signal) p intercept signal (interrupted_regs m p signal) at
 
     -- the routine begins where the frame has room

@@ -6,12 +6,12 @@ use Rattle.os9_base.specs.declared.call.CallEnd.TheVariants.{Done, Error, Wait, 
 use Rattle.proc_model.specs.Memory.{MemoryState}
 use Rattle.call_rules.specs.CallResult.{CallResult, done, refused, waits, ends}
 use Rattle.call_rules.specs.End.{ended}
-use Rattle.call_rules.specs.Inner.{Inner}
+use Rattle.call_rules.specs.Processes.{Processes}
 use Rattle.proc_state.specs.declared.state.ProcState.{ProcState}
 
 -- the state of the machine's processes that these processes represent, with this memory
-abbrev pub inner_of : ProcState → MemoryState → Inner
-inner_of state memory = record {
+abbrev pub processes_of : ProcState → MemoryState → Processes
+processes_of state memory = record {
   memory = memory;
   records = state.table;
   own = state.own.items;
@@ -20,13 +20,13 @@ inner_of state memory = record {
 }
 
 -- the processes represent those of the machine: their memory represents its memory, and all else is equal
-pub record Represents (state : ProcState) (m : Inner) : Type 0 where
+pub record Represents (state : ProcState) (m : Processes) : Type 0 where
   pub memory : RepresentsMemory state.memory m.memory
-  pub is : m ≡ inner_of state m.memory
+  pub is : m ≡ processes_of state m.memory
 
 -- the result of a call of a process: it is done, refused or waits, and its process does not have the result yet; or the
 -- process has ended
-abbrev pub Comes : Inner → ℕ → CallResult → CallEnd → ProcState → Type 0
+abbrev pub Comes : Processes → ℕ → CallResult → CallEnd → ProcState → Type 0
 Comes m p (done t) end new = (end ≡ Done) × Represents new t
 Comes m p (refused number) end new = (end ≡ Error number) × Represents new m
 Comes m p (waits t) end new = (end ≡ Wait) × Represents new t
@@ -39,7 +39,7 @@ pub record IsSame (before after : ProcState) : Type 0 where
   pub sched : after.sched ≡ before.sched
   pub own : after.own ≡ before.own
   pub tick : after.tick ≡ before.tick
-  pub represents : (m : Inner) → Represents before m → Represents after m
+  pub represents : (m : Processes) → Represents before m → Represents after m
 
 -- the first bytes of a buffer, this many, if they were read
 abbrev pub bytes_read : Bool → ℕ → List ℕ → Option (List ℕ)
@@ -47,7 +47,7 @@ bytes_read true count buffer = Some (take count buffer)
 bytes_read false count buffer = None
 
 -- the result of a call that is done or refused
-abbrev pub Answers : Inner → CallResult → Result (Unit {0}) ℕ → ProcState → Type 0
+abbrev pub Answers : Processes → CallResult → Result (Unit {0}) ℕ → ProcState → Type 0
 Answers m (done t) result new = (result ≡ Ok tt) × Represents new t
 Answers m (refused number) result new = (result ≡ Err number) × Represents new m
 Answers m (waits t) result new = ⊥

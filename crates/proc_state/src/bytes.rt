@@ -3,7 +3,7 @@
 ghost use Rattle.std.specs.Prelude.{◌≡◌, ◌<◌, ◌≤◌, ◌↔◌, IsTrue, IfSome, is_some, option_map, length, take};
 ghost use Rattle.std.specs.Bool.{OnTrue};
 ghost use Rattle.os9_base.specs.Cells.{FitsIn};
-ghost use Rattle.call_rules.specs.Inner.{Inner, cells_at};
+ghost use Rattle.call_rules.specs.Processes.{Processes, cells_at};
 ghost use Rattle.call_rules.specs.UserBytes.{user_bytes};
 ghost use Rattle.user_names.specs.UserLines.{line_at};
 ghost use Rattle.guest_memory.specs.Tie.{IsSame as IsSameMemory, cells_of};
@@ -18,7 +18,7 @@ impl ProcState {
     /// whether each of them is in a named slot and none past `FFFF`.
     pub fn read_bytes(&mut self, p: Pid, at: u16, count: u16) -> bool
         requires { p.0 < 33 }
-        ensures read { (m : Inner) → Represents self.old m
+        ensures read { (m : Processes) → Represents self.old m
             → user_bytes (cells_at m p.0) at count ≡ bytes_read result count self.new.buffer.items }
         ensures fits { OnTrue result (FitsIn (cells_of self.new.memory p.0) at count) }
         ensures same { IsSame self.old self.new }
@@ -30,7 +30,7 @@ impl ProcState {
     /// `FFFF`?
     pub fn is_named(&self, p: Pid, at: u16, count: u16) -> bool
         requires { p.0 < 33 }
-        ensures there { (m : Inner) → Represents self.now m
+        ensures there { (m : Processes) → Represents self.now m
             → result ≡ is_some (user_bytes (cells_at m p.0) at count) }
         ensures fits { IsTrue result ↔ FitsIn (cells_of self.now.memory p.0) at count }
     {
@@ -42,7 +42,7 @@ impl ProcState {
     /// one of them is in no named slot or past `FFFF`.
     pub fn read_line(&mut self, p: Pid, at: u16, most: u16) -> Option<usize>
         requires { p.0 < 33 }
-        ensures line { (m : Inner) → Represents self.old m
+        ensures line { (m : Processes) → Represents self.old m
             → line_at (cells_at m p.0) at most
             ≡ option_map (λ count. take count self.new.buffer.items) result }
         ensures short { IfSome result (λ count. count ≤ most) }

@@ -6,7 +6,7 @@ ghost use Rattle.guest_memory.specs.Tie.{modules_of};
 ghost use Rattle.proc_model.specs.ModuleList.{module_entry_at};
 ghost use Rattle.proc_rules.specs.Records.{IsLiving};
 ghost use Rattle.call_rules.specs.End.{ended, without_process};
-ghost use Rattle.call_rules.specs.Inner.{Inner, no_own};
+ghost use Rattle.call_rules.specs.Processes.{Processes, no_own};
 ghost use Rattle.call_rules.specs.ModuleLinks.{without_primary_link};
 ghost use Rattle.proc_state.specs.Tie.{Represents};
 
@@ -29,7 +29,8 @@ impl ProcState {
     /// whole map, and has no turn any more. Its parent may wait for its status.
     pub fn end(&mut self, p: Pid, status: u8)
         requires { IsLiving self.old.table p.0 }
-        ensures { (m : Inner) → Represents self.old m → Represents self.new (ended m p.0 status) }
+        ensures { (m : Processes) → Represents self.old m
+            → Represents self.new (ended m p.0 status) }
     {
         let own = self.own(p);
         self.unlink_primary(own);
@@ -40,7 +41,7 @@ impl ProcState {
     pub fn unlink_primary(&mut self, own: Own)
         requires { ForSome own.primary
             (λ id. IsSome (module_entry_at (modules_of self.old.memory) id.0)) }
-        ensures tied { (m : Inner) → Represents self.old m
+        ensures tied { (m : Processes) → Represents self.old m
             → Represents self.new (without_primary_link m own) }
         ensures records { self.new.table ≡ self.old.table }
     {
@@ -52,7 +53,7 @@ impl ProcState {
     /// A process does not live any more, and has nothing.
     fn leave(&mut self, p: Pid, status: u8)
         requires { IsLiving self.old.table p.0 }
-        ensures { (m : Inner) → Represents self.old m
+        ensures { (m : Processes) → Represents self.old m
             → Represents self.new (without_process m p.0 status) }
     {
         self.memory.clear(p);

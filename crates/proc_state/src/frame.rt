@@ -1,8 +1,8 @@
 //! The frame of a delivery, and the registers before and after it.
 
 ghost use Rattle.std.specs.Prelude.{◌≡◌, ◌/◌, ◌%◌};
-ghost use Rattle.call_rules.specs.Attempts.{refused_regs as refused_regs_lem};
-ghost use Rattle.call_rules.specs.Delivery.{frame_bytes as frame_bytes_lem, routine_regs as routine_regs_lem, stack_top as stack_top_lem};
+ghost use Rattle.call_rules.specs.Attempts.{refused_regs as refused_regs_model};
+ghost use Rattle.call_rules.specs.Delivery.{frame_bytes as frame_bytes_model, routine_regs as routine_regs_model, stack_top as stack_top_model};
 
 use os9_base::registers::Regs;
 use proc_rules::record::Intercept;
@@ -15,14 +15,14 @@ const ENTIRE: u8 = 128;
 
 /// The end of the bytes below a stack pointer: for 0 it is the end of memory.
 pub fn stack_top(stack: u16) -> u32
-    ensures { result ≡ stack_top_lem stack }
+    ensures { result ≡ stack_top_model stack }
 {
     if stack == 0 { 65_536 } else { u32::from(stack) }
 }
 
 /// The bytes of a frame, from its lowest address on: E is set in it.
 pub fn frame_bytes(regs: Regs) -> [u8; 12]
-    ensures { result ≡ frame_bytes_lem regs }
+    ensures { result ≡ frame_bytes_model regs }
 {
     let cc = if regs.cc < ENTIRE {
         regs.cc + ENTIRE
@@ -61,7 +61,7 @@ fn low(word: u16) -> u8
 
 /// The registers after a refused call with this number.
 pub fn refused_regs(regs: Regs, number: u8) -> Regs
-    ensures { result ≡ refused_regs_lem regs number }
+    ensures { result ≡ refused_regs_model regs number }
 {
     let cc = regs.cc - regs.cc % 2 + 1;
     Regs {
@@ -73,7 +73,7 @@ pub fn refused_regs(regs: Regs, number: u8) -> Regs
 
 /// The registers with which the routine of an intercept begins.
 pub fn routine_regs(regs: Regs, intercept: Intercept, signal: u8, frame: u16) -> Regs
-    ensures { result ≡ routine_regs_lem regs intercept signal frame }
+    ensures { result ≡ routine_regs_model regs intercept signal frame }
 {
     Regs {
         b: signal,

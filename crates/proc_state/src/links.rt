@@ -3,8 +3,9 @@
 ghost use Rattle.std.specs.Prelude.{◌≡◌, IsSome, map};
 ghost use Rattle.guest_memory.specs.Tie.{modules_of};
 ghost use Rattle.proc_model.specs.ModuleList.{module_entry_at};
-ghost use Rattle.call_rules.specs.Inner.{Inner};
-ghost use Rattle.call_rules.specs.ModuleLinks.{still_primary as still_primary_lem, without_module_link};
+ghost use Rattle.call_rules.specs.Processes.{Processes};
+ghost use Rattle.call_rules.specs.ModuleLinks as model;
+ghost use Rattle.call_rules.specs.ModuleLinks.{without_module_link};
 ghost use Rattle.proc_state.specs.Tie.{Represents};
 
 use crate::state::ProcState;
@@ -17,7 +18,7 @@ impl ProcState {
     /// leaves memory with it, no process has a primary module of the group any more.
     pub fn unlink_module(&mut self, id: ModId)
         requires { IsSome (module_entry_at (modules_of self.old.memory) id.0) }
-        ensures tied { (m : Inner) → Represents self.old m
+        ensures tied { (m : Processes) → Represents self.old m
             → Represents self.new (without_module_link m id.0) }
         ensures records { self.new.table ≡ self.old.table }
     {
@@ -28,7 +29,7 @@ impl ProcState {
 
 /// Removes from each process a primary module that is not entered.
 fn keep_entered(owns: &mut [Own], modules: &Dir)
-    ensures { owns.new ≡ map (still_primary_lem modules.now) owns.old }
+    ensures { owns.new ≡ map (model.still_primary modules.now) owns.old }
 {
     for own in owns.iter_mut() {
         *own = still_primary(*own, modules);
@@ -37,7 +38,7 @@ fn keep_entered(owns: &mut [Own], modules: &Dir)
 
 /// The data of a process without a primary module that is not entered.
 fn still_primary(own: Own, modules: &Dir) -> Own
-    ensures { result ≡ still_primary_lem modules.now own }
+    ensures { result ≡ model.still_primary modules.now own }
 {
     match own.primary {
         Some(id) if !modules.is_entered(id) => Own {

@@ -2,7 +2,7 @@
 
 ghost use Rattle.std.specs.Prelude.{◌≡◌, ℕ, IfNone, IfSome, option_map};
 ghost use Rattle.proc_rules.specs.Records.{IsLiving, free_process};
-ghost use Rattle.call_rules.specs.Inner.{Inner};
+ghost use Rattle.call_rules.specs.Processes.{Processes};
 ghost use Rattle.proc_state.specs.Beginning.{with_made};
 ghost use Rattle.proc_state.specs.Tie.{Represents};
 
@@ -15,9 +15,9 @@ impl ProcState {
     /// parent of 0 means none. Returns None if there are 31 records; nothing has changed then.
     pub fn make(&mut self, parent: Pid, user: u16, priority: u8) -> Option<Pid>
         ensures number { option_map (λ p. p.0) result ≡ free_process self.old.table }
-        ensures made { (m : Inner) → Represents self.old m
+        ensures made { (m : Processes) → Represents self.old m
             → IfSome result (λ p. Represents self.new (with_made m p parent user priority)) }
-        ensures none { (m : Inner) → Represents self.old m
+        ensures none { (m : Processes) → Represents self.old m
             → IfNone result (Represents self.new m) }
         ensures lives { IfSome result (λ p. IsLiving self.new.table p.0) }
         ensures others { (q : ℕ) → IsLiving self.old.table q → IsLiving self.new.table q }

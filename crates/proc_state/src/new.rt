@@ -1,8 +1,8 @@
 //! The processes of a machine before the first one begins, and the number of living ones.
 
 ghost use Rattle.std.specs.Prelude.{◌≡◌, ◌≤◌, IfOk, replicate, vec_len};
-ghost use Rattle.call_rules.specs.Inner.{Inner, no_own};
-ghost use Rattle.proc_state.specs.First.{first_inner, living_count};
+ghost use Rattle.call_rules.specs.Processes.{Processes, no_own};
+ghost use Rattle.proc_state.specs.First.{first_processes, living_count};
 ghost use Rattle.proc_state.specs.Tie.{Represents};
 
 use crate::ends::NO_OWN;
@@ -24,7 +24,7 @@ impl ProcState {
     pub fn new(alloc: Global, blocks: u16) -> Result<ProcState, OutOfMemory>
         requires least { 8 ≤ blocks }
         requires most { blocks ≤ 256 }
-        ensures { IfOk result (λ state. Represents state (first_inner blocks)) }
+        ensures { IfOk result (λ state. Represents state (first_processes blocks)) }
     {
         Ok(ProcState {
             memory: Memory::new(alloc, blocks)?,
@@ -39,7 +39,7 @@ impl ProcState {
     /// The number of living processes.
     pub fn living(&self) -> u8
         ensures here { result ≡ living_count self.now.table }
-        ensures tied { (m : Inner) → Represents self.now m → result ≡ living_count m.records }
+        ensures tied { (m : Processes) → Represents self.now m → result ≡ living_count m.records }
     {
         self.sched.count()
     }

@@ -2,7 +2,7 @@
 
 ghost use Rattle.std.specs.Prelude.{◌≡◌, ℕ};
 ghost use Rattle.call_rules.specs.CallResult.{CallResult};
-ghost use Rattle.call_rules.specs.Inner.{Inner};
+ghost use Rattle.call_rules.specs.Processes.{Processes};
 ghost use Rattle.proc_state.specs.declared.state.ProcState.{ProcState};
 ghost use Rattle.proc_state.specs.Tie.{Answers, Comes, end_of};
 
@@ -11,7 +11,7 @@ use os9_base::call::CallEnd;
 /// The end of a call that is done, or is refused with a number.
 pub fn call_end(outcome: Result<(), u8>) -> CallEnd
     ensures end { result ≡ end_of outcome }
-    ensures comes { (m : Inner) (p : ℕ) (call : CallResult) (new : ProcState)
+    ensures comes { (m : Processes) (p : ℕ) (call : CallResult) (new : ProcState)
         → Answers m call outcome new → Comes m p call result new }
 {
     match outcome {

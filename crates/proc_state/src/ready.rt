@@ -2,15 +2,15 @@
 
 ghost use Rattle.std.specs.Prelude.{◌≡◌, ◌<◌, is_some, length};
 ghost use Rattle.proc_rules.specs.Records.{record_of, record_passes};
-ghost use Rattle.proc_rules.specs.Ends.{ended_child, is_ended_child as is_ended_child_lem};
-ghost use Rattle.call_rules.specs.Inner.{Inner, own_at, no_own};
+ghost use Rattle.proc_rules.specs.Ends.{ended_child, is_ended_child as is_ended_child_model};
+ghost use Rattle.call_rules.specs.Processes.{Processes, own_at, no_own};
 ghost use Rattle.call_rules.specs.IoReady.{has_io};
-ghost use Rattle.call_rules.specs.Ready.{is_ready, may_go_on as may_go_on_lem};
-ghost use Rattle.call_rules.specs.Send.{is_call as is_call_lem};
-ghost use Rattle.call_rules.specs.Sleep.{may_wake as may_wake_lem};
+ghost use Rattle.call_rules.specs.Ready.{is_ready, may_go_on as may_go_on_model};
+ghost use Rattle.call_rules.specs.Send.{is_call as is_call_model};
+ghost use Rattle.call_rules.specs.Sleep.{may_wake as may_wake_model};
 ghost use Rattle.proc_model.specs.Memory.{first_memory};
 ghost use Rattle.proc_state.specs.Ready.{ready_at};
-ghost use Rattle.proc_state.specs.Tie.{Represents, inner_of};
+ghost use Rattle.proc_state.specs.Tie.{Represents, processes_of};
 
 use crate::state::ProcState;
 use call_rules::io_ready::IoReady;
@@ -27,7 +27,7 @@ impl ProcState {
     pub fn ready(&self, p: Pid, io: &IoReady) -> bool
         requires { p.0 < 33 }
         ensures here { result ≡ ready_at (has_io io.now) self.now.tick self.now p.0 }
-        ensures tied { (m : Inner) → Represents self.now m
+        ensures tied { (m : Processes) → Represents self.now m
             → result ≡ is_ready (has_io io.now) m p.0 }
     {
         match self.table.life(p) {
@@ -42,7 +42,7 @@ impl ProcState {
     /// Has a child ended that this process waits for, or may its sleep end?
     fn may_go_on(&self, p: Pid) -> bool
         requires { p.0 < 33 }
-        ensures { result ≡ may_go_on_lem (inner_of self.now (first_memory 0)) p.0 }
+        ensures { result ≡ may_go_on_model (processes_of self.now (first_memory 0)) p.0 }
     {
         let own = self.own(p);
         if is_call(own.call, F_WAIT) && has_ended_child(&self.table, p) {
@@ -54,7 +54,7 @@ impl ProcState {
 
 /// Does the unfinished call have this code?
 fn is_call(call: Option<u8>, code: u8) -> bool
-    ensures { result ≡ is_call_lem call code }
+    ensures { result ≡ is_call_model call code }
 {
     match call {
         Some(other) => other == code,
@@ -64,7 +64,7 @@ fn is_call(call: Option<u8>, code: u8) -> bool
 
 /// May the sleep of a process end: is its tick reached, or has a wake arrived?
 fn may_wake(tick: u32, own: Own) -> bool
-    ensures { result ≡ may_wake_lem tick own }
+    ensures { result ≡ may_wake_model tick own }
 {
     own.woken || own.until.is_some_and(|until| until <= tick)
 }
@@ -85,7 +85,7 @@ fn has_ended_child(table: &Table, parent: Pid) -> bool
 /// Is this a child of this process, and has it ended?
 fn is_ended_child(table: &Table, child: Pid, parent: Pid) -> bool
     ensures { result
-        ≡ record_passes (is_ended_child_lem parent.0) (record_of table.now child.0) }
+        ≡ record_passes (is_ended_child_model parent.0) (record_of table.now child.0) }
 {
     match table.life(child) {
         Some(Life::Ended(_)) => table.parent(child) == parent,

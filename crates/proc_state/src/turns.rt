@@ -2,8 +2,9 @@
 
 ghost use Rattle.std.specs.Prelude.{◌≡◌, Some, true, false};
 ghost use Rattle.proc_rules.specs.Records.{IsLiving, record_at, is_waiting, with_waiting};
-ghost use Rattle.call_rules.specs.Attempts.{done_regs, refused_regs as refused_regs_lem, goes_on, waiting};
-ghost use Rattle.call_rules.specs.Inner.{Inner, regs_at, with_records};
+ghost use Rattle.call_rules.specs.Attempts as model;
+ghost use Rattle.call_rules.specs.Attempts.{done_regs, goes_on, waiting};
+ghost use Rattle.call_rules.specs.Processes.{Processes, regs_at, with_records};
 ghost use Rattle.os9_sched.specs.Schedule.{after_wait};
 ghost use Rattle.proc_state.specs.Tie.{Represents};
 
@@ -18,7 +19,7 @@ impl ProcState {
     /// The call of a process is done: carry is clear, and the process goes on.
     pub fn succeed(&mut self, p: Pid)
         requires { IsLiving self.old.table p.0 }
-        ensures tied { (m : Inner) → Represents self.old m
+        ensures tied { (m : Processes) → Represents self.old m
             → Represents self.new (goes_on m p.0 (done_regs (regs_at m p.0))) }
         ensures lives { IsLiving self.new.table p.0 }
     {
@@ -31,8 +32,8 @@ impl ProcState {
     /// process goes on.
     pub fn refuse(&mut self, p: Pid, number: u8)
         requires { IsLiving self.old.table p.0 }
-        ensures tied { (m : Inner) → Represents self.old m
-            → Represents self.new (goes_on m p.0 (refused_regs_lem (regs_at m p.0) number)) }
+        ensures tied { (m : Processes) → Represents self.old m
+            → Represents self.new (goes_on m p.0 (model.refused_regs (regs_at m p.0) number)) }
         ensures lives { IsLiving self.new.table p.0 }
     {
         let regs = self.table.regs(p);
@@ -43,7 +44,7 @@ impl ProcState {
     /// already waits keeps what it waits for.
     pub fn wait(&mut self, p: Pid, cause: Cause, until: Option<u32>)
         requires { IsLiving self.old.table p.0 }
-        ensures tied { (m : Inner) → Represents self.old m
+        ensures tied { (m : Processes) → Represents self.old m
             → Represents self.new (waiting m p.0) }
         ensures lives { IsLiving self.new.table p.0 }
         ensures first { is_waiting (record_at self.old.table p.0).life ≡ false
@@ -63,7 +64,7 @@ impl ProcState {
     /// A process has no call any more, and goes on with these registers.
     pub(crate) fn go_on(&mut self, p: Pid, regs: Regs)
         requires { IsLiving self.old.table p.0 }
-        ensures tied { (m : Inner) → Represents self.old m
+        ensures tied { (m : Processes) → Represents self.old m
             → Represents self.new (goes_on m p.0 regs) }
         ensures lives { IsLiving self.new.table p.0 }
     {
@@ -84,7 +85,7 @@ impl ProcState {
     /// A process does not wait any more.
     fn run(&mut self, p: Pid)
         requires { IsLiving self.old.table p.0 }
-        ensures tied { (m : Inner) → Represents self.old m
+        ensures tied { (m : Processes) → Represents self.old m
             → Represents self.new (with_records m (with_waiting m.records p.0 false)) }
         ensures lives { IsLiving self.new.table p.0 }
     {

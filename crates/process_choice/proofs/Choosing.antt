@@ -10,7 +10,7 @@ use Rattle.proc_rules.specs.declared.record.Record.{Record}
 use Rattle.proc_rules.specs.Records.{is_living, record_at}
 use Rattle.proc_rules.specs.Turns.{choose}
 use Rattle.call_rules.specs.Choice.{choice_of, turn_priority}
-use Rattle.call_rules.specs.Inner.{Inner}
+use Rattle.call_rules.specs.Processes.{Processes}
 use Rattle.call_rules.specs.Ready.{is_ready}
 use Rattle.proc_state.specs.Sound.{AreTurns}
 use Rattle.proc_state.specs.Tie.{Represents}
@@ -30,15 +30,15 @@ priority_of records schedule turns p = by_life (is_living records p) refl
     by_life true is = turns.priorities p is
     by_life false is = no_priority (member_of schedule.members p) (turns.members p ∙ is)
 
-module _ (io : ℕ → Bool) (state : ProcState) (m : Inner) (active : AreActiveAt io m.tick state) (tied : Represents state m) where
+module _ (io : ℕ → Bool) (state : ProcState) (m : Processes) (active : AreActiveAt io m.tick state) (tied : Represents state m) where
   order_is : state.sched.order ≡ m.order
   order_is = λ i. (sym tied.is i).order
 
   ready : (p : ℕ) → is_active_in state.sched.members p ≡ is_ready io m p
-  ready p = active p ∙ sym (ap (λ (s : Inner). is_ready io (record s { tick = m.tick }) p) tied.is)
+  ready p = active p ∙ sym (ap (λ (s : Processes). is_ready io (record s { tick = m.tick }) p) tied.is)
 
   priority : (p : ℕ) → priority_in state.sched.members p ≡ turn_priority m p
-  priority p = priority_of state.table state.sched state.turns p ∙ sym (ap (λ (s : Inner). turn_priority s p) tied.is)
+  priority p = priority_of state.table state.sched state.turns p ∙ sym (ap (λ (s : Processes). turn_priority s p) tied.is)
 
   pub choice_is : choose (is_active_in state.sched.members) (priority_in state.sched.members) state.sched.order ≡ choice_of io m
   choice_is = λ i. choose (λ p. ready p i) (λ p. priority p i) (order_is i)

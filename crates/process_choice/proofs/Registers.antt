@@ -8,7 +8,7 @@ use Rattle.os9_base.specs.declared.registers.Regs.{Regs}
 use Rattle.proc_rules.specs.Ends.{is_ended_child}
 use Rattle.proc_rules.specs.declared.record.Record.{Record}
 use Rattle.proc_rules.specs.Records.{IsLiving, has_ended, is_waiting, new_record, record_at, record_of, record_passes, with_regs}
-use Rattle.call_rules.specs.Inner.{Inner, own_at}
+use Rattle.call_rules.specs.Processes.{Processes, own_at}
 use Rattle.call_rules.specs.Ready.{is_ready}
 use Rattle.call_rules.specs.Send.{is_call}
 use Rattle.call_rules.specs.Sleep.{may_wake}
@@ -42,7 +42,7 @@ living-record records p lives = by_place (record_of records p) refl lives
     by_place (Some r) is lives = rw is refl
 
 -- other registers of a process make nobody Ready, and nobody ceases to be so
-pub regs-ready : (io : ℕ → Bool) (m : Inner) (p : ℕ) (regs : Regs) → IsLiving m.records p → (q : ℕ) → is_ready io (record m { records = with_regs m.records p regs }) q ≡ is_ready io m q
+pub regs-ready : (io : ℕ → Bool) (m : Processes) (p : ℕ) (regs : Regs) → IsLiving m.records p → (q : ℕ) → is_ready io (record m { records = with_regs m.records p regs }) q ≡ is_ready io m q
 regs-ready io m p regs lives q =
     let put : Option Record = Some (record (record_at m.records p) { regs = regs }) in
     let was : Some (record_at m.records p) ≡ record_of m.records p = sym (living-record m.records p lives) in

@@ -1,7 +1,7 @@
 //! Registers of a process that change while it is chosen.
 
 ghost use Rattle.std.specs.Prelude.{◌≡◌, ℕ, Bool};
-ghost use Rattle.call_rules.specs.Inner.{Inner, with_regs_of};
+ghost use Rattle.call_rules.specs.Processes.{Processes, with_regs_of};
 ghost use Rattle.proc_rules.specs.Records.{IsLiving};
 ghost use Rattle.proc_state.specs.Tie.{Represents};
 ghost use Rattle.process_choice.specs.Active.{AreActiveAt};
@@ -13,7 +13,8 @@ use proc_state::state::ProcState;
 /// and nobody ceases to be so.
 pub fn set_regs(s: &mut ProcState, p: Pid, regs: Regs)
     requires { IsLiving s.old.table p.0 }
-    ensures tied { (m : Inner) → Represents s.old m → Represents s.new (with_regs_of m p.0 regs) }
+    ensures tied { (m : Processes) → Represents s.old m
+        → Represents s.new (with_regs_of m p.0 regs) }
     ensures lives { IsLiving s.new.table p.0 }
     ensures active { (io : ℕ → Bool) (tick : ℕ) → AreActiveAt io tick s.old
         → AreActiveAt io tick s.new }

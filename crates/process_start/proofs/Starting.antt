@@ -14,7 +14,7 @@ use Rattle.proc_model.specs.Memory.{MemoryState}
 use Rattle.proc_model.specs.MemoryChanges.{linked, started, started_with, has_most_links}
 use Rattle.proc_model.specs.ModuleList.{ModuleEntry, module_entry_at}
 use Rattle.call_rules.specs.CallResult.{CallResult, done, refused, refuses, changes}
-use Rattle.call_rules.specs.Inner.{Inner, with_memory, with_own, with_regs_of}
+use Rattle.call_rules.specs.Processes.{Processes, with_memory, with_own, with_regs_of}
 use Rattle.call_rules.specs.Program.{Program, area_pages, blocks_of_pages, most_pages, start_own, start_regs}
 use Rattle.fork_calls.specs.declared.starting.Beginning.{Beginning}
 use Rattle.fork_calls.specs.Loading.{loads_program}
@@ -26,7 +26,7 @@ use Rattle.process_start.specs.Beginning.{Begins, HasFirstIn, nobody_in, with_fi
 use Rattle.process_start.proofs.Seen.{entered-here}
 
 -- a program that is loaded has its memory
-pub loaded-is : (m : Inner) (p : ℕ) (program : Program) (memory : MemoryState) → ((next : MemoryState → CallResult)
+pub loaded-is : (m : Processes) (p : ℕ) (program : Program) (memory : MemoryState) → ((next : MemoryState → CallResult)
     → loads_program m p program next ≡ next memory) → started m.memory p program.entered.number
     (blocks_of_pages program.pages) ≡ Ok memory
 loaded-is m p program memory goes =
@@ -37,7 +37,7 @@ loaded-is m p program memory goes =
     by_size false (Err fault) same = absurd cc
     by_size false (Ok t) same =
         let one : with_memory m t ≡ with_memory m memory = cc in
-        let memories : t ≡ memory = ap (λ (i : Inner). i.memory) one in cc
+        let memories : t ≡ memory = ap (λ (i : Processes). i.memory) one in cc
 
 -- a data area of more pages than there may be has no room beside a group
 too_many : (m : MemoryState) (p number pages : ℕ) (entry : ModuleEntry) → module_entry_at m.modules number ≡ Some
@@ -49,7 +49,7 @@ too_many m p number pages entry is some many =
     (or_right (has_most_links entry) (nat_lt 8 (count + length entry.group)) (lt-ltb 8 (count + length entry.group) (omega arith)))
 
 -- a program that can not be loaded has no memory
-pub unloaded-is : (m : Inner) (p : ℕ) (program : Program) (number : ℕ) → module_entry_at m.memory.modules
+pub unloaded-is : (m : Processes) (p : ℕ) (program : Program) (number : ℕ) → module_entry_at m.memory.modules
     program.entered.number ≡ Some program.entered.entry → 1 ≤ length program.entered.entry.group
     → ((next : MemoryState → CallResult) → loads_program m p program next ≡ refused number)
     → IsErr (started m.memory p program.entered.number (blocks_of_pages program.pages))
@@ -79,7 +79,7 @@ pub first-stands : (t : MemoryState) (program : Program) (start : Beginning) (ne
     → start.regs ≡ start_regs program → start.own ≡ start_own program
     → Represents new (with_first (linked t program.entered.number) start) → Represents new (only_process t program)
 first-stands t program start new regs own stands =
-    subst (λ (m : Inner). Represents new m)
+    subst (λ (m : Processes). Represents new m)
     (λ i. with_regs_of (with_made (with_own (nobody_in (linked t program.entered.number)) first_process.0 (own i)) first_process no_parent superuser first_priority) first_process.0 (regs i))
     stands
 
@@ -126,7 +126,7 @@ first-made made is = λ i. record { 0 = is i }
 
 module _ (file : List ℕ) (blocks number : ℕ) (old new : ProcState) (found : HasFirstIn file blocks number old) where
   -- a machine starts the boot file
-  pub starts-so : Begins (first_started file blocks found.entries number found.entry) number found.entry (Ok tt) new → (m : Inner) × StartsProcesses file blocks m × Represents new m
+  pub starts-so : Begins (first_started file blocks found.entries number found.entry) number found.entry (Ok tt) new → (m : Processes) × StartsProcesses file blocks m × Represents new m
   starts-so begins =
       let (t, begun, stands) = begun-is (first_started file blocks found.entries number found.entry) number found.entry new begins in (
         only_process t (first_start number found.entry),
@@ -138,7 +138,7 @@ module _ (file : List ℕ) (blocks number : ℕ) (old new : ProcState) (found : 
   pub starts-at : Begins (first_started file blocks found.entries number found.entry) number found.entry (Ok tt) new → new.tick ≡ 0
   starts-at begins =
       let (t, begun, stands) = begun-is (first_started file blocks found.entries number found.entry) number found.entry new begins in
-      sym (ap (λ (m : Inner). m.tick) stands.is)
+      sym (ap (λ (m : Processes). m.tick) stands.is)
 
   -- the machine refuses the boot file, since it is too large
   pub refuses-so : (error : ℕ) → Begins (first_started file blocks found.entries number found.entry) number found.entry (Err error) new → Refuses file blocks TooLarge

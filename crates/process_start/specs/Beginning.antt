@@ -3,23 +3,23 @@ use Rattle.std.specs.Prelude.{◌≡◌, ℕ, Option, Result, Ok, Err, IsErr, Li
 use Rattle.proc_model.specs.declared.memory.MemoryFault.{MemoryFault}
 use Rattle.proc_model.specs.Memory.{MemoryState}
 use Rattle.proc_model.specs.ModuleList.{ModuleEntry}
-use Rattle.call_rules.specs.Inner.{Inner, with_memory, with_own, with_regs_of}
+use Rattle.call_rules.specs.Processes.{Processes, with_memory, with_own, with_regs_of}
 use Rattle.event_rules.specs.Start.{HasFirst, boot_memory, first_priority, first_process, first_start, no_parent, only_process, superuser}
 use Rattle.proc_state.specs.declared.state.ProcState.{ProcState}
 use Rattle.proc_state.specs.Beginning.{with_made}
-use Rattle.proc_state.specs.First.{first_inner}
+use Rattle.proc_state.specs.First.{first_processes}
 use Rattle.proc_state.specs.Tie.{Represents}
 use Rattle.fork_calls.specs.declared.starting.Beginning.{Beginning}
 
 -- a machine with this memory in which no process has begun
-abbrev pub nobody_in : MemoryState → Inner
-nobody_in memory = with_memory (first_inner 0) memory
+abbrev pub nobody_in : MemoryState → Processes
+nobody_in memory = with_memory (first_processes 0) memory
 
 abbrev pub HasNobody : ProcState → Type 0
 HasNobody processes = (memory : MemoryState) × Represents processes (nobody_in memory)
 
 -- the machine with the first process, which has this beginning
-abbrev pub with_first : MemoryState → Beginning → Inner
+abbrev pub with_first : MemoryState → Beginning → Processes
 with_first memory start =
     with_regs_of (with_made (with_own (nobody_in memory) first_process.0 start.own) first_process no_parent superuser
     first_priority) first_process.0 start.regs

@@ -6,8 +6,8 @@ ghost use Rattle.guest_memory.specs.Tie.{modules_of};
 ghost use Rattle.proc_model.specs.Memory.{MemoryState};
 ghost use Rattle.proc_model.specs.MemoryChanges.{started};
 ghost use Rattle.proc_model.specs.ModuleList.{ModuleEntry, module_entry_at};
-ghost use Rattle.call_rules.specs.Program.{area_pages as area_pages_lem, blocks_of_pages};
-ghost use Rattle.event_rules.specs.Start.{first_process, first_program as first_program_lem};
+ghost use Rattle.call_rules.specs.Program.{area_pages as area_pages_model, blocks_of_pages};
+ghost use Rattle.event_rules.specs.Start.{first_process, first_program as first_program_model};
 ghost use Rattle.proc_state.specs.Tie.{Represents};
 ghost use Rattle.process_start.specs.Beginning.{HasNobody, Begins, nobody_in, with_first};
 
@@ -34,7 +34,7 @@ const PROGRAM: u8 = 0x11;
 
 /// The first program among the entered modules: `SysGo`, in 6809 code.
 pub fn first_program(modules: &Dir) -> Option<ModId>
-    ensures { option_map (λ id. id.0) result ≡ first_program_lem modules.now }
+    ensures { option_map (λ id. id.0) result ≡ first_program_model modules.now }
 {
     let name = parse_name(b"SysGo").ok()?;
     modules.find(&name, PROGRAM)
@@ -54,7 +54,7 @@ pub fn begin(processes: &mut ProcState, id: ModId) -> Result<(), u8>
         → Represents processes.old (nobody_in memory)
         → module_entry_at memory.modules id.0 ≡ Some entry
         → Begins (started memory first_process.0 id.0
-        (blocks_of_pages (area_pages_lem entry 0 0))) id.0 entry result processes.new }
+        (blocks_of_pages (area_pages_model entry 0 0))) id.0 entry result processes.new }
 {
     let info = processes.memory.info(id);
     let program = NamedProgram {

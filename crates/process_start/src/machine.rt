@@ -5,8 +5,8 @@ ghost use Rattle.guest_memory.specs.Tie.{modules_of};
 ghost use Rattle.event_rules.specs.declared.ends.BootFault.{BootFault};
 ghost use Rattle.proc_model.specs.ModuleList.{module_entry_at};
 ghost use Rattle.event_rules.specs.Start.{StartsProcesses, Refuses};
-ghost use Rattle.call_rules.specs.Inner.{Inner};
-ghost use Rattle.proc_state.specs.First.{first_inner};
+ghost use Rattle.call_rules.specs.Processes.{Processes};
+ghost use Rattle.proc_state.specs.First.{first_processes};
 ghost use Rattle.proc_state.specs.Tie.{Represents};
 ghost use Rattle.process_start.specs.Beginning.{HasFirstIn};
 
@@ -30,7 +30,7 @@ pub fn start(alloc: Global, blocks: u16, boot: &[u8]) -> Result<ProcState, BootF
     requires least { 8 ≤ blocks }
     requires most { blocks ≤ 256 }
     ensures start { IfOk result (λ processes.
-        (m : Inner) × StartsProcesses boot.now blocks m × Represents processes m) }
+        (m : Processes) × StartsProcesses boot.now blocks m × Represents processes m) }
     ensures accepted { OnOk result ((fault : BootFault) → ¬ Refuses boot.now blocks fault) }
     ensures refused { IfErr result (λ fault. fault ≢ BootFault.OutOfMemory
         → Refuses boot.now blocks fault) }
@@ -54,10 +54,11 @@ pub fn start(alloc: Global, blocks: u16, boot: &[u8]) -> Result<ProcState, BootF
 /// `BadModule` for the first refused module, and `NoFirst` if no module is the first program.
 fn load_boot(processes: &mut ProcState, boot: &[u8]) -> Result<ModId, BootFault>
     requires short { length boot.now ≤ MOST_GROUP_BYTES }
-    requires empty { (blocks : ℕ) × (8 ≤ blocks) × Represents processes.old (first_inner blocks) }
-    ensures found { (blocks : ℕ) → Represents processes.old (first_inner blocks)
+    requires empty { (blocks : ℕ) × (8 ≤ blocks)
+        × Represents processes.old (first_processes blocks) }
+    ensures found { (blocks : ℕ) → Represents processes.old (first_processes blocks)
         → IfOk result (λ id. HasFirstIn boot.now blocks id.0 processes.new) }
-    ensures refused { (blocks : ℕ) → Represents processes.old (first_inner blocks)
+    ensures refused { (blocks : ℕ) → Represents processes.old (first_processes blocks)
         → IfErr result (Refuses boot.now blocks) }
     ensures entered { IfOk result
         (λ id. IsSome (module_entry_at (modules_of processes.new.memory) id.0)) }

@@ -1,7 +1,8 @@
 //! The modules of a boot file, one after another.
 
 ghost use Rattle.std.specs.Prelude.{◌≡◌, ◌+◌, ◌<◌, ◌≤◌, None, Some, OnOk, IfOk, IfErr, IfSome, IfNone, length};
-ghost use Rattle.proc_model.specs.Loading.{entry_refusal, module_error as module_error_lem};
+ghost use Rattle.proc_model.specs.Loading as model;
+ghost use Rattle.proc_model.specs.Loading.{entry_refusal};
 ghost use Rattle.proc_model.specs.Module.{step_from};
 ghost use Rattle.proc_model.specs.declared.module.ModuleFault.{ModuleFault};
 
@@ -44,7 +45,7 @@ pub fn module_from(file: &[u8], from: u32) -> Result<Option<ModuleInfo>, Refusal
     ensures end { IfOk result (λ step. IfNone step (step_from file.now from ≡ ModuleStep.End)) }
     ensures fault { IfErr result (λ refusal. (fault : ModuleFault)
         × (step_from file.now from ≡ ModuleStep.Fault refusal.at fault)
-        × (refusal.error ≡ module_error_lem fault)) }
+        × (refusal.error ≡ model.module_error fault)) }
     ensures in_file { IfOk result (λ step. IfSome step
         (λ info. info.at + info.size ≤ length file.now)) }
 {
@@ -60,7 +61,7 @@ pub fn module_from(file: &[u8], from: u32) -> Result<Option<ModuleInfo>, Refusal
 
 /// The error of a module that breaks a rule of its own.
 fn module_error(fault: ModuleFault) -> u8
-    ensures { result ≡ module_error_lem fault }
+    ensures { result ≡ model.module_error fault }
 {
     match fault {
         ModuleFault::BadSync => E_BMID,

@@ -1,6 +1,6 @@
 ghost use Rattle.std.specs.Prelude.{◌≡◌, None, option_map, IfOk, IfSome, IsSome, length, map, replicate};
-ghost use Rattle.proc_rules.specs.Records.{IsProcess, free_process as free_process_lem, record_of};
-ghost use Rattle.proc_rules.specs.Ends.{has_child as has_child_lem, ended_child as ended_child_lem, orphaned as orphaned_lem};
+ghost use Rattle.proc_rules.specs.Records.{IsProcess, free_process as free_process_model, record_of};
+ghost use Rattle.proc_rules.specs.Ends.{has_child as has_child_model, ended_child as ended_child_model, orphaned as orphaned_model};
 
 use crate::places::{is_child, is_ended_child, orphaned};
 use os9_base::limits::PROCESS_PLACES;
@@ -25,7 +25,7 @@ pub fn empty_places(alloc: Global) -> Result<Vec<Option<Record>>, AllocError>
 /// The least number of a process that no record has.
 pub fn free_process(records: &[Option<Record>]) -> Option<Pid>
     requires { length records.now ≡ PROCESS_PLACES }
-    ensures number { option_map (λ p. p.0) result ≡ free_process_lem records.now }
+    ensures number { option_map (λ p. p.0) result ≡ free_process_model records.now }
     ensures process { IfSome result (λ p. IsProcess p.0) }
 {
     let place = records[FIRST..].iter().position(|place| place.is_none())?;
@@ -34,7 +34,7 @@ pub fn free_process(records: &[Option<Record>]) -> Option<Pid>
 
 /// Does some record have this parent?
 pub fn has_child(records: &[Option<Record>], parent: Pid) -> bool
-    ensures { result ≡ has_child_lem records.now parent.0 }
+    ensures { result ≡ has_child_model records.now parent.0 }
 {
     records.iter().any(|place| is_child(place, parent))
 }
@@ -42,7 +42,7 @@ pub fn has_child(records: &[Option<Record>], parent: Pid) -> bool
 /// The number of the first record of an ended child.
 pub fn ended_child(records: &[Option<Record>], parent: Pid) -> Option<Pid>
     requires { length records.now ≡ PROCESS_PLACES }
-    ensures number { option_map (λ p. p.0) result ≡ ended_child_lem records.now parent.0 }
+    ensures number { option_map (λ p. p.0) result ≡ ended_child_model records.now parent.0 }
     ensures there { IfSome result (λ p. IsSome (record_of records.now p.0)) }
 {
     let place = records
@@ -53,7 +53,7 @@ pub fn ended_child(records: &[Option<Record>], parent: Pid) -> Option<Pid>
 
 /// Removes this parent from its children, and the records of the ended ones.
 pub fn orphan(records: &mut [Option<Record>], parent: Pid)
-    ensures { records.new ≡ map (orphaned_lem parent.0) records.old }
+    ensures { records.new ≡ map (orphaned_model parent.0) records.old }
 {
     for place in records.iter_mut() {
         *place = orphaned(place, parent);

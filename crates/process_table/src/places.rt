@@ -1,6 +1,6 @@
 ghost use Rattle.std.specs.Prelude.{◌≡◌};
-ghost use Rattle.proc_rules.specs.Records.{record_passes, new_record as new_record_lem};
-ghost use Rattle.proc_rules.specs.Ends.{is_child as is_child_lem, is_ended_child as is_ended_child_lem, orphaned as orphaned_lem, ended_record as ended_record_lem};
+ghost use Rattle.proc_rules.specs.Records.{record_passes, new_record as new_record_model};
+ghost use Rattle.proc_rules.specs.Ends.{is_child as is_child_model, is_ended_child as is_ended_child_model, orphaned as orphaned_model, ended_record as ended_record_model};
 
 use os9_base::registers::{Pid, Regs};
 use proc_rules::record::{Life, Record};
@@ -23,7 +23,7 @@ const ZERO_REGS: Regs = Regs {
 
 /// The record of a new process.
 pub fn new_record(parent: Pid, user: u16, priority: u8) -> Record
-    ensures { result ≡ new_record_lem parent user priority }
+    ensures { result ≡ new_record_model parent user priority }
 {
     Record {
         parent,
@@ -38,7 +38,7 @@ pub fn new_record(parent: Pid, user: u16, priority: u8) -> Record
 
 /// The record of a process that has ended with this status, if a parent may wait for it.
 pub fn ended(process: Record, status: u8) -> Option<Record>
-    ensures { result ≡ ended_record_lem process status }
+    ensures { result ≡ ended_record_model process status }
 {
     if process.parent == NO_PARENT {
         return None;
@@ -49,7 +49,7 @@ pub fn ended(process: Record, status: u8) -> Option<Record>
 
 /// Is there a record here of a child of this process?
 pub fn is_child(place: &Option<Record>, parent: Pid) -> bool
-    ensures { result ≡ record_passes (is_child_lem parent.0) place.now }
+    ensures { result ≡ record_passes (is_child_model parent.0) place.now }
 {
     match place {
         None => false,
@@ -59,7 +59,7 @@ pub fn is_child(place: &Option<Record>, parent: Pid) -> bool
 
 /// Is there a record here of an ended child of this process?
 pub fn is_ended_child(place: &Option<Record>, parent: Pid) -> bool
-    ensures { result ≡ record_passes (is_ended_child_lem parent.0) place.now }
+    ensures { result ≡ record_passes (is_ended_child_model parent.0) place.now }
 {
     match place {
         None => false,
@@ -69,7 +69,7 @@ pub fn is_ended_child(place: &Option<Record>, parent: Pid) -> bool
 
 /// What remains of a record after this process has ended.
 pub fn orphaned(place: &Option<Record>, parent: Pid) -> Option<Record>
-    ensures { result ≡ orphaned_lem parent.0 place.now }
+    ensures { result ≡ orphaned_model parent.0 place.now }
 {
     let record = (*place)?;
     if record.parent != parent {

@@ -1,6 +1,7 @@
 ghost use Rattle.std.specs.Prelude.{◌≡◌, ◌<◌, IsSome, IfOk, IfSome, Some, None, option_map, is_some, map, replicate, slice_set};
 ghost use Rattle.std.specs.Result.{result_err};
-ghost use Rattle.proc_rules.specs.Records.{IsLiving, AreRecords, record_of, record_at, after_make, free_process as free_process_lem, with_user, with_priority, with_regs, with_waiting, IsProcess};
+ghost use Rattle.proc_rules.specs.Records as model;
+ghost use Rattle.proc_rules.specs.Records.{IsLiving, AreRecords, record_of, record_at, after_make, with_user, with_priority, with_regs, with_waiting, IsProcess};
 ghost use Rattle.proc_rules.specs.Ends.{reaped, after_reap, after_exit, orphaned, end_status};
 ghost use Rattle.proc_rules.specs.Signals.{is_reached, send_fault, after_send, intercept_of, with_intercept, with_signal};
 
@@ -51,7 +52,7 @@ impl Table {
     /// process runs, its registers are all 0, and it has no intercept and no signal. A parent of 0
     /// means none. Returns None if there are 31 records.
     pub fn make(&mut self, parent: Pid, user: u16, priority: u8) -> Option<Pid>
-        ensures number { option_map (λ p. p.0) result ≡ free_process_lem self.old }
+        ensures number { option_map (λ p. p.0) result ≡ model.free_process self.old }
         ensures records { self.new ≡ after_make self.old parent user priority }
         ensures shape { AreRecords self.new }
     {
@@ -62,7 +63,7 @@ impl Table {
 
     /// The least number from 2 to 32 that no record has; None if there are 31 records.
     pub fn free(&self) -> Option<Pid>
-        ensures number { option_map (λ p. p.0) result ≡ free_process_lem self.now }
+        ensures number { option_map (λ p. p.0) result ≡ model.free_process self.now }
         ensures process { IfSome result (λ p. IsProcess p.0) }
         ensures shape { AreRecords self.now }
     {

@@ -1,7 +1,8 @@
 ghost use Rattle.rbf_model.specs.Decides.{Decides};
 ghost use Rattle.std.specs.Prelude.{◌≡◌, ◌<◌, ℕ, ◌+◌, ◌*◌, ◌≤◌, IfOk, length};
 ghost use Rattle.rbf_model.specs.Geometry.{sector as sector_of};
-ghost use Rattle.rbf_model.specs.File.{file_at, is_directory as is_directory_lem};
+ghost use Rattle.rbf_model.specs.File as model;
+ghost use Rattle.rbf_model.specs.File.{file_at};
 ghost use Rattle.rbf_reach.specs.Files.{IsFileOn, AreFiles};
 ghost use Rattle.rbf_reach.specs.Reading.{disk_on, IsDirectory, listed};
 ghost use Rattle.rbf_reach.specs.Linked.{AreLinks};
@@ -87,7 +88,7 @@ fn list_dotted(
 fn is_directory(image: &IdentifiedImage<'_>, file: &FoundFile) -> bool
     requires { IsFileOn image.now file.now }
     ensures { result
-        ≡ is_directory_lem (file_at (sector_of image.now.bytes.now) file.now.number) }
+        ≡ model.is_directory (file_at (sector_of image.now.bytes.now) file.now.number) }
 {
     file.fd.attr >> 7 == 1
 }

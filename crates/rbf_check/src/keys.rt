@@ -1,5 +1,5 @@
 ghost use Rattle.std.specs.Prelude.{◌≡◌, IfOk, OnOk, MatchBool};
-ghost use Rattle.os9_base.specs.Name.{lower as lower_lem};
+ghost use Rattle.os9_base.specs.Name as model;
 ghost use Rattle.rbf_check.specs.Keys.{IsKey, HasKey, IsKeyAdded};
 
 use os9_base::name::Name;
@@ -8,7 +8,7 @@ use std::collections::BTreeSet;
 
 // A letter in lower case; any other character is unchanged.
 fn lower(character: u8) -> u8
-    ensures { result ≡ lower_lem character }
+    ensures { result ≡ model.lower character }
 {
     if character >= b'A' && character <= b'Z' {
         character + 32

@@ -2,7 +2,7 @@ ghost use Rattle.rbf_reach.specs.Files.{found_numbers};
 ghost use Rattle.rbf_reach.specs.Reading.{disk_on};
 ghost use Rattle.std.specs.Prelude.{◌≡◌, ◌+◌, ◌/◌, ◌<◌, ◌&&◌, not, IfOk, length};
 ghost use Rattle.rbf_model.specs.Geometry.{sector as sector_of};
-ghost use Rattle.rbf_model.specs.Space.{is_marked as is_marked_lem, is_whole as is_whole_lem};
+ghost use Rattle.rbf_model.specs.Space as model;
 ghost use Rattle.rbf_model.specs.Volume.{free_clusters, lost_clusters};
 ghost use Rattle.rbf_sector.specs.Ident.{geometry_of};
 ghost use Rattle.rbf_check.specs.Survey.{IsSurvey};
@@ -24,7 +24,7 @@ pub struct Space {
 
 // Whether the sectors of this cluster are all below the total.
 fn is_whole(ident: &Ident, c: u32) -> bool
-    ensures { result ≡ is_whole_lem (geometry_of ident.now) c }
+    ensures { result ≡ model.is_whole (geometry_of ident.now) c }
 {
     (u64::from(c) + 1) * u64::from(ident.cluster) <= u64::from(ident.total)
 }
@@ -32,8 +32,8 @@ fn is_whole(ident: &Ident, c: u32) -> bool
 fn is_free(survey: &Survey<'_>, c: u32) -> bool
     requires { IsSurvey survey.now }
     ensures { result
-        ≡ (is_whole_lem (geometry_of survey.now.image.ident) c && not
-        (is_marked_lem (sector_of survey.now.image.bytes.now) c)) }
+        ≡ (model.is_whole (geometry_of survey.now.image.ident) c && not
+        (model.is_marked (sector_of survey.now.image.bytes.now) c)) }
 {
     is_whole(&survey.image.ident, c) && !is_marked(survey.image.bytes, c)
 }

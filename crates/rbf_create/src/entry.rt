@@ -1,6 +1,7 @@
 ghost use Rattle.std.specs.Prelude.{◌≡◌, ◌<◌, ◌++◌, [], ◌∷◌, Some, length, slice_get};
 ghost use Rattle.os9_base.specs.Name.{padded_name, IsName};
-ghost use Rattle.rbf_change.specs.Names.{marked_name, new_entry as new_entry_lem};
+ghost use Rattle.rbf_change.specs.Names as model;
+ghost use Rattle.rbf_change.specs.Names.{marked_name};
 
 use os9_base::name::Name;
 
@@ -9,7 +10,7 @@ use os9_base::name::Name;
 /// "Directories").
 pub fn new_entry(name: &Name, n: u32) -> [u8; 32]
     requires { n < 16777216 }
-    ensures { result ≡ new_entry_lem name.now n }
+    ensures { result ≡ model.new_entry name.now n }
 {
     let mut bytes = padded(name);
     bytes[29] = (n / 65536) as u8;

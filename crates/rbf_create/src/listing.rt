@@ -2,7 +2,8 @@ ghost use Rattle.std.specs.Prelude.{◌≡◌, ◌<◌, Some};
 ghost use Rattle.os9_base.specs.Name.{parsed_name};
 ghost use Rattle.rbf_model.specs.Tree.{dot, dot_dot};
 ghost use Rattle.rbf_change.specs.Contents.{extended};
-ghost use Rattle.rbf_change.specs.Names.{new_entry as new_entry_lem, new_listing};
+ghost use Rattle.rbf_change.specs.Names as model;
+ghost use Rattle.rbf_change.specs.Names.{new_listing};
 
 use crate::new_entry;
 use os9_base::name::parse_name;
@@ -22,14 +23,14 @@ pub fn listing(n: u32, parent: u32) -> [u8; 256]
 
 fn parent_entry(parent: u32) -> [u8; 32]
     requires { parent < 16777216 }
-    ensures { result ≡ new_entry_lem dot_dot parent }
+    ensures { result ≡ model.new_entry dot_dot parent }
 {
     new_entry(&parse_name(b"..").unwrap(), parent)
 }
 
 fn own_entry(n: u32) -> [u8; 32]
     requires { n < 16777216 }
-    ensures { result ≡ new_entry_lem dot n }
+    ensures { result ≡ model.new_entry dot n }
 {
     new_entry(&parse_name(b".").unwrap(), n)
 }

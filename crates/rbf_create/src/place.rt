@@ -1,7 +1,7 @@
 ghost use Rattle.std.specs.Prelude.{◌≡◌, IfOk};
 ghost use Rattle.os9_base.specs.Name.{IsName};
 ghost use Rattle.rbf_model.specs.File.{DiskFile};
-ghost use Rattle.rbf_change.specs.Names.{is_dots as is_dots_lem, may_change as may_change_lem};
+ghost use Rattle.rbf_change.specs.Names as model;
 ghost use Rattle.rbf_access.specs.Drive.{Counts};
 ghost use Rattle.rbf_access.specs.Mounted.{kept, HasFile, IsMounted};
 ghost use Rattle.rbf_access.specs.Reading.{IsFdOf, OnFile};
@@ -77,7 +77,7 @@ pub fn find_place(
 
 // Whether it is `.` or `..`, which every directory has.
 fn is_dots(name: &Name) -> bool
-    ensures value { result ≡ is_dots_lem name.now }
+    ensures value { result ≡ model.is_dots name.now }
     ensures name { IsName name.now }
 {
     match name.len() {
@@ -89,7 +89,7 @@ fn is_dots(name: &Name) -> bool
 
 // Whether it is a directory that a user may search and change.
 fn may_change(fd: &Fd, user: u16, execute: bool) -> bool
-    ensures { (file : DiskFile) → IsFdOf file fd.now → result ≡ may_change_lem file user execute }
+    ensures { (file : DiskFile) → IsFdOf file fd.now → result ≡ model.may_change file user execute }
 {
     is_open(fd, user, execute) && may(fd, user, WRITE)
 }

@@ -1,6 +1,7 @@
 ghost use Rattle.std.specs.Prelude.{◌≡◌, IfOk, OnOk, OnErr, Some};
 ghost use Rattle.rbf_model.specs.File.{DiskFile};
-ghost use Rattle.rbf_change.specs.Names.{deletion_end, may_change as may_change_lem, may_delete as may_delete_lem};
+ghost use Rattle.rbf_change.specs.Names as model;
+ghost use Rattle.rbf_change.specs.Names.{deletion_end};
 ghost use Rattle.rbf_access.specs.Drive.{Counts};
 ghost use Rattle.rbf_access.specs.Mounted.{kept, HasFile, IsMounted};
 ghost use Rattle.rbf_access.specs.Reading.{IsFdOf, OnFile, OnVolumeFile};
@@ -115,14 +116,14 @@ pub fn find_deletable(
 
 // Whether it is a directory that a user may search and change.
 fn may_change(fd: &Fd, user: u16, execute: bool) -> bool
-    ensures { (file : DiskFile) → IsFdOf file fd.now → result ≡ may_change_lem file user execute }
+    ensures { (file : DiskFile) → IsFdOf file fd.now → result ≡ model.may_change file user execute }
 {
     is_open(fd, user, execute) && may(fd, user, WRITE)
 }
 
 // Whether it is a file, not a directory, that a user may delete.
 fn may_delete(fd: &Fd, user: u16) -> bool
-    ensures { (file : DiskFile) → IsFdOf file fd.now → result ≡ may_delete_lem (Some file) user }
+    ensures { (file : DiskFile) → IsFdOf file fd.now → result ≡ model.may_delete (Some file) user }
 {
     fd.attr >> 7 == 0 && may(fd, user, WRITE)
 }

@@ -1,7 +1,7 @@
 ghost use Rattle.std.specs.Prelude.{◌≡◌, ◌+◌, ℕ, ◌*◌, ◌/◌, ◌<◌, ◌≤◌, length, IfSome, IfNone};
 ghost use Rattle.rbf_model.specs.Fields.{boot_field, boot_size_field};
 ghost use Rattle.rbf_model.specs.Geometry.{HasHeader, sector as sector_of};
-ghost use Rattle.rbf_model.specs.Space.{is_marked as is_marked_lem};
+ghost use Rattle.rbf_model.specs.Space as model;
 ghost use Rattle.rbf_sector.specs.Ident.{geometry_of};
 
 use crate::image::IdentifiedImage;
@@ -43,7 +43,7 @@ pub fn identify(image: &[u8]) -> Option<IdentifiedImage<'_>>
 /// Whether the map marks this cluster.
 pub fn is_marked(image: &[u8], c: u32) -> bool
     requires { 256 + c / 8 < length image.now }
-    ensures { result ≡ is_marked_lem (sector_of image.now) c }
+    ensures { result ≡ model.is_marked (sector_of image.now) c }
 {
     image[256 + c as usize / 8] >> (7 - c % 8) & 1 == 1
 }

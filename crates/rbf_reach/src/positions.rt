@@ -1,5 +1,5 @@
 ghost use Rattle.std.specs.Prelude.{◌≡◌, ◌+◌, ◌*◌, ◌≤◌, All, OnOk, length, take};
-ghost use Rattle.rbf_model.specs.Fields.{is_used as is_used_lem};
+ghost use Rattle.rbf_model.specs.Fields as model;
 ghost use Rattle.rbf_model.specs.Geometry.{sector as sector_of};
 ghost use Rattle.rbf_reach.specs.Positions.{entry_at_position, positions_in, segment_positions};
 
@@ -9,7 +9,7 @@ use std::alloc::AllocError;
 /// Whether the entry in a position is used.
 pub fn is_used(image: &[u8], e: u32) -> bool
     requires { 32 * (e + 1) ≤ length image.now }
-    ensures { result ≡ is_used_lem (entry_at_position (sector_of image.now) e) }
+    ensures { result ≡ model.is_used (entry_at_position (sector_of image.now) e) }
 {
     image[32 * e as usize] != 0
 }

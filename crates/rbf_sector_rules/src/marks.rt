@@ -1,6 +1,6 @@
 ghost use Rattle.std.specs.Prelude.{◌≡◌, ℕ, ◌+◌, ◌/◌, ◌<◌, ◌≤◌, IfOk, MatchOption, length, slice_index};
 ghost use Rattle.rbf_model.specs.Geometry.{HasMap, sector as sector_of};
-ghost use Rattle.rbf_model.specs.Space.{is_marked as is_marked_lem};
+ghost use Rattle.rbf_model.specs.Space as model;
 ghost use Rattle.rbf_model.specs.Faults.{Breaks};
 ghost use Rattle.rbf_model.specs.Search.{IsReachedOn};
 ghost use Rattle.rbf_sector.specs.Ident.{geometry_of};
@@ -19,7 +19,8 @@ use std::alloc::{AllocError, Global};
 fn is_sector_marked(image: &IdentifiedImage<'_>, s: u32) -> bool
     requires map { HasMap (geometry_of image.now.ident) }
     requires number { s < image.now.ident.total }
-    ensures { result ≡ is_marked_lem (sector_of image.now.bytes.now) (s / image.now.ident.cluster) }
+    ensures { result ≡ model.is_marked (sector_of image.now.bytes.now)
+        (s / image.now.ident.cluster) }
 {
     is_marked(image.bytes, s / u32::from(image.ident.cluster))
 }

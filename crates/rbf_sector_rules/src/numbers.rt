@@ -1,5 +1,5 @@
 ghost use Rattle.rbf_model.specs.Decides.{Decides};
-ghost use Rattle.rbf_model.specs.Fields.{is_used as is_used_lem};
+ghost use Rattle.rbf_model.specs.Fields as model;
 ghost use Rattle.rbf_model.specs.Geometry.{sector as sector_of};
 ghost use Rattle.std.specs.Prelude.{◌≡◌, ℕ, ◌+◌, ◌*◌, ◌<◌, ◌≤◌, false, IfOk, length};
 ghost use Rattle.rbf_sector.specs.Ident.{geometry_of};
@@ -35,7 +35,7 @@ fn has_used(image: &[u8], n: u32) -> bool
     requires fits { 8 * n + 8 < 4294967296 }
     requires within { 256 * (n + 1) ≤ length image.now }
     ensures { result ≡ false → (i : ℕ) → i < 8
-        → is_used_lem (entry_at_position (sector_of image.now) (8 * n + i)) ≡ false }
+        → model.is_used (entry_at_position (sector_of image.now) (8 * n + i)) ≡ false }
 {
     for i in 0..8 {
         if is_used(image, 8 * n + i) {

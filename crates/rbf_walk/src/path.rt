@@ -1,5 +1,5 @@
 ghost use Rattle.std.specs.Prelude.{◌≡◌, ℕ, IfOk};
-ghost use Rattle.rbf_model.specs.Walk.{step as step_lem, walk as walk_lem};
+ghost use Rattle.rbf_model.specs.Walk as model;
 ghost use Rattle.rbf_access.specs.Drive.{Counts};
 ghost use Rattle.rbf_access.specs.Mounted.{kept, HasFile, IsMounted};
 ghost use Rattle.rbf_walk.specs.Walk.{OnVolume, AnswersWalk, directory_fault, step_calls, walk_calls};
@@ -30,7 +30,7 @@ pub fn walk(
     requires mounted { IsMounted v.old (media d.old) }
     requires file { HasFile (media d.old) from }
     ensures walked { OnVolume (media d.old) (λ on.
-        AnswersWalk (walk_lem on.files user execute from names.now) result) }
+        AnswersWalk (model.walk on.files user execute from names.now) result) }
     ensures file { IfOk result (HasFile (media d.old)) }
     ensures mounted { IsMounted v.new (media d.new) }
     ensures media_kept { media d.new ≡ media d.old }
@@ -57,7 +57,7 @@ fn step(
     requires mounted { IsMounted v.old (media d.old) }
     requires file { HasFile (media d.old) dir }
     ensures walked { OnVolume (media d.old) (λ on.
-        AnswersWalk (step_lem (on.files dir) user execute name.now) result) }
+        AnswersWalk (model.step (on.files dir) user execute name.now) result) }
     ensures file { IfOk result (HasFile (media d.old)) }
     ensures mounted { IsMounted v.new (media d.new) }
     ensures media_kept { media d.new ≡ media d.old }

@@ -1,6 +1,7 @@
 ghost use Rattle.std.specs.Prelude.{◌≡◌};
 ghost use Rattle.rbf_model.specs.File.{DiskFile};
-ghost use Rattle.rbf_model.specs.Walk.{granted as granted_lem, permits, may_search};
+ghost use Rattle.rbf_model.specs.Walk as model;
+ghost use Rattle.rbf_model.specs.Walk.{permits, may_search};
 ghost use Rattle.rbf_access.specs.Reading.{IsFdOf};
 
 use rbf_sector::Fd;
@@ -21,7 +22,7 @@ pub fn may(fd: &Fd, user: u16, mode: u8) -> bool
 
 // The three bits of the attributes that a user has.
 fn granted(fd: &Fd, user: u16) -> u8
-    ensures { result ≡ granted_lem fd.now.attr fd.now.owner user }
+    ensures { result ≡ model.granted fd.now.attr fd.now.owner user }
 {
     if user == 0 || user == fd.owner {
         fd.attr % 8

@@ -1,5 +1,5 @@
 ghost use Rattle.std.specs.Prelude.{◌≡◌, ℕ, List, ◌-◌, ◌*◌, ◌^◌, ◌<◌, ◌≤◌, ◌+◌, true, min, not, slice_index, IfSome, MatchOption, Some, None};
-ghost use Rattle.os9_base.specs.Name.{lower as lower_lem};
+ghost use Rattle.os9_base.specs.Name as model;
 ghost use Rattle.rbf_model.specs.Fields.{directory_entry, descriptor_field, is_used};
 ghost use Rattle.rbf_model.specs.Walk.{entry_has_name};
 ghost use Rattle.rbf_walk.specs.Search.{NonePasses, IsFirst, IsEndOf};
@@ -173,7 +173,7 @@ fn begins_alike(sector: &[u8; 256], i: u32, name: &Name) -> bool
 
 // A letter in lower case; any other character is unchanged.
 fn lower(character: u8) -> u8
-    ensures { result ≡ lower_lem character }
+    ensures { result ≡ model.lower character }
 {
     if character >= b'A' && character <= b'Z' {
         character + 32

@@ -2,7 +2,8 @@
 
 ghost use Rattle.std.specs.Prelude.{◌≡◌, true};
 ghost use Rattle.std.specs.List.{list_any};
-ghost use Rattle.lock_model.specs.Conflict.{is_against as is_against_model, is_before as is_before_model, is_opposed_by, overlaps};
+ghost use Rattle.lock_model.specs.Conflict as model;
+ghost use Rattle.lock_model.specs.Conflict.{is_opposed_by, overlaps};
 
 use lock_model::lock::{Held, Range};
 
@@ -26,7 +27,7 @@ fn is_in_the_way(place: &Option<Held>, asked: Held) -> bool
 /// Does a requested lock conflict with this held one: is it for bytes of the same file that another
 /// process holds?
 pub(crate) fn is_against(asked: Held, lock: Held) -> bool
-    ensures { result ≡ is_against_model asked lock }
+    ensures { result ≡ model.is_against asked lock }
 {
     lock.owner != asked.owner && (asked.file == lock.file && overlap(asked.range, lock.range))
 }
@@ -41,7 +42,7 @@ fn overlap(a: Range, b: Range) -> bool
 
 /// Is a byte before an end, if there is one?
 fn is_before(byte: u32, end: Option<u32>) -> bool
-    ensures { result ≡ is_before_model byte end }
+    ensures { result ≡ model.is_before byte end }
 {
     match end {
         None => true,

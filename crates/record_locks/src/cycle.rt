@@ -3,7 +3,8 @@
 ghost use Rattle.std.specs.Prelude.{◌≡◌, ◌==◌, ◌||◌, ◌<◌, ℕ, false, None, [], ◌∷◌, length, slice_index_or};
 ghost use Rattle.std.specs.List.{list_any};
 ghost use Rattle.lock_model.specs.Conflict.{is_opposed_by};
-ghost use Rattle.lock_model.specs.Waits.{closes as closes_model, leads_within, waits_by, waits_for_one};
+ghost use Rattle.lock_model.specs.Waits as model;
+ghost use Rattle.lock_model.specs.Waits.{leads_within, waits_by, waits_for_one};
 ghost use Rattle.lock_model.specs.declared.lock.TheConstants.{LOCK_PROCESSES};
 
 use crate::conflict::is_against;
@@ -13,7 +14,7 @@ use os9_base::registers::Pid;
 /// Would waiting for this lock close a cycle of waits?
 pub(crate) fn closes(held: &[Option<Held>], requests: &[Option<Request>], asked: Held) -> bool
     requires { length requests.now ≡ LOCK_PROCESSES }
-    ensures { result ≡ closes_model (record { held = held.now; requests = requests.now }) asked }
+    ensures { result ≡ model.closes (record { held = held.now; requests = requests.now }) asked }
 {
     let leading = leading_to(held, requests, asked.owner);
     is_one_in_the_way(held, asked, &leading)

@@ -17,11 +17,11 @@ use Rattle.user_names.specs.UserNames.{user_cell}
 use Rattle.user_names.specs.declared.name_fault.NameFault.{NameFault}
 use Rattle.user_names.specs.declared.name_fault.NameFault.TheVariants.{Unreadable, NoName}
 use Rattle.call_rules.specs.UserBytes.{byte_before, user_bytes}
-use Rattle.io_model.specs.Kept.{count_left, is_complete, moved_on}
+use Rattle.io_model.specs.Pending.{count_left, is_complete, moved_on}
 use Rattle.io_model.specs.Line.{has_return, line_length}
 use Rattle.io_model.specs.Path.{desc_of, free_number, free_path, new_number, paths_after_begin, paths_after_dup, slot_of}
 use Rattle.io_model.specs.Pipe.{IsPipe, answer_unmoved, free_pipe, pipe_of, pipe_room, pipes_after_begin}
-use Rattle.io_model.specs.declared.kept.Kept.{Kept}
+use Rattle.io_model.specs.declared.pending.PendingCall.{PendingCall}
 use Rattle.io_model.specs.declared.path.Desc.{Desc}
 use Rattle.io_model.specs.declared.path.SysPath.{SysPath}
 use Rattle.io_model.specs.declared.path.Target.{Target}
@@ -30,12 +30,12 @@ use Rattle.io_model.specs.declared.pipe.PipeAns.TheVariants as Ans
 use Rattle.io_model.specs.declared.terminal.ReadKind.{ReadKind}
 use Rattle.io_model.specs.declared.terminal.ReadKind.TheVariants.{Bytes, WholeLine}
 use Rattle.io_model.specs.declared.terminal.TheConstants.{TYPE_AHEAD}
-use Rattle.io_rules.specs.Again.{IsAgain, IsKept, KeepsCount, path_number}
+use Rattle.io_rules.specs.Again.{IsAgain, IsPending, KeepsCount, path_number}
 use Rattle.io_rules.specs.Alone.{is_alone}
 use Rattle.io_rules.specs.Attempts.{io_step}
 use Rattle.io_rules.specs.Close.{after_close}
 use Rattle.io_rules.specs.Codes.{direction_of_call}
-use Rattle.io_rules.specs.Io.{Io, OpenPath, kept_at, new_desc, open_path, pipe_bytes, with_call, with_paths, with_pipe_bytes, with_pipes}
+use Rattle.io_rules.specs.Io.{Io, OpenPath, pending_at, new_desc, open_path, pipe_bytes, with_call, with_paths, with_pipe_bytes, with_pipes}
 use Rattle.io_rules.specs.Lead.{Lead, Search, to_terminal, to_pipe, nowhere, what_is_there, a_new_place, lead_by_device, lead_of, makes_dots, on_device, on_drive}
 use Rattle.io_rules.specs.Modes.{can_read, can_write, is_mode}
 use Rattle.io_rules.specs.Open.{begins, opened_regs, opens, opens_lead, reads_list}
@@ -63,14 +63,14 @@ use Rattle.refusal_laws.proofs.Gaps.{bytes-gap, list-breaks-off, names-nothing, 
 pub answered : (regs : Regs) (number : ℕ) → answers regs ≡ fails number → ⊥
 answered regs number is = cc
 
-pub kept-on : (kept : Kept) (number : ℕ) → keeps kept ≡ fails number → ⊥
-kept-on kept number is = cc
+pub kept-on : (pending : PendingCall) (number : ℕ) → keeps pending ≡ fails number → ⊥
+kept-on pending number is = cc
 
 -- the number of a refusal
 abbrev number_of : IoEnd → ℕ
 number_of (answers regs) = 0
 number_of (fails number) = number
-number_of (keeps kept) = 0
+number_of (keeps pending) = 0
 
 pub same-number : (m n : ℕ) → fails m ≡ fails n → n ≡ m
 same-number m n is = sym (ap number_of is)
@@ -109,22 +109,22 @@ room-after held rest few =
 
 -- a write asks for as many bytes as it sends, and has moved no more
 record Asks (caller : Caller) (io : Io) (bytes : List ℕ) : Type 0 where
-  count : option_map_or (λ (kept : Kept). kept.count) (kept_at io caller.process.0) (length bytes) ≡ length bytes
+  count : option_map_or (λ (pending : PendingCall). pending.count) (pending_at io caller.process.0) (length bytes) ≡ length bytes
   moved : moved_before caller io ≤ length bytes
 
 asks-by : (call : IoCall) (caller : Caller) (io : Io) (bytes : List ℕ)
-    → ((kept : Kept) → kept_at io caller.process.0 ≡ Some kept → KeepsCount call caller.regs kept.count
-    → kept.count ≡ length bytes) → IsAgain call caller.regs io caller.process.0 → Asks caller io bytes
+    → ((pending : PendingCall) → pending_at io caller.process.0 ≡ Some pending → KeepsCount call caller.regs pending.count
+    → pending.count ≡ length bytes) → IsAgain call caller.regs io caller.process.0 → Asks caller io bytes
 asks-by call caller io bytes all again =
-    let it = by_kept (kept_at io caller.process.0) all again in record { count = it.0; moved = it.1 }
+    let it = by_kept (pending_at io caller.process.0) all again in record { count = it.0; moved = it.1 }
   where
-    by_kept : (place : Option Kept) → ((kept : Kept) → place ≡ Some kept → KeepsCount call caller.regs kept.count
-        → kept.count ≡ length bytes) → IfSome place (IsKept call caller.regs io caller.process.0)
-        → (option_map_or (λ (kept : Kept). kept.count) place (length bytes) ≡ length bytes) ×
-        (option_map_or (λ (kept : Kept). kept.moved) place 0 ≤ length bytes)
+    by_kept : (place : Option PendingCall) → ((pending : PendingCall) → place ≡ Some pending → KeepsCount call caller.regs pending.count
+        → pending.count ≡ length bytes) → IfSome place (IsPending call caller.regs io caller.process.0)
+        → (option_map_or (λ (pending : PendingCall). pending.count) place (length bytes) ≡ length bytes) ×
+        (option_map_or (λ (pending : PendingCall). pending.moved) place 0 ≤ length bytes)
     by_kept None all again = (refl, omega arith)
-    by_kept (Some kept) all again =
-        let same : kept.count ≡ length bytes = all kept refl again.count in
+    by_kept (Some pending) all again =
+        let same : pending.count ≡ length bytes = all pending refl again.count in
         (same, omega (arith, again.unfinished, same))
 
 line-bytes : WholeLine ≡ Bytes → ⊥
@@ -303,32 +303,32 @@ module _ (call : IoCall) (caller : Caller) (io : Io) (drives terms : ℕ) where
 
   -- the call as an attempt finds it
   now-moved : (code count : ℕ) (opened : OpenPath) → (call_now caller io code opened count).moved ≡ moved_before caller io
-  now-moved code count opened = by_kept (kept_at io caller.process.0)
+  now-moved code count opened = by_kept (pending_at io caller.process.0)
     where
-      by_kept : (place : Option Kept) → (unwrap_or place (first_call code opened count)).moved ≡ option_map_or (λ kept. kept.moved) place 0
+      by_kept : (place : Option PendingCall) → (unwrap_or place (first_call code opened count)).moved ≡ option_map_or (λ pending. pending.moved) place 0
       by_kept None = refl
-      by_kept (Some kept) = refl
+      by_kept (Some pending) = refl
 
   now-path : (code count : ℕ) (opened : OpenPath) → (call_now caller io code opened count).path ≡ path_of caller io opened
-  now-path code count opened = by_kept (kept_at io caller.process.0)
+  now-path code count opened = by_kept (pending_at io caller.process.0)
     where
-      by_kept : (place : Option Kept) → (unwrap_or place (first_call code opened count)).path ≡ option_map_or (λ kept. kept.path) place opened.path
+      by_kept : (place : Option PendingCall) → (unwrap_or place (first_call code opened count)).path ≡ option_map_or (λ pending. pending.path) place opened.path
       by_kept None = refl
-      by_kept (Some kept) = refl
+      by_kept (Some pending) = refl
 
-  now-count : (code count : ℕ) (opened : OpenPath) → (call_now caller io code opened count).count ≡ option_map_or (λ (kept : Kept). kept.count) (kept_at io caller.process.0) count
-  now-count code count opened = by_kept (kept_at io caller.process.0)
+  now-count : (code count : ℕ) (opened : OpenPath) → (call_now caller io code opened count).count ≡ option_map_or (λ (pending : PendingCall). pending.count) (pending_at io caller.process.0) count
+  now-count code count opened = by_kept (pending_at io caller.process.0)
     where
-      by_kept : (place : Option Kept) → (unwrap_or place (first_call code opened count)).count ≡ option_map_or (λ kept. kept.count) place count
+      by_kept : (place : Option PendingCall) → (unwrap_or place (first_call code opened count)).count ≡ option_map_or (λ pending. pending.count) place count
       by_kept None = refl
-      by_kept (Some kept) = refl
+      by_kept (Some pending) = refl
 
   now-asked : (code : ℕ) (opened : OpenPath) → (call_now caller io code opened caller.regs.y).count ≡ asked_by caller io
-  now-asked code opened = by_kept (kept_at io caller.process.0)
+  now-asked code opened = by_kept (pending_at io caller.process.0)
     where
-      by_kept : (place : Option Kept) → (unwrap_or place (first_call code opened caller.regs.y)).count ≡ option_map_or (λ kept. kept.count) place caller.regs.y
+      by_kept : (place : Option PendingCall) → (unwrap_or place (first_call code opened caller.regs.y)).count ≡ option_map_or (λ pending. pending.count) place caller.regs.y
       by_kept None = refl
-      by_kept (Some kept) = refl
+      by_kept (Some pending) = refl
 
   -- ---- reads
 
@@ -337,12 +337,12 @@ module _ (call : IoCall) (caller : Caller) (io : Io) (drives terms : ℕ) where
     where
       module _ (pipe : ℕ) (on : IsOn call caller io (Pipe pipe)) where
         -- the caller is alone, and has moved no byte of a line
-        record IsEnded (now : Kept) : Type 0 where
+        record IsEnded (now : PendingCall) : Type 0 where
           path : now.path ≡ path_of caller io on.opened
           alone : is_alone io caller.process.0 now.path.0 Reading ≡ true
           unmoved : call ≡ Call.ReadLn → moved_before caller io ≡ 0
 
-        finds-none : (now : Kept) → IsEnded now → (length (pipe_bytes io pipe) == 0) ≡ true
+        finds-none : (now : PendingCall) → IsEnded now → (length (pipe_bytes io pipe) == 0) ≡ true
             → (before after : List TerminalState) → after ≡ before → FindsNoByte call caller io
             (with_call (with_pipe_bytes io pipe (pipe_bytes io pipe)) caller.process.0 None) before after
         finds-none now ended empty before after same = record {
@@ -360,7 +360,7 @@ module _ (call : IoCall) (caller : Caller) (io : Io) (drives terms : ℕ) where
           same = same;
         }
 
-        module _ (now : Kept) (path : now.path ≡ path_of caller io on.opened) (moved : now.moved ≡ moved_before caller io) where
+        module _ (now : PendingCall) (path : now.path ≡ path_of caller io on.opened) (moved : now.moved ≡ moved_before caller io) where
           pipe-read-known : kind ≡ Bytes → (alone empty : Bool) → is_alone io caller.process.0 now.path.0 Reading ≡
               alone → (length (pipe_bytes io pipe) == 0) ≡ empty
               → Known (comes (read_leaves caller io pipe now (if empty then answer_unmoved alone Ans.End else Ans.Done
@@ -440,7 +440,7 @@ module _ (call : IoCall) (caller : Caller) (io : Io) (drives terms : ℕ) where
       (sends : sent_by call caller io ≡ Some sending.bytes) (puts : sending.put ≡ put_by call sending.bytes)
       (asks : IsAgain call caller.regs io caller.process.0 → Asks caller io sending.bytes) (code : ℕ) where
     module _ (opened : OpenPath) (names : open_path io caller.process.0 (path_number call caller.regs) ≡ Some opened) where
-      abbrev now : Kept
+      abbrev now : PendingCall
       now = call_now caller io code opened (length sending.bytes)
 
       module _ (pipe : ℕ) (on : opened.desc.target ≡ Pipe pipe) where
@@ -661,9 +661,9 @@ step-known Call.Write caller io drives terms =
     (bytes-gap caller.cells caller.regs.x caller.regs.y)
     (λ opened names lacks. (Writing, opened, refl, names, cannot-write caller io drives terms opened.desc.mode lacks))
 step-known Call.WritLn caller io drives terms =
-    send-known Call.WritLn caller io drives terms refl refl refl (sent_line caller) I_WRITLN (line_bytes caller (kept_at io caller.process.0)) (λ bytes. refl) refl (λ bytes. refl)
+    send-known Call.WritLn caller io drives terms refl refl refl (sent_line caller) I_WRITLN (line_bytes caller (pending_at io caller.process.0)) (λ bytes. refl) refl (λ bytes. refl)
     (λ bytes is. asks-by Call.WritLn caller io bytes
     (λ kept kept_is count. sym (user-length caller.cells caller.regs.x kept.count bytes
-    (subst (λ (place : Option Kept). line_bytes caller place ≡ Some bytes) kept_is is))))
+    (subst (λ (place : Option PendingCall). line_bytes caller place ≡ Some bytes) kept_is is))))
     (λ none. (sent-gap caller io none, none))
     (λ opened names lacks. (Writing, opened, refl, names, cannot-write caller io drives terms opened.desc.mode lacks))

@@ -22,7 +22,7 @@ use Rattle.io_rules.specs.declared.io_call.IoCall.{IoCall}
 use Rattle.io_rules.specs.declared.io_call.IoCall.TheVariants as Device
 use Rattle.file_rules.specs.Files.{Asker, Files, OpenFile, file_in, open_file, open_file_at, place_of_target, volume_at}
 use Rattle.file_rules.specs.Open.{is_for_execution}
-use Rattle.file_rules.specs.Way.{list_of}
+use Rattle.file_rules.specs.Route.{list_of}
 use Rattle.file_rules.specs.declared.path_call.PathCall.{PathCall}
 use Rattle.file_rules.specs.declared.path_call.PathCall.TheVariants as Call
 use Rattle.lock_model.specs.declared.place.FilePlace.{FilePlace}

@@ -12,8 +12,8 @@ use Rattle.user_names.specs.declared.name_fault.NameFault.TheVariants.{Unreadabl
 use Rattle.call_rules.specs.Program.{slash}
 use Rattle.call_rules.specs.UserBytes.{byte_before, user_bytes}
 use Rattle.io_model.specs.declared.keys.TheConstants.{RETURN}
-use Rattle.io_model.specs.declared.kept.Kept.{Kept}
-use Rattle.io_rules.specs.Io.{Io, kept_at}
+use Rattle.io_model.specs.declared.pending.PendingCall.{PendingCall}
+use Rattle.io_rules.specs.Io.{Io, pending_at}
 use Rattle.io_rules.specs.PathList.{Behind, Names, another, a_slash, nothing, unreadable, behind_name, behind_slash, behind, device_list, from_device, is_marked, list_with, name_before, names_at, names_behind, names_from, names_with, path_list, relative_list}
 use Rattle.io_rules.specs.Step.{Caller}
 use Rattle.io_rules.specs.Transfer.{line_at, line_with}
@@ -442,9 +442,9 @@ line-gap cells at (suc most) none = by_byte (user_cell cells at) refl (line-gap 
     by_byte None there further none = gap-here cells at most there
     by_byte (Some byte) there further none = by_return byte (byte == RETURN) further none
 
-pub sent-gap : (caller : Caller) (io : Io) → line_bytes caller (kept_at io caller.process.0) ≡ None → HasGap caller.cells caller.regs.x (asked_by caller io)
-sent-gap caller io none = by_kept (kept_at io caller.process.0) none
+pub sent-gap : (caller : Caller) (io : Io) → line_bytes caller (pending_at io caller.process.0) ≡ None → HasGap caller.cells caller.regs.x (asked_by caller io)
+sent-gap caller io none = by_kept (pending_at io caller.process.0) none
   where
-    by_kept : (place : Option Kept) → line_bytes caller place ≡ None → HasGap caller.cells caller.regs.x (option_map_or (λ (kept : Kept). kept.count) place caller.regs.y)
+    by_kept : (place : Option PendingCall) → line_bytes caller place ≡ None → HasGap caller.cells caller.regs.x (option_map_or (λ (pending : PendingCall). pending.count) place caller.regs.y)
     by_kept None none = line-gap caller.cells caller.regs.x caller.regs.y none
-    by_kept (Some kept) none = bytes-gap caller.cells caller.regs.x kept.count none
+    by_kept (Some pending) none = bytes-gap caller.cells caller.regs.x pending.count none

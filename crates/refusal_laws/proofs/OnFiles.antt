@@ -57,10 +57,10 @@ mounted-within files drive v was =
 
 module _ (s t : State) (p : ℕ) (now : TimePacket) (call : PathCall) (number : ℕ) where
   abbrev asker : Asker
-  asker = asker_of s.inner p now
+  asker = asker_of s.processes p now
 
   abbrev On : FileEffect → Type 0
-  On effect = IsOnDevice call s.inner s.files p (result_of s.inner p (io_effect effect)) (files_after p effect) s.terms t.terms × IsOnNoFile call asker s.files (length s.terms)
+  On effect = IsOnDevice call s.processes s.files p (result_of s.processes p (io_effect effect)) (files_after p effect) s.terms t.terms × IsOnNoFile call asker s.files (length s.terms)
 
   -- no volume has changed, and the number has its cause
   abbrev Why : Files → Type 0
@@ -84,7 +84,7 @@ module _ (s t : State) (p : ℕ) (now : TimePacket) (call : PathCall) (number : 
     by-deed (leaves_so effect) deed_is reached splits caused it (is, same) ended =
         inr (why-so it (ap (λ (it : FileEffect). it.files.volumes) is ∙ ends-volumes effect splits) (caused number (sym (ap (λ (it : FileEffect). it.end) is) ∙ ended)))
     by-deed (as_io io) deed_is reached splits (inl on) it (effect, does, is) ended =
-        inl (subst (λ (it : FileEffect). On (with_drives_after it drives)) (sym is) (on-device call s.inner s.files now p s.terms t.terms io effect drives none on.0 does, on.1))
+        inl (subst (λ (it : FileEffect). On (with_drives_after it drives)) (sym is) (on-device call s.processes s.files now p s.terms t.terms io effect drives none on.0 does, on.1))
     by-deed (as_io io) deed_is reached splits (inr why) it (effect, does, is) ended =
         inr (why-so it (ap (λ (it : FileEffect). it.files.volumes) is) (why effect s.terms t.terms number does (sym (ap (λ (it : FileEffect). it.end) is) ∙ ended)))
     by-deed (changes change) deed_is reached splits answer it (inl changed, same) ended =
@@ -134,30 +134,30 @@ module _ (s t : State) (p : ℕ) (now : TimePacket) (call : PathCall) (number : 
 
   -- ---- an attempt
 
-  module _ (it : FileAttempts call s.inner s.files now p (refused number) t.files s.terms t.terms) where
+  module _ (it : FileAttempts call s.processes s.files now p (refused number) t.files s.terms t.terms) where
     ended : it.effect.end ≡ fails number
-    ended = ends-refused it.effect.end s.inner p (io_effect it.effect) number (sym it.result_is)
+    ended = ends-refused it.effect.end s.processes p (io_effect it.effect) number (sym it.result_is)
 
     -- it is on a terminal or a pipe, on no file; or its drive failed; or it has its cause
-    pub file-refused : IsOnDevice call s.inner s.files p (refused number) t.files s.terms t.terms × IsOnNoFile call
+    pub file-refused : IsOnDevice call s.processes s.files p (refused number) t.files s.terms t.terms × IsOnNoFile call
         asker s.files (length s.terms) ⊎ FailsOnDrive s p now call number t ⊎ NoVolumeChanges s.files t.files ×
         FileCause (made_by s p now call) number
     file-refused = by_end it.does
       where
-        by_case : On it.effect ⊎ Why (files_after p it.effect) → IsOnDevice call s.inner s.files p (refused number)
+        by_case : On it.effect ⊎ Why (files_after p it.effect) → IsOnDevice call s.processes s.files p (refused number)
             t.files s.terms t.terms × IsOnNoFile call asker s.files (length s.terms) ⊎ FailsOnDrive s p now call
             number t ⊎ Why t.files
         by_case (inl (on, none)) =
             inl (
-              subst (λ (result : CallResult). IsOnDevice call s.inner s.files p result t.files s.terms t.terms)
-                  (sym it.result_is) (subst (λ (new : Files). IsOnDevice call s.inner s.files p
-                  (result_of s.inner p (io_effect it.effect)) new s.terms t.terms) (sym it.state) on),
+              subst (λ (result : CallResult). IsOnDevice call s.processes s.files p result t.files s.terms t.terms)
+                  (sym it.result_is) (subst (λ (new : Files). IsOnDevice call s.processes s.files p
+                  (result_of s.processes p (io_effect it.effect)) new s.terms t.terms) (sym it.state) on),
               none,
             )
         by_case (inr why) = inr (inr (subst Why (sym it.state) why))
 
         by_end : GoesWell (step_of s p now call) asker s.files it.effect s.terms t.terms ⊎
-            (IsBroken (step_of s p now call) asker s.files it.effect × (t.terms ≡ s.terms)) → IsOnDevice call s.inner
+            (IsBroken (step_of s p now call) asker s.files it.effect × (t.terms ≡ s.terms)) → IsOnDevice call s.processes
             s.files p (refused number) t.files s.terms t.terms × IsOnNoFile call asker s.files (length s.terms) ⊎
             FailsOnDrive s p now call number t ⊎ Why t.files
         by_end (inl well) = by_case (goes-well it.effect well ended)

@@ -27,7 +27,7 @@ use Rattle.call_rules.specs.CallResult.{CallResult, changes, done, ends, needs, 
 use Rattle.call_rules.specs.Chain.{begun_anew, with_program}
 use Rattle.call_rules.specs.CmpNam.{same_names}
 use Rattle.call_rules.specs.Fork.{forked_regs, with_child}
-use Rattle.call_rules.specs.Inner.{Inner, cells_at, own_at, regs_at, user_at, with_records, with_regs_of}
+use Rattle.call_rules.specs.Processes.{Processes, cells_at, own_at, regs_at, user_at, with_records, with_regs_of}
 use Rattle.call_rules.specs.Link.{links_at, mapped_group}
 use Rattle.call_rules.specs.ModuleLinks.{Entered, entered_at, found_entry, module_at, without_primary_link}
 use Rattle.call_rules.specs.Mem.{resized}
@@ -53,10 +53,10 @@ use Rattle.refusal_laws.specs.CallCauses.{Finds, ProcCause, bad_address, bad_nam
 same-number : (n m : ℕ) → refused n ≡ refused m → m ≡ n
 same-number n m is = cc
 
-not-done : (number : ℕ) (m : Inner) → done m ≡ refused number → ⊥
+not-done : (number : ℕ) (m : Processes) → done m ≡ refused number → ⊥
 not-done number m is = cc
 
-not-waits : (number : ℕ) (m : Inner) → waits m ≡ refused number → ⊥
+not-waits : (number : ℕ) (m : Processes) → waits m ≡ refused number → ⊥
 not-waits number m is = cc
 
 not-ends : (number status : ℕ) → ends status ≡ refused number → ⊥
@@ -112,7 +112,7 @@ user-length cells at zero bytes is = ap (length {A = ℕ}) (sym (same_Some [] by
 user-length cells at (suc count) bytes is =
     length-before (user_cell cells at) (user_bytes cells (at + 1) count) count (user-length cells (at + 1) count) bytes is
 
-module _ (m : Inner) (p number : ℕ) where
+module _ (m : Processes) (p number : ℕ) where
   abbrev Why : ProcCall → Type 0
   Why call = ProcCause m p call number
 
@@ -181,7 +181,7 @@ module _ (m : Inner) (p number : ℕ) where
   -- ---- F$Mem
 
   resized-caused : (free wants : Bool) → is_free_run (map_at m.memory p) (map_at m.memory p).low (blocks_more m p) ≡
-      free → wants_blocks m.memory (blocks_more m p) ≡ wants → (grows : MemoryState) (next : MemoryState → Inner)
+      free → wants_blocks m.memory (blocks_more m p) ≡ wants → (grows : MemoryState) (next : MemoryState → Processes)
       → changes (if free then (if wants then Err NoRam else Ok grows) else Err MemFull) (λ memory. done (next memory))
       ≡ refused number → Why Call.Mem
   resized-caused false wants free_is wants_is grows next is =
@@ -190,7 +190,7 @@ module _ (m : Inner) (p number : ℕ) where
       no_blocks (same-number E_NORAM number is) refl (ltb-true (free_blocks m.memory) (blocks_more m p) wants_is)
   resized-caused true false free_is wants_is grows next is = absurd (not-done number _ is)
 
-  grown-caused : (more : Bool) (next : MemoryState → Inner) → changes (if more then grown m.memory p (blocks_more m p)
+  grown-caused : (more : Bool) (next : MemoryState → Processes) → changes (if more then grown m.memory p (blocks_more m p)
       else Ok (cut m.memory p (blocks_asked m p))) (λ memory. done (next memory)) ≡ refused number → Why Call.Mem
   grown-caused true next is =
       resized-caused (is_free_run (map_at m.memory p) (map_at m.memory p).low (blocks_more m p)) (wants_blocks m.memory (blocks_more m p)) refl refl _ next is
@@ -199,7 +199,7 @@ module _ (m : Inner) (p number : ℕ) where
   mem-caused : attempted Call.Mem m p ≡ refused number → Why Call.Mem
   mem-caused = by_size (d_of (regs_at m p) == 0) _ _
     where
-      by_size : (asks : Bool) (answer : Inner) (next : MemoryState → Inner)
+      by_size : (asks : Bool) (answer : Processes) (next : MemoryState → Processes)
           → (if asks then done answer else refuses (nat_lt most_pages (page_count (d_of (regs_at m p)))) E_MEMFUL
           (changes (resized m.memory p (blocks_asked m p)) (λ memory. done (next memory)))) ≡ refused number
           → Why Call.Mem
@@ -276,7 +276,7 @@ module _ (m : Inner) (p number : ℕ) where
     not-started-so cause = not_started found starts named cause
 
     -- the memory is taken, by the entry of the module
-    module _ (q : ℕ) (begins_is : begins call m p ≡ Some q) (next : MemoryState → Inner) where
+    module _ (q : ℕ) (begins_is : begins call m p ≡ Some q) (next : MemoryState → Processes) where
       abbrev blocks : ℕ
       blocks = blocks_for m p no_file (in_memory m found)
 
@@ -381,15 +381,15 @@ module _ (m : Inner) (p number : ℕ) where
 
   module _ (found : Entered) (named : named_program m p ≡ Some found) where
     -- the memory of a process that begins, and what the call leaves with it
-    abbrev forked : ℕ → Program → MemoryState → Inner
+    abbrev forked : ℕ → Program → MemoryState → Processes
     forked child program memory =
         with_regs_of (with_child m p child program memory) p (forked_regs (regs_at m p) child program)
 
-    abbrev chained : Program → MemoryState → Inner
+    abbrev chained : Program → MemoryState → Processes
     chained program memory =
         without_primary_link (begun_anew (with_program m p program memory) p program) (own_at m p)
 
-    abbrev begun : ℕ → Program → (MemoryState → Inner) → CallResult
+    abbrev begun : ℕ → Program → (MemoryState → Processes) → CallResult
     begun q program next =
         refuses (nat_lt most_pages program.pages) E_MEMFUL (changes (started m.memory q program.entered.number (blocks_of_pages program.pages)) (λ memory. done (next memory)))
 

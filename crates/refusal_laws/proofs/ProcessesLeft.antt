@@ -8,7 +8,7 @@ use Rattle.proc_rules.specs.declared.record.Life.TheVariants.{Running}
 use Rattle.proc_rules.specs.declared.record.Record.{Record}
 use Rattle.call_rules.specs.Attempts.{after_attempt, refused_regs}
 use Rattle.call_rules.specs.CallResult.{refused}
-use Rattle.call_rules.specs.Inner.{Inner, no_own, own_at, regs_at}
+use Rattle.call_rules.specs.Processes.{Processes, no_own, own_at, regs_at}
 use Rattle.refusal_laws.specs.Refusals.{LeavesProcesses}
 
 living-within : (records : List (Option Record)) (p : ℕ) → IsLiving records p → p < length records
@@ -18,7 +18,7 @@ living-within records p lives =
       | inr past ↦ absurd (false≢true (sym (ap (λ (place : Option Record). record_passes (λ r. not (has_ended r.life)) place) (get_or_past records p None past)) ∙ lives))
     ]
 
-module _ (m : Inner) (p number : ℕ) where
+module _ (m : Processes) (p number : ℕ) where
   abbrev with_error : Record
   with_error = record (record_at m.records p) { regs = refused_regs (regs_at m p) number }
 

@@ -8,7 +8,7 @@ use Rattle.call_rules.specs.Attempts.{attempted}
 use Rattle.call_rules.specs.CallResult.{refused, waits}
 use Rattle.call_rules.specs.Chain.{f_chain}
 use Rattle.call_rules.specs.Fork.{f_fork}
-use Rattle.call_rules.specs.Inner.{Inner, cells_at, regs_at}
+use Rattle.call_rules.specs.Processes.{Processes, cells_at, regs_at}
 use Rattle.call_rules.specs.ModuleLinks.{Entered}
 use Rattle.call_rules.specs.Ready.{Act}
 use Rattle.call_rules.specs.UserBytes.{user_bytes}
@@ -52,13 +52,13 @@ use Rattle.refusal_laws.proofs.OnFiles.{file-refused}
 use Rattle.refusal_laws.proofs.Processes.{proc-caused}
 
 -- a call on the time that is refused leaves the clock
-time-left : (m : Inner) (clock : Clock) (p number : ℕ) (step : TimeStep) → refused number ≡ result_of m p step → clock_after clock step ≡ clock
+time-left : (m : Processes) (clock : Clock) (p number : ℕ) (step : TimeStep) → refused number ≡ result_of m p step → clock_after clock step ≡ clock
 time-left m clock p number (time_refused other) is = refl
 time-left m clock p number (tells at packet) is = let never : ⊥ = cc in absurd never
 time-left m clock p number (sets other) is = let never : ⊥ = cc in absurd never
 
 -- and has its cause
-time-caused : (m : Inner) (now : TimePacket) (p number : ℕ) (call : TimeCall) → refused number ≡ result_of m p (time_step call m now p) → TimeCause m p call number
+time-caused : (m : Processes) (now : TimePacket) (p number : ℕ) (call : TimeCall) → refused number ≡ result_of m p (time_step call m now p) → TimeCause m p call number
 time-caused m now p number Time.Time answer =
     by_missing (is_none (user_bytes (cells_at m p) (regs_at m p).x PACKET_BYTES)) refl answer
   where
@@ -83,7 +83,7 @@ time-caused m now p number Time.STime answer =
     by_bytes (Some bytes) there is = by_time bytes there (is_time_packet (packet_of bytes)) refl is
 
 -- a call that is refused does not wait
-not-waiting : (m : Inner) (number : ℕ) → refused number ≡ waits m → ⊥
+not-waiting : (m : Processes) (number : ℕ) → refused number ≡ waits m → ⊥
 not-waiting m number is = cc
 
 module _ (s t : State) (code number : ℕ) where
@@ -100,7 +100,7 @@ module _ (s t : State) (code number : ℕ) where
 
     module _ (test : Step ProgramFile → Step ProgramFile) (Cause : Type 0) where
       abbrev read_from : Option ℕ
-      read_from = drive_of (program_file (asker_of s.inner p now) s.files (length s.terms) test)
+      read_from = drive_of (program_file (asker_of s.processes p now) s.files (length s.terms) test)
 
       abbrev Why-load : Files → Type 0
       Why-load files =
@@ -129,49 +129,49 @@ module _ (s t : State) (code number : ℕ) where
 
     -- F$Fork and F$Chain, of a file or of a module that is entered
     abbrev asking : Asker
-    asking = asker_of s.inner p now
+    asking = asker_of s.processes p now
 
     abbrev terminals : ℕ
     terminals = length s.terms
 
-    entered-left : (call : ProcCall) → service_of code ≡ on_processes call → IsSome (named_program s.inner p)
-        → (files : Files) → refused number ≡ attempted call s.inner p → files ≡ s.files → rest_of t ≡ with_files s
+    entered-left : (call : ProcCall) → service_of code ≡ on_processes call → IsSome (named_program s.processes p)
+        → (files : Files) → refused number ≡ attempted call s.processes p → files ≡ s.files → rest_of t ≡ with_files s
         files → LeavesRest s p now code number t
     entered-left call asked named files answer same is =
-        of_processes call asked (λ starts. named) (sym answer) (proc-caused s.inner p number call (λ starts. named) (sym answer)) (is ∙ ap (with_files s) same)
+        of_processes call asked (λ starts. named) (sym answer) (proc-caused s.processes p number call (λ starts. named) (sym answer)) (is ∙ ap (with_files s) same)
 
-    fork-left : service_of code ≡ on_processes Call.Fork → (files : Files) → ForkAttempts s.inner asking s.files
+    fork-left : service_of code ≡ on_processes Call.Fork → (files : Files) → ForkAttempts s.processes asking s.files
         terminals p (refused number) files → rest_of t ≡ with_files s files → (named : Option Entered)
-        → named_program s.inner p ≡ named → LeavesRest s p now code number t
+        → named_program s.processes p ≡ named → LeavesRest s p now code number t
     fork-left asked files it is None none =
-        of_fork asked none (load-left (tests_program s.inner p) (ForkCause s.inner asking s.files terminals p number)
-        files (fork-leaves s.inner asking s.files terminals p (refused number) files it)
-        (fork-caused s.inner asking s.files terminals p number files it none) is)
+        of_fork asked none (load-left (tests_program s.processes p) (ForkCause s.processes asking s.files terminals p number)
+        files (fork-leaves s.processes asking s.files terminals p (refused number) files it)
+        (fork-caused s.processes asking s.files terminals p number files it none) is)
     fork-left asked files it is (Some entered) there =
-        let attempt : (refused number ≡ f_fork s.inner p) × (files ≡ s.files) = subst (λ (named : Option Entered).
-        MatchOption named (StartsFile forks s.inner asking s.files terminals p (refused number) files)
-        (λ entered. (refused number ≡ f_fork s.inner p) × (files ≡ s.files))) there it in
+        let attempt : (refused number ≡ f_fork s.processes p) × (files ≡ s.files) = subst (λ (named : Option Entered).
+        MatchOption named (StartsFile forks s.processes asking s.files terminals p (refused number) files)
+        (λ entered. (refused number ≡ f_fork s.processes p) × (files ≡ s.files))) there it in
         entered-left Call.Fork asked (ap (λ (named : Option Entered). is_some named) there) files attempt.0 attempt.1 is
 
-    chain-left : service_of code ≡ on_processes Call.Chain → (files : Files) → ChainAttempts s.inner asking s.files
+    chain-left : service_of code ≡ on_processes Call.Chain → (files : Files) → ChainAttempts s.processes asking s.files
         terminals p (refused number) files → rest_of t ≡ with_files s files → (named : Option Entered)
-        → named_program s.inner p ≡ named → LeavesRest s p now code number t
+        → named_program s.processes p ≡ named → LeavesRest s p now code number t
     chain-left asked files it is None none =
-        of_chain asked none (load-left (tests_program s.inner p) (ChainCause s.inner asking s.files terminals p
-        number) files (chain-leaves s.inner asking s.files terminals p (refused number) files it)
-        (chain-caused s.inner asking s.files terminals p number files it none) is)
+        of_chain asked none (load-left (tests_program s.processes p) (ChainCause s.processes asking s.files terminals p
+        number) files (chain-leaves s.processes asking s.files terminals p (refused number) files it)
+        (chain-caused s.processes asking s.files terminals p number files it none) is)
     chain-left asked files it is (Some entered) there =
-        let attempt : (refused number ≡ f_chain s.inner p) × (files ≡ s.files) = subst (λ (named : Option Entered).
-        MatchOption named (StartsFile chains s.inner asking s.files terminals p (refused number) files)
-        (λ entered. (refused number ≡ f_chain s.inner p) × (files ≡ s.files))) there it in
+        let attempt : (refused number ≡ f_chain s.processes p) × (files ≡ s.files) = subst (λ (named : Option Entered).
+        MatchOption named (StartsFile chains s.processes asking s.files terminals p (refused number) files)
+        (λ entered. (refused number ≡ f_chain s.processes p) × (files ≡ s.files))) there it in
         entered-left Call.Chain asked (ap (λ (named : Option Entered). is_some named) there) files attempt.0 attempt.1 is
 
     -- ---- calls on paths
 
-    module _ (call : PathCall) (it : FileAttempts call s.inner s.files now p (refused number) t.files s.terms t.terms) (clock : t.clock ≡ s.clock) where
+    module _ (call : PathCall) (it : FileAttempts call s.processes s.files now p (refused number) t.files s.terms t.terms) (clock : t.clock ≡ s.clock) where
       abbrev OnDevice : Type 0
       OnDevice =
-          IsOnDevice call s.inner s.files p (refused number) t.files s.terms t.terms × IsOnNoFile call (asker_of s.inner p now) s.files (length s.terms)
+          IsOnDevice call s.processes s.files p (refused number) t.files s.terms t.terms × IsOnNoFile call (asker_of s.processes p now) s.files (length s.terms)
 
       abbrev Why : Type 0
       Why = FailsOnDrive s p now call number t ⊎ NoVolumeChanges s.files t.files × FileCause (made_by s p now call) number
@@ -185,7 +185,7 @@ module _ (s t : State) (code number : ℕ) where
         device_is = on.device_is;
         on = none;
         left =
-            by_answer (refusal on.device s.inner s.files.io t.files.io (length s.files.drives) p number s.terms t.terms on.attempted);
+            by_answer (refusal on.device s.processes s.files.io t.files.io (length s.files.drives) p number s.terms t.terms on.attempted);
         locks = on.locks;
         directories = on.directories;
         volumes = on.volumes;
@@ -193,13 +193,13 @@ module _ (s t : State) (code number : ℕ) where
         clock = clock;
       }
         where
-          by_answer : Comes on.device (caller_of s.inner p) s.files.io (length s.files.drives) number t.files.io s.terms t.terms → LeftOnDevice s p on.device number t
+          by_answer : Comes on.device (caller_of s.processes p) s.files.io (length s.files.drives) number t.files.io s.terms t.terms → LeftOnDevice s p on.device number t
           by_answer (inl (cause, nothing)) =
-              but_the_call (device-caused call on.device on.device_is (asker_of s.inner p now) s.files (length s.terms) number none cause) nothing
+              but_the_call (device-caused call on.device on.device_is (asker_of s.processes p now) s.files (length s.terms) number none cause) nothing
           by_answer (inr (inl (number_is, left))) = end_of_file number_is left
           by_answer (inr (inr (number_is, left))) = write_error number_is left
 
-      file-left : LeavesDevices call s.inner s.files now p (refused number) t.files s.terms t.terms → Why → RefusedOnFile s p now call number t
+      file-left : LeavesDevices call s.processes s.files now p (refused number) t.files s.terms t.terms → Why → RefusedOnFile s p now call number t
       file-left left why = record {
         io = (left.refusal number refl).io;
         records = (left.refusal number refl).records;
@@ -212,34 +212,34 @@ module _ (s t : State) (code number : ℕ) where
 
       path-left : Comes-so
       path-left =
-          by_touch (attempt-splits call s.inner s.files now p (refused number) t.files s.terms t.terms it)
+          by_touch (attempt-splits call s.processes s.files now p (refused number) t.files s.terms t.terms it)
         where
-          by_cause : LeavesDevices call s.inner s.files now p (refused number) t.files s.terms t.terms → OnDevice ⊎ Why → Comes-so
+          by_cause : LeavesDevices call s.processes s.files now p (refused number) t.files s.terms t.terms → OnDevice ⊎ Why → Comes-so
           by_cause left (inl on) = inl (device-left on)
           by_cause left (inr why) = inr (file-left left why)
 
-          by_touch : OnDevice ⊎ LeavesDevices call s.inner s.files now p (refused number) t.files s.terms t.terms ⊎
-              WaitsForRecord call s.inner s.files now p (refused number) t.files s.terms t.terms → Comes-so
+          by_touch : OnDevice ⊎ LeavesDevices call s.processes s.files now p (refused number) t.files s.terms t.terms ⊎
+              WaitsForRecord call s.processes s.files now p (refused number) t.files s.terms t.terms → Comes-so
           by_touch (inl on) = inl (device-left on)
           by_touch (inr (inl left)) = by_cause left (file-refused s t p now call number it)
-          by_touch (inr (inr waiting)) = absurd (not-waiting s.inner number waiting.result_is)
+          by_touch (inr (inr waiting)) = absurd (not-waiting s.processes number waiting.result_is)
 
     -- ---- any call
 
     serves-left : (service : Service) → service_of code ≡ service → Serves service s now p (refused number) (rest_of t) → LeavesRest s p now code number t
     serves-left loads asked (files, it, is) =
-        of_load asked (load-left (λ step. step) (LoadCause s.inner asking s.files terminals p number) files
-        (load-leaves s.inner asking s.files terminals p (refused number) files it) (load-caused s.inner asking
+        of_load asked (load-left (λ step. step) (LoadCause s.processes asking s.files terminals p number) files
+        (load-leaves s.processes asking s.files terminals p (refused number) files it) (load-caused s.processes asking
         s.files terminals p number files it) is)
     serves-left (on_processes Call.Fork) asked (files, it, is) =
-        fork-left asked files it is (named_program s.inner p) refl
+        fork-left asked files it is (named_program s.processes p) refl
     serves-left (on_processes Call.Chain) asked (files, it, is) =
-        chain-left asked files it is (named_program s.inner p) refl
+        chain-left asked files it is (named_program s.processes p) refl
     serves-left (on_processes call) asked it =
-        of_processes call asked (λ starts. absurd (false≢true starts)) (sym it.0) (proc-caused s.inner p number call (λ starts. absurd (false≢true starts)) (sym it.0)) it.1
+        of_processes call asked (λ starts. absurd (false≢true starts)) (sym it.0) (proc-caused s.processes p number call (λ starts. absurd (false≢true starts)) (sym it.0)) it.1
     serves-left (on_time call) asked (clock, it, is) =
-        of_time call asked (time-caused s.inner now p number call it.result_is)
-        (is ∙ ap (λ (clock : Clock). record (rest_of s) { clock = clock }) (it.clock_is ∙ time-left s.inner s.clock p number (time_step call s.inner now p) it.result_is))
+        of_time call asked (time-caused s.processes now p number call it.result_is)
+        (is ∙ ap (λ (clock : Clock). record (rest_of s) { clock = clock }) (it.clock_is ∙ time-left s.processes s.clock p number (time_step call s.processes now p) it.result_is))
     serves-left (on_paths call) asked (it, clock) = by_path (path-left call it clock)
       where
         by_path : RefusedOnDevice s p now call number t ⊎ RefusedOnFile s p now call number t → LeavesRest s p now code number t
@@ -252,7 +252,7 @@ module _ (s t : State) (code number : ℕ) where
       let (now, is_now, serves) = it.attempt in
       record {
         processes =
-            subst (λ (m : Inner). LeavesProcesses s.inner it.process number m) (sym (ap (λ (t : State). t.inner) it.now)) (leaves-processes s.inner it.process number);
+            subst (λ (m : Processes). LeavesProcesses s.processes it.process number m) (sym (ap (λ (t : State). t.processes) it.now)) (leaves-processes s.processes it.process number);
         now = now;
         is_now = is_now;
         rest = serves-left it.process now (service_of code) refl serves;

@@ -6,7 +6,7 @@ use Rattle.os9_base.specs.declared.errors.TheConstants.{E_BMODE, E_BPADDR, E_BPN
 use Rattle.os9_outer.specs.Stream.{stream_with}
 use Rattle.os9_outer.specs.TerminalState.{TerminalState, ChangesOneTerminal}
 use Rattle.call_rules.specs.CallResult.{CallResult}
-use Rattle.call_rules.specs.Inner.{Inner}
+use Rattle.call_rules.specs.Processes.{Processes}
 use Rattle.io_model.specs.Edit.{Typing}
 use Rattle.io_model.specs.Terminal.{BreaksOff, PutsPart, Reads, Terminal, Writes, after_reading, attempt_by, is_taken, key_effect, kept_waiting, read_attempt, typed, typed_attempt}
 use Rattle.io_model.specs.declared.edit.LineEnd.{LineEnd}
@@ -15,7 +15,7 @@ use Rattle.io_model.specs.declared.path.Target.TheVariants.{Term}
 use Rattle.io_model.specs.declared.terminal.Progress.{Progress}
 use Rattle.io_model.specs.declared.terminal.Progress.TheVariants.{Done, Wait, End, Fault, NoMemory}
 use Rattle.io_model.specs.declared.terminal.Reading.{Reading}
-use Rattle.io_rules.specs.Attempts.{Does, IoAttempts, caller_of, io_after, kept_in, result_by, step_of}
+use Rattle.io_rules.specs.Attempts.{Does, IoAttempts, caller_of, io_after, pending_in, result_by, step_of}
 use Rattle.io_rules.specs.Io.{Io, terminal_at, with_call}
 use Rattle.io_rules.specs.Pipes.{count_regs}
 use Rattle.io_rules.specs.Step.{Caller, IoEffect, IoEnd, IoStep, TerminalRead, TerminalWrite, answers, comes, fails, keeps, reads, refused, writes}
@@ -184,7 +184,7 @@ module _ (call : IoCall) (caller : Caller) (io : Io) (drives : ℕ) (before afte
   -- an effect with the end of a refusal leaves nothing of the call
   nothing-kept : (effect : IoEffect) → effect.end ≡ fails number → io_after caller.process.0 effect ≡ with_call effect.io caller.process.0 None
   nothing-kept effect over =
-      ap (λ (end : IoEnd). with_call effect.io caller.process.0 (kept_in end)) over
+      ap (λ (end : IoEnd). with_call effect.io caller.process.0 (pending_in end)) over
 
   by-step : (step : IoStep) (effect : IoEffect) → Known call caller io drives (length before) step
       → Does step caller io effect before after → effect.end ≡ fails number
@@ -215,21 +215,21 @@ number_in (CallResult.refused number) = number
 number_in (CallResult.waits m) = 0
 number_in (CallResult.ends status) = 0
 
-refused-done : (number : ℕ) (m : Inner) → CallResult.refused number ≡ CallResult.done m → ⊥
+refused-done : (number : ℕ) (m : Processes) → CallResult.refused number ≡ CallResult.done m → ⊥
 refused-done number m is = cc
 
-refused-waits : (number : ℕ) (m : Inner) → CallResult.refused number ≡ CallResult.waits m → ⊥
+refused-waits : (number : ℕ) (m : Processes) → CallResult.refused number ≡ CallResult.waits m → ⊥
 refused-waits number m is = cc
 
 pub same-refusal : (m n : ℕ) → CallResult.refused m ≡ CallResult.refused n → n ≡ m
 same-refusal m n is = sym (ap number_in is)
 
-ended-by : (number p : ℕ) (m : Inner) (effect : IoEffect) (end : IoEnd) → CallResult.refused number ≡ result_by end m p effect → end ≡ fails number
+ended-by : (number p : ℕ) (m : Processes) (effect : IoEffect) (end : IoEnd) → CallResult.refused number ≡ result_by end m p effect → end ≡ fails number
 ended-by number p m effect (answers regs) is = absurd (refused-done number _ is)
 ended-by number p m effect (fails other) is = ap fails (same-refusal number other is)
-ended-by number p m effect (keeps kept) is = absurd (refused-waits number _ is)
+ended-by number p m effect (keeps pending) is = absurd (refused-waits number _ is)
 
-pub refusal : (call : IoCall) (m : Inner) (io new : Io) (drives p number : ℕ) (before after : List TerminalState)
+pub refusal : (call : IoCall) (m : Processes) (io new : Io) (drives p number : ℕ) (before after : List TerminalState)
     → IoAttempts call m io drives p (CallResult.refused number) new before after → Comes call (caller_of m p) io
     drives number new before after
 refusal call m io new drives p number before after attempt =
@@ -257,7 +257,7 @@ other-number number (not_ready is cause) = (apart number E_NOTRDY E_EOF is (λ s
 -- what comes of it
 comes-of : (it : Refusal) → Comes it.call (caller_in it) it.io it.drives it.number it.new it.terms it.left
 comes-of it =
-    refusal it.call it.inner it.io it.new it.drives it.process it.number it.terms it.left it.attempted
+    refusal it.call it.processes it.io it.new it.drives it.process it.number it.terms it.left it.attempted
 
 end-no-fault : E_EOF ≡ E_WRITE → ⊥
 end-no-fault same = omega (arith, same)

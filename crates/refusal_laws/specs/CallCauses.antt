@@ -12,7 +12,7 @@ use Rattle.user_names.specs.UserNames.{name_at, user_cell}
 use Rattle.user_names.specs.declared.name_fault.NameFault.{NameFault}
 use Rattle.user_names.specs.declared.name_fault.NameFault.TheVariants.{NoName, Unreadable}
 use Rattle.call_rules.specs.CmpNam.{same_names}
-use Rattle.call_rules.specs.Inner.{Inner, cells_at, regs_at, user_at}
+use Rattle.call_rules.specs.Processes.{Processes, cells_at, regs_at, user_at}
 use Rattle.call_rules.specs.ModuleLinks.{Entered, found_entry, module_at}
 use Rattle.call_rules.specs.Program.{blocks_of_pages, most_pages, page_count}
 use Rattle.call_rules.specs.PrsNam.{past_slash}
@@ -64,20 +64,20 @@ pub data DeviceCause (call : IoCall) (caller : Caller) (files : Files) (terms nu
 -- ---- a call on processes and modules
 
 -- the name that F$Link and F$UnLoad read at X, and F$PrsNam after one slash, or why there is none
-abbrev pub name_read : ProcCall → Inner → ℕ → Option (Result (List ℕ) NameFault)
+abbrev pub name_read : ProcCall → Processes → ℕ → Option (Result (List ℕ) NameFault)
 name_read Call.Link m p = Some (name_at (cells_at m p) (regs_at m p).x)
 name_read Call.UnLoad m p = Some (name_at (cells_at m p) (regs_at m p).x)
 name_read Call.PrsNam m p = Some (name_at (cells_at m p) (past_slash (cells_at m p) (regs_at m p).x))
 name_read call m p = None
 
 -- F$PrsNam reads a name, and there is no byte after it
-pub record EndsAtGap (m : Inner) (p : ℕ) : Type 0 where
+pub record EndsAtGap (m : Processes) (p : ℕ) : Type 0 where
   pub name : List ℕ
   pub read : name_at (cells_at m p) (past_slash (cells_at m p) (regs_at m p).x) ≡ Ok name
   pub missing : user_cell (cells_at m p) (past_slash (cells_at m p) (regs_at m p).x + length name) ≡ None
 
 -- 210: a byte that the call reads is in no named slot or past FFFF
-abbrev pub MissesByte : ProcCall → Inner → ℕ → Type 0
+abbrev pub MissesByte : ProcCall → Processes → ℕ → Type 0
 MissesByte Call.PrsNam m p = (name_read Call.PrsNam m p ≡ Some (Err Unreadable)) ⊎ EndsAtGap m p
 MissesByte Call.CmpNam m p = same_names (cells_at m p) (regs_at m p).x (regs_at m p).y (regs_at m p).b ≡ None
 MissesByte Call.Crc m p =
@@ -86,44 +86,44 @@ MissesByte Call.Crc m p =
 MissesByte call m p = name_read call m p ≡ Some (Err Unreadable)
 
 -- 235: the bytes at the address are not a name, or the names that F$CmpNam compares differ
-abbrev pub HasBadName : ProcCall → Inner → ℕ → Type 0
+abbrev pub HasBadName : ProcCall → Processes → ℕ → Type 0
 HasBadName Call.CmpNam m p = same_names (cells_at m p) (regs_at m p).x (regs_at m p).y (regs_at m p).b ≡ Some false
 HasBadName call m p = name_read call m p ≡ Some (Err NoName)
 
 -- the call finds this module, or none, by the name that it reads and the type and language in A
-pub record Finds (call : ProcCall) (m : Inner) (p : ℕ) (found : Option Entered) : Type 0 where
+pub record Finds (call : ProcCall) (m : Processes) (p : ℕ) (found : Option Entered) : Type 0 where
   pub by_name : (call ≡ Call.Link) ⊎ (call ≡ Call.UnLoad)
   pub name : List ℕ
   pub read : name_read call m p ≡ Some (Ok name)
   pub is : found_entry m.memory.modules name (regs_at m p).a ≡ found
 
 -- 221: no module has the name, or none is at the address in U
-abbrev pub FindsNoModule : ProcCall → Inner → ℕ → Type 0
+abbrev pub FindsNoModule : ProcCall → Processes → ℕ → Type 0
 FindsNoModule Call.UnLink m p = module_at m.memory.modules (map_at m.memory p) (regs_at m p).u ≡ None
 FindsNoModule call m p = Finds call m p None
 
 -- the number of blocks that F$Mem asks for, and the number beyond those of the data area
-abbrev pub blocks_asked : Inner → ℕ → ℕ
+abbrev pub blocks_asked : Processes → ℕ → ℕ
 blocks_asked m p = blocks_of_pages (page_count (d_of (regs_at m p)))
 
-abbrev pub blocks_more : Inner → ℕ → ℕ
+abbrev pub blocks_more : Processes → ℕ → ℕ
 blocks_more m p = blocks_asked m p - (map_at m.memory p).low
 
 -- 207 of F$Mem: a data area has no more pages, or a slot after it is named or there are too few
-abbrev pub HasNoSlots : Inner → ℕ → Type 0
+abbrev pub HasNoSlots : Processes → ℕ → Type 0
 HasNoSlots m p =
     (most_pages < page_count (d_of (regs_at m p)))
     ⊎ (is_free_run (map_at m.memory p) (map_at m.memory p).low (blocks_more m p) ≡ false)
 
 -- an entered module is linked and started like the first one of a file that is in memory
-abbrev pub in_memory : Inner → Entered → Loaded
+abbrev pub in_memory : Processes → Entered → Loaded
 in_memory m found = record { first = found; memory = m.memory }
 
 abbrev pub no_file : ProgramFile
 no_file = record { bytes = []; next = 0 }
 
 -- the process that begins: a new one of F$Fork, if there is a number for it, or the caller of F$Chain
-abbrev pub begins : ProcCall → Inner → ℕ → Option ℕ
+abbrev pub begins : ProcCall → Processes → ℕ → Option ℕ
 begins Call.Fork m p = free_process m.records
 begins Call.Chain m p = Some p
 begins call m p = None
@@ -135,7 +135,7 @@ starts_program Call.Chain = true
 starts_program call = false
 
 -- why a call is refused, by the number; F$Fork and F$Chain if their registers name an entered module
-pub data ProcCause (m : Inner) (p : ℕ) (call : ProcCall) (number : ℕ) : Type 0 where
+pub data ProcCause (m : Processes) (p : ℕ) (call : ProcCall) (number : ℕ) : Type 0 where
   bad_address : number ≡ E_BPADDR → MissesByte call m p → ProcCause m p call number
   bad_name : number ≡ E_BNAM → HasBadName call m p → ProcCause m p call number
   no_module : number ≡ E_MNF → FindsNoModule call m p → ProcCause m p call number
@@ -163,7 +163,7 @@ pub data ProcCause (m : Inner) (p : ℕ) (call : ProcCall) (number : ℕ) : Type
 
 -- ---- a call on the time
 
-pub data TimeCause (m : Inner) (p : ℕ) (call : TimeCall) (number : ℕ) : Type 0 where
+pub data TimeCause (m : Processes) (p : ℕ) (call : TimeCall) (number : ℕ) : Type 0 where
   no_packet : number ≡ E_BPADDR → user_bytes (cells_at m p) (regs_at m p).x PACKET_BYTES ≡ None
       → TimeCause m p call number
   no_time : (bytes : List ℕ) → number ≡ E_BADTIME → call ≡ Time.STime

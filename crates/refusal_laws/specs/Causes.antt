@@ -16,7 +16,7 @@ use Rattle.io_model.specs.declared.path.Target.{Target}
 use Rattle.io_model.specs.declared.path.Target.TheVariants.{File, Folder}
 use Rattle.io_rules.specs.Again.{path_number}
 use Rattle.io_rules.specs.Codes.{direction_of_call}
-use Rattle.io_rules.specs.Io.{Io, OpenPath, kept_at, open_path}
+use Rattle.io_rules.specs.Io.{Io, OpenPath, pending_at, open_path}
 use Rattle.io_rules.specs.Lead.{Search, what_is_there, a_new_place, makes_dots}
 use Rattle.io_rules.specs.Modes.{can_read, can_write, is_mode}
 use Rattle.io_rules.specs.PathList.{PathList, has_slash_behind_device, path_list}
@@ -68,10 +68,10 @@ pub record GoesOnTo (caller : Caller) (at : ℕ) : Type 0 where
   pub behind : caller.regs.x ≤ at
   pub bytes : (k : ℕ) → caller.regs.x ≤ k → k < at → IsOfList (user_cell caller.cells k)
 
--- the number of bytes that a read or a write asks for, or the longest line: from what is kept of it, or from Y at its
+-- the number of bytes that a read or a write asks for, or the longest line: that of the pending call, or Y at its
 -- first attempt
 abbrev pub asked_by : Caller → Io → ℕ
-asked_by caller io = option_map_or (λ kept. kept.count) (kept_at io caller.process.0) caller.regs.y
+asked_by caller io = option_map_or (λ pending. pending.count) (pending_at io caller.process.0) caller.regs.y
 
 -- ---- the cause of each number
 
@@ -142,7 +142,7 @@ IsUnreadable Call.Read caller io = HasGap caller.cells caller.regs.x caller.regs
 IsUnreadable Call.ReadLn caller io = HasGap caller.cells caller.regs.x caller.regs.y
 IsUnreadable Call.Write caller io = HasGap caller.cells caller.regs.x caller.regs.y
 IsUnreadable Call.WritLn caller io =
-    HasGap caller.cells caller.regs.x (asked_by caller io) × (line_bytes caller (kept_at io caller.process.0) ≡ None)
+    HasGap caller.cells caller.regs.x (asked_by caller io) × (line_bytes caller (pending_at io caller.process.0) ≡ None)
 IsUnreadable Call.GetStt caller io =
     (caller.regs.b ≡ SS_OPT) × HasGap caller.cells caller.regs.x OPTION_BYTES
 IsUnreadable call caller io = ⊥

@@ -9,7 +9,7 @@ use Rattle.proc_rules.specs.Records.{IsLiving, record_at, record_of}
 use Rattle.proc_rules.specs.declared.record.Life.TheVariants.{Running}
 use Rattle.call_rules.specs.Attempts.{refused_regs}
 use Rattle.call_rules.specs.CallResult.{refused}
-use Rattle.call_rules.specs.Inner.{Inner, own_at, regs_at}
+use Rattle.call_rules.specs.Processes.{Processes, own_at, regs_at}
 use Rattle.call_rules.specs.UserBytes.{user_bytes}
 use Rattle.io_model.specs.Line.{line_put}
 use Rattle.io_model.specs.Pipe.{IsPipe, pipe_room}
@@ -23,7 +23,7 @@ use Rattle.io_model.specs.declared.terminal.Reading.{Reading}
 use Rattle.io_model.specs.declared.terminal.TheConstants.{TYPE_AHEAD}
 use Rattle.io_rules.specs.Again.{IsAgain}
 use Rattle.io_rules.specs.Alone.{is_alone}
-use Rattle.io_rules.specs.Io.{Io, OpenPath, kept_at, pipe_bytes, terminal_at, with_call, with_pipe_bytes, with_terminal}
+use Rattle.io_rules.specs.Io.{Io, OpenPath, pending_at, pipe_bytes, terminal_at, with_call, with_pipe_bytes, with_terminal}
 use Rattle.io_rules.specs.Step.{Caller}
 use Rattle.io_rules.specs.Write.{error_line, line_bytes}
 use Rattle.io_rules.specs.Attempts.{IoAttempts, caller_of}
@@ -37,7 +37,7 @@ use Rattle.refusal_laws.specs.Causes.{IsOn, StatedCause, asked_by}
 
 -- memory is unchanged, and so are the bytes that each process sees and everything else of the processes, except B and
 -- the condition codes of the caller, which does not wait any more, and whose call is over
-pub record LeavesProcesses (m : Inner) (p number : ℕ) (n : Inner) : Type 0 where
+pub record LeavesProcesses (m : Processes) (p number : ℕ) (n : Processes) : Type 0 where
   pub memory : n.memory ≡ m.memory
   pub order : n.order ≡ m.order
   pub tick : n.tick ≡ m.tick
@@ -49,13 +49,13 @@ pub record LeavesProcesses (m : Inner) (p number : ℕ) (n : Inner) : Type 0 whe
 
 -- ---- input and output
 
--- input and output are unchanged, except what is kept of the call of the process, which is removed; the terminals are
+-- input and output are unchanged, except the pending call of the process, which is removed; the terminals are
 -- unchanged
 pub record ChangesNothing (p : ℕ) (io new : Io) (before after : List TerminalState) : Type 0 where
   pub now : new ≡ with_call io p None
   pub same : after ≡ before
 
--- the state with this terminal, or with these bytes in a pipe, and nothing kept of a call
+-- the state with this terminal, or with these bytes in a pipe, and without a pending call
 abbrev pub on_terminal : Io → ℕ → Terminal → ℕ → Io
 on_terminal io n terminal p = with_call (with_terminal io n terminal) p None
 
@@ -66,11 +66,11 @@ on_pipe io n bytes p = with_call (with_pipe_bytes io n bytes) p None
 
 -- the number of bytes that earlier attempts of a call have moved
 abbrev pub moved_before : Caller → Io → ℕ
-moved_before caller io = option_map_or (λ kept. kept.moved) (kept_at io caller.process.0) 0
+moved_before caller io = option_map_or (λ pending. pending.moved) (pending_at io caller.process.0) 0
 
 -- the path on which a pending call was made, or a new one is made
 abbrev pub path_of : Caller → Io → OpenPath → SysPath
-path_of caller io opened = option_map_or (λ kept. kept.path) (kept_at io caller.process.0) opened.path
+path_of caller io opened = option_map_or (λ pending. pending.path) (pending_at io caller.process.0) opened.path
 
 -- the kind of a read
 abbrev pub kind_of : IoCall → Option ReadKind
@@ -144,7 +144,7 @@ pub record EchoFails (call : IoCall) (caller : Caller) (io new : Io) (before aft
 -- the bytes that a write sends in all
 abbrev pub sent_by : IoCall → Caller → Io → Option (List ℕ)
 sent_by Call.Write caller io = user_bytes caller.cells caller.regs.x caller.regs.y
-sent_by Call.WritLn caller io = line_bytes caller (kept_at io caller.process.0)
+sent_by Call.WritLn caller io = line_bytes caller (pending_at io caller.process.0)
 sent_by Call.PErr caller io = Some (error_line caller.regs.b)
 sent_by call caller io = None
 
@@ -176,7 +176,7 @@ held_then caller io pipe bytes =
     pipe_bytes io pipe ++ take (pipe_room (pipe_bytes io pipe)) (left_of caller io bytes)
 
 -- 245 of a pipe: nobody else could end a wait of the caller. The bytes for which there was room are in the pipe, and if
--- what is kept of the call is of it, the pipe is full.
+-- the pending call is of it, the pipe is full.
 pub record FindsNoReader (call : IoCall) (caller : Caller) (io new : Io) (before after : List TerminalState)
     : Type 0 where
   pub pipe : ℕ
@@ -206,18 +206,18 @@ LeftAtFault call caller io new before after =
 pub record Refusal : Type 0 where
   pub call : IoCall
   pub process : ℕ
-  pub inner : Inner  -- the processes
+  pub processes : Processes
   pub io : Io
   pub drives : ℕ
   pub terms : List TerminalState
   pub number : ℕ
   pub new : Io  -- input and output then
   pub left : List TerminalState  -- the terminals then
-  pub attempted : IoAttempts call inner io drives process (refused number) new terms left
+  pub attempted : IoAttempts call processes io drives process (refused number) new terms left
 
 -- the calling process
 abbrev pub caller_in : Refusal → Caller
-caller_in it = caller_of it.inner it.process
+caller_in it = caller_of it.processes it.process
 
 -- nothing has changed
 abbrev pub KeepsAll : Refusal → Type 0

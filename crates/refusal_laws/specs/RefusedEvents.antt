@@ -5,7 +5,7 @@ use Rattle.os9_base.specs.declared.registers.TimePacket.{TimePacket}
 use Rattle.proc_rules.specs.Records.{IsLiving}
 use Rattle.call_rules.specs.Attempts.{after_attempt, attempted}
 use Rattle.call_rules.specs.CallResult.{refused}
-use Rattle.call_rules.specs.Inner.{regs_at}
+use Rattle.call_rules.specs.Processes.{regs_at}
 use Rattle.call_rules.specs.Ready.{attempts, act_of}
 use Rattle.call_rules.specs.declared.proc_call.ProcCall.{ProcCall}
 use Rattle.call_rules.specs.declared.proc_call.ProcCall.TheVariants as Call
@@ -36,21 +36,21 @@ use Rattle.refusal_laws.specs.CallCauses.{DeviceCause, ProcCause, TimeCause, sta
 pub record IsRefused (s : State) (code number : ℕ) (t : State) : Type 0 where
   pub process : ℕ
   pub chosen : s.chosen ≡ Some process
-  pub lives : IsLiving s.inner.records process
-  pub attempted : act_of s.inner process ≡ attempts code
+  pub lives : IsLiving s.processes.records process
+  pub attempted : act_of s.processes process ≡ attempts code
   pub attempt : Attempts code s process (refused number) (rest_of t)
-  pub now : t ≡ with_rest s (after_attempt s.inner process (refused number)) (rest_of t)
+  pub now : t ≡ with_rest s (after_attempt s.processes process (refused number)) (rest_of t)
 
 -- ---- a call on a terminal or a pipe
 
 -- what is left of terminals, pipes and paths
 pub data LeftOnDevice (s : State) (p : ℕ) (call : IoCall) (number : ℕ) (t : State) : Type 0 where
-  -- everything but what is kept of the call, which is removed
-  but_the_call : DeviceCause call (caller_of s.inner p) s.files (length s.terms) number
+  -- everything but the pending call, which is removed
+  but_the_call : DeviceCause call (caller_of s.processes p) s.files (length s.terms) number
       → ChangesNothing p s.files.io t.files.io s.terms t.terms → LeftOnDevice s p call number t
-  end_of_file : number ≡ E_EOF → LeftAtEnd call (caller_of s.inner p) s.files.io t.files.io s.terms t.terms
+  end_of_file : number ≡ E_EOF → LeftAtEnd call (caller_of s.processes p) s.files.io t.files.io s.terms t.terms
       → LeftOnDevice s p call number t
-  write_error : number ≡ E_WRITE → LeftAtFault call (caller_of s.inner p) s.files.io t.files.io s.terms t.terms
+  write_error : number ≡ E_WRITE → LeftAtFault call (caller_of s.processes p) s.files.io t.files.io s.terms t.terms
       → LeftOnDevice s p call number t
 
 -- the call is one on terminals and pipes, and not on a file: everything else is unchanged, and no drive fails
@@ -58,9 +58,9 @@ pub record RefusedOnDevice (s : State) (p : ℕ) (now : TimePacket) (call : Path
     : Type 0 where
   pub device : IoCall
   pub device_is : device_call call ≡ Some device
-  pub on : IsOnNoFile call (asker_of s.inner p now) s.files (length s.terms)
+  pub on : IsOnNoFile call (asker_of s.processes p now) s.files (length s.terms)
   pub left : LeftOnDevice s p device number t
-  pub locks : LocksStay call s.files p (regs_at s.inner p).a t.files.records
+  pub locks : LocksStay call s.files p (regs_at s.processes p).a t.files.records
   pub directories : t.files.directories ≡ s.files.directories
   pub volumes : t.files.volumes ≡ s.files.volumes
   pub none_failed : NoneFailed s.files.drives t.files.drives
@@ -72,14 +72,14 @@ pub record RefusedOnDevice (s : State) (p : ℕ) (now : TimePacket) (call : Path
 abbrev pub made_by : State → ℕ → TimePacket → PathCall → Made
 made_by s p now call = record {
   call = call;
-  asker = asker_of s.inner p now;
+  asker = asker_of s.processes p now;
   files = s.files;
   terms = length s.terms;
 }
 
 -- what an attempt of it does
 abbrev pub step_of : State → ℕ → TimePacket → PathCall → FileStep
-step_of s p now call = file_step call (asker_of s.inner p now) s.files (length s.terms)
+step_of s p now call = file_step call (asker_of s.processes p now) s.files (length s.terms)
 
 -- the drive that the call reached has failed, and no other one, and the number is that of its fault. What is left of
 -- its volume is what the definition of the call lets a fault leave; the other volumes are unchanged
@@ -91,13 +91,13 @@ pub record FailsOnDrive (s : State) (p : ℕ) (now : TimePacket) (call : PathCal
   pub old : DiskVolume
   pub was : volume_at s.files drive ≡ Some old
   pub left : DiskVolume
-  pub may_be : MayBeLeft (deed_of (step_of s p now call) s.files) (asker_of s.inner p now) old left
+  pub may_be : MayBeLeft (deed_of (step_of s p now call) s.files) (asker_of s.processes p now) old left
   pub volumes : t.files.volumes ≡ (with_volume s.files drive left).volumes
   pub mounted : volume_at t.files drive ≡ Some left
   pub others : (other : ℕ) → other ≢ drive → volume_at t.files other ≡ volume_at s.files other
 
 -- the call is on a file or a directory, or on nothing: everything is unchanged, record locks and their history too, but
--- what is kept of a call and its request, which are removed. The volumes are unchanged, and the number has its cause;
+-- a pending call and its request, which are removed. The volumes are unchanged, and the number has its cause;
 -- or the drive that it reached has failed. A call that changes no volume leaves them unchanged even then
 pub record RefusedOnFile (s : State) (p : ℕ) (now : TimePacket) (call : PathCall) (number : ℕ) (t : State)
     : Type 0 where
@@ -122,7 +122,7 @@ pub record RefusedLoad (s : State) (p : ℕ) (now : TimePacket) (test : Step Pro
   pub records : t.files.records ≡ s.files.records
   pub terminals : t.terms ≡ s.terms
   pub clock : t.clock ≡ s.clock
-  pub why : FaultAnswers (drive_of (program_file (asker_of s.inner p now) s.files (length s.terms) test)) s.files
+  pub why : FaultAnswers (drive_of (program_file (asker_of s.processes p now) s.files (length s.terms) test)) s.files
       (refused number) t.files
       ⊎ NoneFailed s.files.drives t.files.drives × Cause
 
@@ -132,25 +132,25 @@ pub record RefusedLoad (s : State) (p : ℕ) (now : TimePacket) (test : Step Pro
 pub data LeavesRest (s : State) (p : ℕ) (now : TimePacket) (code number : ℕ) (t : State) : Type 0 where
   -- a call on processes and modules, also F$Fork and F$Chain of an entered module: all
   of_processes : (call : ProcCall) → service_of code ≡ on_processes call
-      → (starts_program call ≡ true → IsSome (named_program s.inner p))
-      → attempted call s.inner p ≡ refused number → ProcCause s.inner p call number → rest_of t ≡ rest_of s
+      → (starts_program call ≡ true → IsSome (named_program s.processes p))
+      → attempted call s.processes p ≡ refused number → ProcCause s.processes p call number → rest_of t ≡ rest_of s
       → LeavesRest s p now code number t
-  of_time : (call : TimeCall) → service_of code ≡ on_time call → TimeCause s.inner p call number
+  of_time : (call : TimeCall) → service_of code ≡ on_time call → TimeCause s.processes p call number
       → rest_of t ≡ rest_of s → LeavesRest s p now code number t
   -- an unknown code: all
   of_no_call : service_of code ≡ no_call → number ≡ E_UNKSVC → rest_of t ≡ rest_of s → LeavesRest s p now code number t
   -- F$Load, and F$Fork and F$Chain of a file
   of_load : service_of code ≡ loads
       → RefusedLoad s p now (λ step. step)
-      (LoadCause s.inner (asker_of s.inner p now) s.files (length s.terms) p number) number t
+      (LoadCause s.processes (asker_of s.processes p now) s.files (length s.terms) p number) number t
       → LeavesRest s p now code number t
-  of_fork : service_of code ≡ on_processes Call.Fork → named_program s.inner p ≡ None
-      → RefusedLoad s p now (tests_program s.inner p)
-      (ForkCause s.inner (asker_of s.inner p now) s.files (length s.terms) p number) number t
+  of_fork : service_of code ≡ on_processes Call.Fork → named_program s.processes p ≡ None
+      → RefusedLoad s p now (tests_program s.processes p)
+      (ForkCause s.processes (asker_of s.processes p now) s.files (length s.terms) p number) number t
       → LeavesRest s p now code number t
-  of_chain : service_of code ≡ on_processes Call.Chain → named_program s.inner p ≡ None
-      → RefusedLoad s p now (tests_program s.inner p)
-      (ChainCause s.inner (asker_of s.inner p now) s.files (length s.terms) p number) number t
+  of_chain : service_of code ≡ on_processes Call.Chain → named_program s.processes p ≡ None
+      → RefusedLoad s p now (tests_program s.processes p)
+      (ChainCause s.processes (asker_of s.processes p now) s.files (length s.terms) p number) number t
       → LeavesRest s p now code number t
   -- a call on paths, files and directories
   on_device : (call : PathCall) → service_of code ≡ on_paths call → RefusedOnDevice s p now call number t
@@ -160,8 +160,8 @@ pub data LeavesRest (s : State) (p : ℕ) (now : TimePacket) (code number : ℕ)
 
 -- what it leaves of the machine
 pub record LeavesMachine (s : State) (p code number : ℕ) (t : State) : Type 0 where
-  pub processes : LeavesProcesses s.inner p number t.inner
+  pub processes : LeavesProcesses s.processes p number t.processes
   pub now : TimePacket
-  pub is_now : IsNow s.clock s.inner.tick now
+  pub is_now : IsNow s.clock s.processes.tick now
   pub rest : LeavesRest s p now code number t
   pub chosen : t.chosen ≡ s.chosen

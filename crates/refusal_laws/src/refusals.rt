@@ -5,7 +5,7 @@ ghost use Rattle.std.specs.Prelude.{◌≡◌, ◌≢◌, ℕ};
 ghost use Rattle.os9_base.specs.declared.errors.TheConstants.{E_EOF, E_WRITE};
 ghost use Rattle.call_rules.specs.Attempts.{after_attempt};
 ghost use Rattle.call_rules.specs.CallResult.{refused};
-ghost use Rattle.call_rules.specs.Inner.{Inner};
+ghost use Rattle.call_rules.specs.Processes.{Processes};
 ghost use Rattle.io_rules.specs.Step.{Caller};
 ghost use Rattle.io_rules.specs.declared.io_call.IoCall.{IoCall};
 ghost use Rattle.file_laws.specs.Kinds.{AreKinds};
@@ -19,13 +19,13 @@ ghost use Rattle.refusal_laws.specs.Refusals.{HasCause, KeepsAll, LeavesAtEnd, L
 
 /// A refused call leaves memory and the processes unchanged, except B and the condition codes of
 /// the caller, whose call is over. A refused call on paths also leaves input and output and the
-/// terminals unchanged, except what is kept of the call, which is removed. There are four
+/// terminals unchanged, except the pending call, which is removed. There are four
 /// exceptions, each exactly as in its definition. After 211 of a terminal the keys up to and
 /// including `1B` are used; after 245 of a read of a terminal those up to the one whose echo
 /// failed; after 245 of a write to a terminal a part of its bytes is out, and the unfinished read
 /// there is dropped; after 245 of a pipe the moved bytes stay there.
 pub fn refusals_change_nothing()
-    ensures processes { (m : Inner) (p number : ℕ)
+    ensures processes { (m : Processes) (p number : ℕ)
         → LeavesProcesses m p number (after_attempt m p (refused number)) }
     ensures input_and_output { (it : Refusal) → it.number ≢ E_EOF → it.number ≢ E_WRITE
         → KeepsAll it }

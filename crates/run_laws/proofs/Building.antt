@@ -7,7 +7,7 @@ use Rattle.proc_rules.specs.Records.{IsLiving, is_living}
 use Rattle.proc_rules.specs.Turns.{IsToChoose}
 use Rattle.proc_rules.proofs.EldestLaws.{chosen_if}
 use Rattle.call_rules.specs.Choice.{after_choice, choice_of}
-use Rattle.call_rules.specs.Inner.{Inner}
+use Rattle.call_rules.specs.Processes.{Processes}
 use Rattle.call_rules.specs.Ready.{Act, act_of, attempts, delivers, executes, is_ready}
 use Rattle.file_rules.specs.Locking.{files_may_go}
 use Rattle.event_rules.specs.Console.{console_bytes, terminals_emptied}
@@ -31,13 +31,13 @@ pub record Next (Still : State → State → Type 0) (s : State) (p : ℕ) : Typ
   pub last : State
   pub event : Event s end last
   pub chosen : last.chosen ≡ s.chosen
-  pub goes : is_going end ≡ true → GoesOn s.inner p last.inner
+  pub goes : is_going end ≡ true → GoesOn s.processes p last.processes
   pub counts : SameCounts s last
   pub still : Still s last
 
 -- each state of a run that is built is Good, and has Still to each later one
 pub record Builds (Good : State → Type 0) (Still : State → State → Type 0) : Type 0 where
-  pub next : (s : State) (p : ℕ) → Good s → s.chosen ≡ Some p → IsLiving s.inner.records p → Next Still s p
+  pub next : (s : State) (p : ℕ) → Good s → s.chosen ≡ Some p → IsLiving s.processes.records p → Next Still s p
   pub event : (s t : State) (end : EventEnd) → Event s end t → Good s → Good t
   pub tick : (s t : State) → Tick s t → Good s → Good t
   pub choice : (s t : State) → Choose s t → Good s → Good t
@@ -50,7 +50,7 @@ pub record Builds (Good : State → Type 0) (Still : State → State → Type 0)
 
 -- ---- an instruction comes nearer
 
-cost-is : (s : State) (p : ℕ) → s.chosen ≡ Some p → cost s ≡ cost_of (act_of s.inner p)
+cost-is : (s : State) (p : ℕ) → s.chosen ≡ Some p → cost s ≡ cost_of (act_of s.processes p)
 cost-is s p chosen = rw chosen refl
 
 rank-most : (act : Act) → rank act ≤ 2
@@ -59,16 +59,17 @@ rank-most (delivers signal) = omega arith
 rank-most executes = omega arith
 
 -- what is left of instructions, and of what may come before the next one, becomes less
-nearer-end : (left : ℕ) (s : State) (p : ℕ) (t : State) → s.chosen ≡ Some p → 0 < left → GoesOn s.inner p t.inner → 3 * (left - cost s) + rank (act_of t.inner p) < 3 * left + rank (act_of s.inner p)
+nearer-end : (left : ℕ) (s : State) (p : ℕ) (t : State) → s.chosen ≡ Some p → 0 < left → GoesOn s.processes p t.processes
+    → 3 * (left - cost s) + rank (act_of t.processes p) < 3 * left + rank (act_of s.processes p)
 nearer-end left s p t chosen some goes =
-    let most : rank (act_of t.inner p) ≤ 2 = rank-most (act_of t.inner p) in
+    let most : rank (act_of t.processes p) ≤ 2 = rank-most (act_of t.processes p) in
     elim (goes.nearer) [
       | inl next ↦ (let one : cost s ≡ 1 = cost-is s p chosen ∙ ap cost_of next in omega arith)
       | inr less ↦ omega arith
     ]
 
 -- who is chosen lives
-chosen-lives : (io : ℕ → Bool) (m : Inner) (pid : Pid) → (choice_of io m).chosen ≡ Some pid → IsLiving m.records pid.0
+chosen-lives : (io : ℕ → Bool) (m : Processes) (pid : Pid) → (choice_of io m).chosen ≡ Some pid → IsLiving m.records pid.0
 chosen-lives io m pid is =
     let choice : IsToChoose (is_ready io m) m.order pid = subst (λ chosen. IfSome chosen (IsToChoose (is_ready io m) m.order)) is (chosen_if (is_ready io m) m.order) in
     first-true (is_living m.records pid.0) _ choice.ready
@@ -79,8 +80,8 @@ chosen-lives io m pid is =
 
 abbrev begun : State → State
 begun s = record s {
-  inner = after_choice (files_may_go s.files s.inner.tick) s.inner;
-  chosen = option_map (λ (p : Pid). p.0) (choice_of (files_may_go s.files s.inner.tick) s.inner).chosen;
+  processes = after_choice (files_may_go s.files s.processes.tick) s.processes;
+  chosen = option_map (λ (p : Pid). p.0) (choice_of (files_may_go s.files s.processes.tick) s.processes).chosen;
 }
 
 -- the events of a slice, where this process is chosen or none is
@@ -113,7 +114,7 @@ module _ (Good : State → Type 0) (Still : State → State → Type 0) (builds 
     pub still : Still s last
 
   steps-by : (left : ℕ) (s : State) (p : ℕ) (next : Next Still s p) → Good next.last → 0 < left → (going : Bool) → is_going next.end ≡ going
-      → (GoesOn s.inner p next.last.inner → SomeSteps (left - cost s) next.last) → SomeSteps left s
+      → (GoesOn s.processes p next.last.processes → SomeSteps (left - cost s) next.last) → SomeSteps left s
   steps-by left s p next good some true is rest_of =
       let rest : SomeSteps (left - cost s) next.last = rest_of (next.goes is) in
       record {
@@ -143,14 +144,14 @@ module _ (Good : State → Type 0) (Still : State → State → Type 0) (builds 
     still = next.still;
   }
 
-  steps-end : (most left : ℕ) (s : State) (p : ℕ) → 3 * left + rank (act_of s.inner p) < most → s.chosen ≡ Some p → IsLiving s.inner.records p → Good s → SomeSteps left s
+  steps-end : (most left : ℕ) (s : State) (p : ℕ) → 3 * left + rank (act_of s.processes p) < most → s.chosen ≡ Some p → IsLiving s.processes.records p → Good s → SomeSteps left s
   steps-end zero left s p less chosen lives good = absurd (omega arith)
   steps-end (suc most) zero s p less chosen lives good =
       record { states = []; last = s; steps = (refl, refl); good = good; counts = refl; still = builds.same s }
   steps-end (suc most) (suc left) s p less chosen lives good =
       let next : Next Still s p = builds.next s p good chosen lives in
       steps-by (suc left) s p next (builds.event s next.last next.end next.event good) (omega arith) (is_going next.end) refl
-      (λ (goes : GoesOn s.inner p next.last.inner). steps-end most (suc left - cost s) next.last p (let nearer =
+      (λ (goes : GoesOn s.processes p next.last.processes). steps-end most (suc left - cost s) next.last p (let nearer =
       nearer-end (suc left) s p next.last chosen (omega arith) goes in omega arith) (next.chosen ∙ chosen) goes.lives (builds.event s next.last next.end next.event good))
 
   pub record SomeSlice (n : ℕ) (s : State) : Type 0 where
@@ -169,7 +170,7 @@ module _ (Good : State → Type 0) (Still : State → State → Type 0) (builds 
       still-begun it =
           builds.then s it.last (begun it.last) (builds.ticked s it.last it.tick) (builds.chose it.last (begun it.last) refl)
 
-      by_chosen : (it : SomeTick s) → Good (begun it.last) → (chosen : Option Pid) → (choice_of (files_may_go it.last.files it.last.inner.tick) it.last.inner).chosen ≡ chosen → SomeSlice n s
+      by_chosen : (it : SomeTick s) → Good (begun it.last) → (chosen : Option Pid) → (choice_of (files_may_go it.last.files it.last.processes.tick) it.last.processes).chosen ≡ chosen → SomeSlice n s
       by_chosen it good None is = record {
         states = [];
         end = SliceEnd.Idle;
@@ -187,8 +188,8 @@ module _ (Good : State → Type 0) (Still : State → State → Type 0) (builds 
       }
       by_chosen it good (Some pid) is =
           let who : (begun it.last).chosen ≡ Some pid.0 = ap (option_map (λ (p : Pid). p.0)) is in
-          let ending : SomeSteps n (begun it.last) = steps-end (3 * n + rank (act_of (begun it.last).inner pid.0) + 1) n (begun it.last) pid.0 (omega arith) who
-          (chosen-lives (files_may_go it.last.files it.last.inner.tick) it.last.inner pid is) good in
+          let ending : SomeSteps n (begun it.last) = steps-end (3 * n + rank (act_of (begun it.last).processes pid.0) + 1) n (begun it.last) pid.0 (omega arith) who
+          (chosen-lives (files_may_go it.last.files it.last.processes.tick) it.last.processes pid is) good in
           record {
             states = ending.states;
             end = SliceEnd.Ran;
@@ -207,7 +208,7 @@ module _ (Good : State → Type 0) (Still : State → State → Type 0) (builds 
 
       by_tick : SomeTick s → SomeSlice n s
       by_tick it =
-          by_chosen it (builds.choice it.last (begun it.last) refl (builds.tick s it.last it.tick good)) (choice_of (files_may_go it.last.files it.last.inner.tick) it.last.inner).chosen refl
+          by_chosen it (builds.choice it.last (begun it.last) refl (builds.tick s it.last it.tick good)) (choice_of (files_may_go it.last.files it.last.processes.tick) it.last.processes).chosen refl
 
   -- ---- a run
 

@@ -14,7 +14,7 @@ use Rattle.call_rules.specs.Attempts.{attempted}
 use Rattle.call_rules.specs.CallResult.{CallResult, done, ends, refused, waits}
 use Rattle.call_rules.specs.Chain.{f_chain}
 use Rattle.call_rules.specs.Fork.{f_fork}
-use Rattle.call_rules.specs.Inner.{Inner}
+use Rattle.call_rules.specs.Processes.{Processes}
 use Rattle.call_rules.specs.ModuleLinks.{Entered}
 use Rattle.call_rules.specs.Program.{Program}
 use Rattle.call_rules.specs.declared.proc_call.ProcCall.TheVariants as Call
@@ -40,11 +40,11 @@ use Rattle.run_laws.proofs.Ends.{Ends, IsMaking, Making, step-ends}
 -- ---- files that are loaded
 
 -- a call that goes on with the file in memory
-record SomeLoaded (m : Inner) (reading : Result ProgramFile ℕ) (next : ProgramFile → Loaded → CallResult) : Type 0 where
+record SomeLoaded (m : Processes) (reading : Result ProgramFile ℕ) (next : ProgramFile → Loaded → CallResult) : Type 0 where
   pub result : CallResult
   pub goes : GoesOnLoaded m reading next result
 
-some-loaded : (m : Inner) (reading : Result ProgramFile ℕ) (next : ProgramFile → Loaded → CallResult) → SomeLoaded m reading next
+some-loaded : (m : Processes) (reading : Result ProgramFile ℕ) (next : ProgramFile → Loaded → CallResult) → SomeLoaded m reading next
 some-loaded m (Err number) next = record { result = refused number; goes = refl }
 some-loaded m (Ok file) next =
     let it = Enters-some file.bytes (new_numbers m.memory (file_blocks file.bytes)) false 0 m.memory.modules in
@@ -61,7 +61,7 @@ some-loaded m (Ok file) next =
 reads-so : (step : Step ProgramFile) (files : Files) → ReadsProgram step (reading_of step) files files
 reads-so step files = record { drives = files.drives; outcome = inl (refl, refl); state = refl }
 
-module _ (m : Inner) (asker : Asker) (files : Files) (terms p : ℕ) where
+module _ (m : Processes) (asker : Asker) (files : Files) (terms p : ℕ) where
   record SomeLoad (Attempt : CallResult → Files → Type 0) : Type 0 where
     pub result : CallResult
     pub new : Files
@@ -74,7 +74,7 @@ module _ (m : Inner) (asker : Asker) (files : Files) (terms p : ℕ) where
       let it = some-loaded m (reading_of step) (links_first m p) in
       record { result = it.result; new = files; attempt = record { reading = reading_of step; reads = reads-so step files; comes = it.goes }; drives = refl }
 
-  some-start : (start : Inner → ℕ → Program → CallResult) → SomeLoad (StartsFile start m asker files terms p)
+  some-start : (start : Processes → ℕ → Program → CallResult) → SomeLoad (StartsFile start m asker files terms p)
   some-start start =
       let step = program_file asker files terms (tests_program m p) in
       let it = some-loaded m (reading_of step) (starts_first start m p) in
@@ -152,7 +152,7 @@ module _ (s : State) (p : ℕ) (can : CanGo s) where
 
   some-service : (service : Service) (now : TimePacket) → SomeService service now
   some-service loads now =
-      let it = some-load s.inner (asker_of s.inner p now) s.files (length s.terms) p in
+      let it = some-load s.processes (asker_of s.processes p now) s.files (length s.terms) p in
       record {
         result = it.result;
         rest = with_files s it.new;
@@ -161,7 +161,7 @@ module _ (s : State) (p : ℕ) (can : CanGo s) where
         stays = inl (same-drives s.files.drives it.new.drives it.drives);
       }
   some-service (on_processes Call.Fork) now =
-      let it = some-fork s.inner (asker_of s.inner p now) s.files (length s.terms) p in
+      let it = some-fork s.processes (asker_of s.processes p now) s.files (length s.terms) p in
       record {
         result = it.result;
         rest = with_files s (files_after_fork it.new p it.result);
@@ -171,7 +171,7 @@ module _ (s : State) (p : ℕ) (can : CanGo s) where
             inl (same-drives s.files.drives (files_after_fork it.new p it.result).drives (fork-drives it.new p it.result ∙ it.drives));
       }
   some-service (on_processes Call.Chain) now =
-      let it = some-chain s.inner (asker_of s.inner p now) s.files (length s.terms) p in
+      let it = some-chain s.processes (asker_of s.processes p now) s.files (length s.terms) p in
       record {
         result = it.result;
         rest = with_files s it.new;
@@ -180,18 +180,18 @@ module _ (s : State) (p : ℕ) (can : CanGo s) where
         stays = inl (same-drives s.files.drives it.new.drives it.drives);
       }
   some-service (on_processes call) now = record {
-    result = attempted call s.inner p;
-    rest = with_files s (files_after_call s.files p (attempted call s.inner p));
+    result = attempted call s.processes p;
+    rest = with_files s (files_after_call s.files p (attempted call s.processes p));
     serves = (refl, refl);
     counts = refl;
     stays =
-        inl (same-drives s.files.drives (files_after_call s.files p (attempted call s.inner p)).drives (call-drives s.files p (attempted call s.inner p)));
+        inl (same-drives s.files.drives (files_after_call s.files p (attempted call s.processes p)).drives (call-drives s.files p (attempted call s.processes p)));
   }
   some-service (on_time call) now = record {
-    result = result_of s.inner p (time_step call s.inner now p);
-    rest = record (rest_of s) { clock = clock_after s.clock (time_step call s.inner now p) };
+    result = result_of s.processes p (time_step call s.processes now p);
+    rest = record (rest_of s) { clock = clock_after s.clock (time_step call s.processes now p) };
     serves = (
-      clock_after s.clock (time_step call s.inner now p),
+      clock_after s.clock (time_step call s.processes now p),
       record { result_is = refl; clock_is = refl },
       refl,
     );
@@ -199,9 +199,9 @@ module _ (s : State) (p : ℕ) (can : CanGo s) where
     stays = inl refl;
   }
   some-service (on_paths call) now =
-      let it : Ends call (asker_of s.inner p now) s.files s.terms _ = step-ends call (asker_of s.inner p now) s.files s.terms can.running.kinds can.mounted can.running.on in
+      let it : Ends call (asker_of s.processes p now) s.files s.terms _ = step-ends call (asker_of s.processes p now) s.files s.terms can.running.kinds can.mounted can.running.on in
       record {
-        result = io_result s.inner p (io_effect it.effect);
+        result = io_result s.processes p (io_effect it.effect);
         rest = record { files = files_after p it.effect; clock = s.clock; terms = it.after };
         serves = (record { effect = it.effect; does = it.does; result_is = refl; state = refl }, refl);
         counts = it.counts;
@@ -219,10 +219,10 @@ module _ (s : State) (p : ℕ) (can : CanGo s) where
 
   pub some-attempt : (code : ℕ) → SomeAttempt code
   some-attempt code =
-      let now = later-packet s.clock.from (seconds_since s.clock s.inner.tick) can.running.clock.civil in
+      let now = later-packet s.clock.from (seconds_since s.clock s.processes.tick) can.running.clock.civil in
       by_service (some-service (service_of code) now.0) now.1
     where
-      by_service : {now : TimePacket} → SomeService (service_of code) now → IsNow s.clock s.inner.tick now → SomeAttempt code
+      by_service : {now : TimePacket} → SomeService (service_of code) now → IsNow s.clock s.processes.tick now → SomeAttempt code
       by_service {now = now} it is_now = record {
         result = it.result;
         rest = it.rest;

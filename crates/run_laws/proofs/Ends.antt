@@ -44,21 +44,21 @@ use Rattle.io_rules.specs.declared.modes.TheConstants.{STANDARD_ERROR}
 use Rattle.io_rules.specs.declared.status.TheConstants.{OPTION_BYTES, SS_EOF, SS_OPT, SS_READY}
 use Rattle.file_rules.specs.Attempts.{file_step}
 use Rattle.file_rules.specs.Change.{Change, creates, deletes, makes_directory, sets_attributes, sizes, writes}
-use Rattle.file_rules.specs.ChgDir.{goes_on_way, goes_to, may_go_to}
-use Rattle.file_rules.specs.Create.{clusters_for, creates_in, creates_on_way, creates_with_path, has_room_for, opens_new}
+use Rattle.file_rules.specs.ChgDir.{goes_on_route, goes_to, may_go_to}
+use Rattle.file_rules.specs.Create.{clusters_for, creates_in, creates_on_route, creates_with_path, has_room_for, opens_new}
 use Rattle.file_rules.specs.Delete.{deletes_by, deletes_file, deletes_in, deletes_named}
 use Rattle.file_rules.specs.Files.{Asker, DriveState, Files, NoneFailed, OneFailed, OpenFile, directories_at, drive_at, new_drive, open_file, target_on, volume_at, with_directories_of, with_directory, with_drives, with_path_table, with_position, with_records, with_ticks, with_volume}
 use Rattle.file_rules.specs.Close.{files_after_close}
-use Rattle.file_rules.specs.Locking.{answer_to, asks, asks_by, call_of, is_for_update, request_kept, request_now, waiting_in}
-use Rattle.file_rules.specs.MakDir.{makes_in, makes_on_way, new_directory_size, past_list}
+use Rattle.file_rules.specs.Locking.{answer_to, asks, asks_by, call_of, is_for_update, pending_request, request_now, waiting_in}
+use Rattle.file_rules.specs.MakDir.{makes_in, makes_on_route, new_directory_size, past_list}
 use Rattle.file_rules.specs.OnFile.{by_kind, moves_bytes, on_file}
-use Rattle.file_rules.specs.Open.{begins_on, is_for_execution, may_open, opens_found, opens_on_way, says_directory, tests_mode}
+use Rattle.file_rules.specs.Open.{begins_on, is_for_execution, may_open, opens_found, opens_on_route, says_directory, tests_mode}
 use Rattle.file_rules.specs.Read.{answers_bytes, bytes_at, lock_by, read_claim, read_start, reads_at, reads_file, reads_freely, reads_locked, reads_on}
 use Rattle.file_rules.specs.Seek.{long_of, seeks_nothing}
 use Rattle.file_rules.specs.Sharing.{is_not_shared, is_open}
 use Rattle.file_rules.specs.Status.{asked_bytes, descriptor_front, gets_bytes, gets_descriptor, gets_end, gets_size, gets_status, after_size, lock_claim, locks_bytes, locks_range, long_regs, sets_attributes_of, sets_lock, sets_size, sets_ticks, size_claim, sizes_locked}
 use Rattle.file_rules.specs.Step.{Deed, DoesDeed, FileDoes, FileEffect, FileStep, MayBeLeft, VolumeChange, as_io, changes, comes, deed_of, done, leaves, leaves_so, needs, on_files, reaches, refused, refuses, refuses_so, stores, with_drives_after}
-use Rattle.file_rules.specs.Way.{Found, Way, along, before_last, last_of, list_of, nowhere, to_device, walk_ends, walks, way_of, way_to_new}
+use Rattle.file_rules.specs.Route.{Found, Route, along, before_last, last_of, list_of, nowhere, to_device, walk_ends, walks, route_of, route_to_new}
 use Rattle.file_rules.specs.Write.{changes_file, line_moved, sends_bytes, write_claim, writes_bytes, writes_locked}
 use Rattle.file_rules.specs.declared.path_call.PathCall.{PathCall}
 use Rattle.file_rules.specs.declared.path_call.PathCall.TheVariants as Call
@@ -548,33 +548,33 @@ module _ (call : PathCall) (asker : Asker) (files : Files) (terms : List Termina
 
       -- ---- calls with a path list
 
-      open-way : (list : PathList) (way : Way) → Ends (opens_on_way asker files (length terms) list way)
+      open-way : (list : PathList) (way : Route) → Ends (opens_on_route asker files (length terms) list way)
       open-way list (along from names) =
           walks-ends (is_for_execution asker.caller.regs.a) from names (opens_found asker files list) (open-on list)
       open-way list to_device = device-ends on Device.Open
       open-way list (nowhere number) = none-ends number
 
-      create-way : IsMaking call → (list : PathList) (way : Way) → Ends (creates_on_way asker files (length terms) list way)
+      create-way : IsMaking call → (list : PathList) (way : Route) → Ends (creates_on_route asker files (length terms) list way)
       create-way making list (along from names) =
           needs-by Ends none-ends (last_of names) E_BPNAM (λ name. walks asker files (is_for_execution asker.caller.regs.a) from (before_last names) (creates_in asker files list name))
           (λ name is. walks-ends (is_for_execution asker.caller.regs.a) from (before_last names) (creates_in asker files list name) (λ found there. create-on list found there name making))
       create-way making list to_device = device-ends on Device.Create
       create-way making list (nowhere number) = none-ends number
 
-      make-way : IsMaking call → (list : PathList) (way : Way) → Ends (makes_on_way asker files list way)
+      make-way : IsMaking call → (list : PathList) (way : Route) → Ends (makes_on_route asker files list way)
       make-way making list (along from names) =
           needs-by Ends none-ends (last_of names) E_BPNAM (λ name. walks asker files false from (before_last names) (makes_in asker files list name))
           (λ name is. walks-ends false from (before_last names) (makes_in asker files list name) (λ found there. make-on list found there name making))
       make-way making list to_device = none-ends E_FNA
       make-way making list (nowhere number) = none-ends number
 
-      go-way : (list : PathList) (way : Way) → Ends (goes_on_way asker files list way)
+      go-way : (list : PathList) (way : Route) → Ends (goes_on_route asker files list way)
       go-way list (along from names) =
           walks-ends (is_for_execution asker.caller.regs.a) from names (goes_to asker files list) (go-on list)
       go-way list to_device = none-ends E_FNA
       go-way list (nowhere number) = none-ends number
 
-      delete-way : (execute : Bool) (list : PathList) (way : Way) (last : Option (List ℕ)) → Ends (deletes_named asker files execute list way last)
+      delete-way : (execute : Bool) (list : PathList) (way : Route) (last : Option (List ℕ)) → Ends (deletes_named asker files execute list way last)
       delete-way execute list (along from names) None =
           walks-ends execute from names (λ root. refused E_FNA) (λ root there. none-on root.place.drive E_FNA)
       delete-way execute list (along from names) (Some name) =
@@ -584,8 +584,8 @@ module _ (call : PathCall) (asker : Asker) (files : Files) (terms : List Termina
 
       delete-by : (execute : Bool) (test : FileStep → FileStep) → ((step : FileStep) → Ends step → Ends (test step)) → Ends (deletes_by asker files (length terms) execute test)
       delete-by execute test tests =
-          list-by Ends none-ends (list_of asker) test (λ list. deletes_named asker files execute list (way_of asker files (length terms) execute list) (last_of list.names))
-          tests (λ list. delete-way execute list (way_of asker files (length terms) execute list) (last_of list.names))
+          list-by Ends none-ends (list_of asker) test (λ list. deletes_named asker files execute list (route_of asker files (length terms) execute list) (last_of list.names))
+          tests (λ list. delete-way execute list (route_of asker files (length terms) execute list) (last_of list.names))
 
       -- ---- every call
 
@@ -593,26 +593,26 @@ module _ (call : PathCall) (asker : Asker) (files : Files) (terms : List Termina
       step-by Call.Dup is = device-ends on Device.Dup
       step-by Call.Create is =
           list-by Ends none-ends (list_of asker) (tests_mode (can_write asker.caller.regs.a))
-          (λ list. creates_on_way asker files (length terms) list (way_to_new asker files (length terms)
+          (λ list. creates_on_route asker files (length terms) list (route_to_new asker files (length terms)
           (is_for_execution asker.caller.regs.a) list))
           (mode-ends (can_write asker.caller.regs.a))
-          (λ list. create-way (subst IsMaking (sym is) tt) list (way_to_new asker files (length terms) (is_for_execution asker.caller.regs.a) list))
+          (λ list. create-way (subst IsMaking (sym is) tt) list (route_to_new asker files (length terms) (is_for_execution asker.caller.regs.a) list))
       step-by Call.Open is =
           list-by Ends none-ends (list_of asker) (tests_mode (is_mode asker.caller.regs.a))
-          (λ list. opens_on_way asker files (length terms) list (way_of asker files (length terms)
+          (λ list. opens_on_route asker files (length terms) list (route_of asker files (length terms)
           (is_for_execution asker.caller.regs.a) list))
           (mode-ends (is_mode asker.caller.regs.a))
-          (λ list. open-way list (way_of asker files (length terms) (is_for_execution asker.caller.regs.a) list))
+          (λ list. open-way list (route_of asker files (length terms) (is_for_execution asker.caller.regs.a) list))
       step-by Call.MakDir is =
-          list-by Ends none-ends (list_of asker) (λ step. step) (λ list. makes_on_way asker files list (way_to_new asker files (length terms) false list))
+          list-by Ends none-ends (list_of asker) (λ step. step) (λ list. makes_on_route asker files list (route_to_new asker files (length terms) false list))
           (λ step holds. holds)
-          (λ list. make-way (subst IsMaking (sym is) tt) list (way_to_new asker files (length terms) false list))
+          (λ list. make-way (subst IsMaking (sym is) tt) list (route_to_new asker files (length terms) false list))
       step-by Call.ChgDir is =
           list-by Ends none-ends (list_of asker) (tests_mode (is_mode asker.caller.regs.a))
-          (λ list. goes_on_way asker files list (way_of asker files (length terms)
+          (λ list. goes_on_route asker files list (route_of asker files (length terms)
           (is_for_execution asker.caller.regs.a) list))
           (mode-ends (is_mode asker.caller.regs.a))
-          (λ list. go-way list (way_of asker files (length terms) (is_for_execution asker.caller.regs.a) list))
+          (λ list. go-way list (route_of asker files (length terms) (is_for_execution asker.caller.regs.a) list))
       step-by Call.Delete is = delete-by false (λ step. step) (λ step holds. holds)
       step-by Call.DeletX is =
           delete-by (is_for_execution asker.caller.regs.a) (tests_mode (is_mode asker.caller.regs.a)) (mode-ends (is_mode asker.caller.regs.a))
@@ -632,9 +632,9 @@ module _ (call : PathCall) (asker : Asker) (files : Files) (terms : List Termina
       step-by Call.ReadLn is = reads-end (reads_device_line asker.caller files.io) WholeLine (device-ends on Device.ReadLn)
       step-by Call.WritLn is =
           number-ends asker.caller.regs.a (writes_device_line asker.caller files.io)
-          (λ opened. needs (line_moved asker (request_kept asker files)) E_BPADDR (sends_bytes asker files opened
+          (λ opened. needs (line_moved asker (pending_request asker files)) E_BPADDR (sends_bytes asker files opened
           I_WRITLN)) (device-ends on Device.WritLn)
-          (λ opened named. needs-by Ends none-ends (line_moved asker (request_kept asker files)) E_BPADDR
+          (λ opened named. needs-by Ends none-ends (line_moved asker (pending_request asker files)) E_BPADDR
           (sends_bytes asker files opened I_WRITLN) (λ bytes there. send-ends opened named.mounted named.there
           I_WRITLN bytes))
       step-by Call.GetStt is =

@@ -13,7 +13,7 @@ use Rattle.proc_rules.specs.Records.{IsLiving, record_at, record_passes, has_end
 use Rattle.proc_rules.specs.Signals.{with_signal}
 use Rattle.call_rules.specs.Attempts.{goes_on}
 use Rattle.call_rules.specs.Delivery.{delivered, after_delivery, has_no_room, interrupted_regs, routine_begun, stack_top, with_frame}
-use Rattle.call_rules.specs.Inner.{Inner, no_own, own_at, regs_at, with_own, with_records}
+use Rattle.call_rules.specs.Processes.{Processes, no_own, own_at, regs_at, with_own, with_records}
 use Rattle.call_rules.specs.Ready.{Act, attempts, delivers, executes, act_of, next_act}
 use Rattle.call_laws.proofs.OthersKept.{living-within, record-put}
 use Rattle.event_rules.specs.Event.{after_instruction, broken_off, delivery_end, instruction_end}
@@ -32,7 +32,7 @@ rank-none : (held : Bool) (signal : Option ℕ) → rank (next_act None held sig
 rank-none held None = omega arith
 rank-none held (Some signal) = omega arith
 
-no-call : (m : Inner) (p : ℕ) (own : Own) → own.call ≡ None → (own_at (with_own m p own) p).call ≡ None
+no-call : (m : Processes) (p : ℕ) (own : Own) → own.call ≡ None → (own_at (with_own m p own) p).call ≡ None
 no-call m p own none =
     elim (cases_lt p (length m.own)) [
       | inl within ↦ ap (λ (own : Own). own.call) (get_or-set_same m.own p own no_own within) ∙ none
@@ -45,15 +45,15 @@ put-lives records p r within runs =
     ap (λ place. record_passes (λ r. not (has_ended r.life)) place) (get_or-set_same records p (Some r) None within) ∙ ap not runs
 
 -- a process goes on from one event to the next: it lives, and an instruction comes nearer
-pub record GoesOn (m : Inner) (p : ℕ) (n : Inner) : Type 0 where
+pub record GoesOn (m : Processes) (p : ℕ) (n : Processes) : Type 0 where
   pub lives : IsLiving n.records p
   pub nearer : (act_of m p ≡ executes) ⊎ (rank (act_of n p) < rank (act_of m p))
 
-pub after-call-lives : (n : Inner) (p : ℕ) (regs : Regs) → p < length (goes_on n p regs).records → IsLiving (goes_on n p regs).records p
+pub after-call-lives : (n : Processes) (p : ℕ) (regs : Regs) → p < length (goes_on n p regs).records → IsLiving (goes_on n p regs).records p
 after-call-lives n p regs within =
     put-lives (with_regs n.records p regs) p _ (simp length-set (simp length-set at within)) refl
 
-pub after-call-acts : (n : Inner) (p : ℕ) (regs : Regs) → rank (act_of (goes_on n p regs) p) ≤ 1
+pub after-call-acts : (n : Processes) (p : ℕ) (regs : Regs) → rank (act_of (goes_on n p regs) p) ≤ 1
 after-call-acts n p regs =
     let none : (own_at (goes_on n p regs) p).call ≡ None = no-call (with_records n (goes_on n p regs).records) p _ refl in
     subst (λ call. rank (next_act call (is_waiting (record_at (goes_on n p regs).records p).life) (record_at (goes_on n p regs).records p).signal) ≤ 1) (sym none)
@@ -61,7 +61,7 @@ after-call-acts n p regs =
 
 -- ---- an instruction, and the delivery of a signal
 
-module _ (m : Inner) (p : ℕ) (lives : IsLiving m.records p) where
+module _ (m : Processes) (p : ℕ) (lives : IsLiving m.records p) where
   within : p < length m.records
   within = living-within m.records p lives
 
@@ -73,13 +73,13 @@ module _ (m : Inner) (p : ℕ) (lives : IsLiving m.records p) where
   instruction-goes next (Aborts status) going = absurd (false≢true going)
 
   -- a delivery, where the call of the process was broken off before
-  module _ (signal : ℕ) (next : act_of m p ≡ delivers signal) (found : Inner) (own : found.own ≡ m.own)
+  module _ (signal : ℕ) (next : act_of m p ≡ delivers signal) (found : Processes) (own : found.own ≡ m.own)
       (place : p < length found.records) (found_lives : IsLiving found.records p)
       (life : (record_at found.records p).life ≡ (record_at m.records p).life) where
-    abbrev taken : Inner
+    abbrev taken : Processes
     taken = with_records found (with_signal found.records p None)
 
-    abbrev interrupted-by : Bool → Inner
+    abbrev interrupted-by : Bool → Processes
     interrupted-by held = if held then goes_on taken p (interrupted_regs found p signal) else taken
 
     -- a process that does not wait has no call where a signal is delivered
@@ -101,7 +101,7 @@ module _ (m : Inner) (p : ℕ) (lives : IsLiving m.records p) where
     taken-signal = put-signal found.records _ place
 
     -- nothing comes before the next instruction then
-    executes-then : (n : Inner) → (own_at n p).call ≡ None → (record_at n.records p).signal ≡ None → rank (act_of n p) < rank (act_of m p)
+    executes-then : (n : Processes) → (own_at n p).call ≡ None → (record_at n.records p).signal ≡ None → rank (act_of n p) < rank (act_of m p)
     executes-then n none signalled =
         let acts : act_of n p ≡ executes = (λ i. next_act (none i) (is_waiting (record_at n.records p).life) (signalled i)) in
         let now : rank (act_of n p) ≡ 0 = ap rank acts in
@@ -150,7 +150,7 @@ module _ (m : Inner) (p : ℕ) (lives : IsLiving m.records p) where
     delivered-goes : is_going (delivery_end (delivered found p signal)) ≡ true → GoesOn m p (after_delivery found p (delivered found p signal))
     delivered-goes = by_intercept (record_at found.records p).intercept
       where
-        answer : Option Intercept → Result Inner ℕ
+        answer : Option Intercept → Result Processes ℕ
         answer None = Err signal
         answer (Some intercept) = if signal == 0 then Err signal else routine_begun found p intercept signal
 

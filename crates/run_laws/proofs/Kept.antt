@@ -6,7 +6,7 @@ use Rattle.std.specs.Prelude.{slice_index_or}
 use Rattle.rbf_model.specs.Volume.{DiskVolume}
 use Rattle.call_rules.specs.CallResult.{CallResult, done, ends, refused, waits}
 use Rattle.call_rules.specs.Delivery.{delivered}
-use Rattle.call_rules.specs.Inner.{Inner}
+use Rattle.call_rules.specs.Processes.{Processes}
 use Rattle.call_rules.specs.Ready.{Act, attempts, delivers, executes, act_of}
 use Rattle.call_rules.specs.declared.proc_call.ProcCall.TheVariants as Call
 use Rattle.cpu_model.specs.Step.{Outcome, Done, Calls, Aborts}
@@ -64,18 +64,18 @@ module _ (s : State) (now : TimePacket) (p : ℕ) (result : CallResult) (rest : 
 
   serves-bare : (service : Service) → Serves service s now p result rest → Bare rest.files
   serves-bare loads (files, it, is) =
-      left-bare files (load-leaves s.inner (asker_of s.inner p now) s.files (length s.terms) p result files it).volumes is
+      left-bare files (load-leaves s.processes (asker_of s.processes p now) s.files (length s.terms) p result files it).volumes is
   serves-bare (on_processes Call.Fork) it =
-      left-bare (files_after_fork it.0 p result) (fork-volumes it.0 p result ∙ (fork-leaves s.inner (asker_of s.inner p now) s.files (length s.terms) p result it.0 it.1).volumes) it.2
+      left-bare (files_after_fork it.0 p result) (fork-volumes it.0 p result ∙ (fork-leaves s.processes (asker_of s.processes p now) s.files (length s.terms) p result it.0 it.1).volumes) it.2
   serves-bare (on_processes Call.Chain) it =
-      left-bare it.0 (chain-leaves s.inner (asker_of s.inner p now) s.files (length s.terms) p result it.0 it.1).volumes it.2
+      left-bare it.0 (chain-leaves s.processes (asker_of s.processes p now) s.files (length s.terms) p result it.0 it.1).volumes it.2
   serves-bare (on_processes call) it = left-bare (files_after_call s.files p result) (call-volumes s.files p result) it.1
   serves-bare (on_time call) (clock, it, is) = subst (λ (rest : Rest). Bare rest.files) (sym is) bare
   serves-bare (on_paths call) (it, clock) =
-      by_case (attempt-comes call s.inner s.files now p result rest.files s.terms rest.terms it)
+      by_case (attempt-comes call s.processes s.files now p result rest.files s.terms rest.terms it)
     where
-      by_case : IsOnDevice call s.inner s.files p result rest.files s.terms rest.terms ⊎ LeavesDevices call s.inner
-          s.files now p result rest.files s.terms rest.terms ⊎ WaitsForRecord call s.inner s.files now p result
+      by_case : IsOnDevice call s.processes s.files p result rest.files s.terms rest.terms ⊎ LeavesDevices call s.processes
+          s.files now p result rest.files s.terms rest.terms ⊎ WaitsForRecord call s.processes s.files now p result
           rest.files s.terms rest.terms → Bare rest.files
       by_case (inl on) = bare-same s.files rest.files on.volumes bare
       by_case (inr (inl left)) = bare-volumes s.files result rest.files left.volumes bare
@@ -87,20 +87,20 @@ instruction-bare files p (Done effect) bare = bare
 instruction-bare files p (Calls code regs) bare = bare
 instruction-bare files p (Aborts status) bare = bare
 
-delivery-bare : (files : Files) (p : ℕ) (outcome : Result Inner ℕ) → Bare files → Bare (files_after_delivery files p outcome)
+delivery-bare : (files : Files) (p : ℕ) (outcome : Result Processes ℕ) → Bare files → Bare (files_after_delivery files p outcome)
 delivery-bare files p (Ok t) bare = bare
 delivery-bare files p (Err status) bare = bare
 
 acts-bare : (act : Act) (s : State) (p : ℕ) (end : EventEnd) (t : State) → Acts act s p end t → HasNoVolumes s → HasNoVolumes t
 acts-bare executes s p end t (ending, is) bare =
-    subst HasNoVolumes (sym is) (instruction-bare s.files p (next_instruction s.inner p) bare)
+    subst HasNoVolumes (sym is) (instruction-bare s.files p (next_instruction s.processes p) bare)
 acts-bare (delivers signal) s p end t (ending, is) bare =
     subst HasNoVolumes (sym is) (delivery-bare s.files p (delivered (before_delivery s p) p signal) bare)
 acts-bare (attempts code) s p end t (result, rest, (now, is_now, serves), ending, is) bare =
     subst HasNoVolumes (sym is) (serves-bare s now p result rest bare (service_of code) serves)
 
 pub event-bare : (s t : State) (end : EventEnd) → Event s end t → HasNoVolumes s → HasNoVolumes t
-event-bare s t end (p, chosen, lives, acts) bare = acts-bare (act_of s.inner p) s p end t acts bare
+event-bare s t end (p, chosen, lives, acts) bare = acts-bare (act_of s.processes p) s p end t acts bare
 
 pub tick-bare : (s t : State) → Tick s t → HasNoVolumes s → HasNoVolumes t
 tick-bare s t (desk, arrives, is) bare = subst HasNoVolumes (sym is) bare

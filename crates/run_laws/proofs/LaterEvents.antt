@@ -9,7 +9,7 @@ use Rattle.os9_outer.specs.TerminalState.{TerminalState, ChangesOneTerminal}
 use Rattle.os9_outer.specs.declared.terminal.Key.{Key}
 use Rattle.call_rules.specs.Attempts.{after_attempt}
 use Rattle.call_rules.specs.CallResult.{CallResult}
-use Rattle.call_rules.specs.Inner.{Inner}
+use Rattle.call_rules.specs.Processes.{Processes}
 use Rattle.call_rules.specs.Ready.{Act, attempts, delivers, executes, act_of}
 use Rattle.call_rules.specs.declared.proc_call.ProcCall.TheVariants as Call
 use Rattle.io_model.specs.Terminal.{IsCutShort, IsWritten, Reads, Terminal, Writes}
@@ -267,17 +267,17 @@ module _ (later : ℕ) (rests : List Rests) (s : State) (others : List TerminalS
   serves-too : (service : Service) → Serves service s now p result rest → ServesToo service
   serves-too loads (files, it, is) = record {
     terms = others;
-    comes = (files, subst (λ (terms : ℕ). LoadAttempts s.inner (asker_of s.inner p now) s.files terms p result files) count it, ap (λ (rest : Rest). rest_on rest others) is);
+    comes = (files, subst (λ (terms : ℕ). LoadAttempts s.processes (asker_of s.processes p now) s.files terms p result files) count it, ap (λ (rest : Rest). rest_on rest others) is);
     same = stays-too (with_files s files) is refl;
   }
   serves-too (on_processes Call.Fork) (files, it, is) = record {
     terms = others;
-    comes = (files, subst (λ (terms : ℕ). ForkAttempts s.inner (asker_of s.inner p now) s.files terms p result files) count it, ap (λ (rest : Rest). rest_on rest others) is);
+    comes = (files, subst (λ (terms : ℕ). ForkAttempts s.processes (asker_of s.processes p now) s.files terms p result files) count it, ap (λ (rest : Rest). rest_on rest others) is);
     same = stays-too _ is refl;
   }
   serves-too (on_processes Call.Chain) (files, it, is) = record {
     terms = others;
-    comes = (files, subst (λ (terms : ℕ). ChainAttempts s.inner (asker_of s.inner p now) s.files terms p result files) count it, ap (λ (rest : Rest). rest_on rest others) is);
+    comes = (files, subst (λ (terms : ℕ). ChainAttempts s.processes (asker_of s.processes p now) s.files terms p result files) count it, ap (λ (rest : Rest). rest_on rest others) is);
     same = stays-too _ is refl;
   }
   serves-too (on_processes call) it = record {
@@ -291,7 +291,7 @@ module _ (later : ℕ) (rests : List Rests) (s : State) (others : List TerminalS
     same = stays-too _ is refl;
   }
   serves-too (on_paths call) (it, clock) =
-      let asker : Asker = asker_of s.inner p now in
+      let asker : Asker = asker_of s.processes p now in
       let too : Too later rests rest.terms (FileDoes (file_step call asker s.files (length s.terms)) asker s.files
       it.effect others) = file-too later rests s.terms rest.terms others all (file_step call asker s.files
       (length s.terms)) asker s.files it.effect it.does in
@@ -345,7 +345,7 @@ acts-too later rests (attempts code) s others p end t all (result, rest, (now, i
 
 pub event-too : (later : ℕ) (rests : List Rests) (s t other : State) (end : EventEnd) → SameTo later rests s other → Event s end t → SameEventTo later rests end t other
 event-too later rests s t other end same (p, chosen, lives, acts) =
-    let too : ActsToo later rests (act_of s.inner p) s other.terms p end t = acts-too later rests (act_of s.inner p) s other.terms p end t same.terms acts in
+    let too : ActsToo later rests (act_of s.processes p) s other.terms p end t = acts-too later rests (act_of s.processes p) s other.terms p end t same.terms acts in
     record {
       last = too.last;
       event = subst (λ (other : State). Event other end too.last) (sym same.rest) (p, chosen, lives, too.acts);

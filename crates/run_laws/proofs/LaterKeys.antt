@@ -186,18 +186,18 @@ from-too tick later n (suc count) rests old new terms below all (between, here, 
 abbrev pub on_terms : State → List TerminalState → State
 on_terms s terms = record s { terms = terms }
 
-pub tick-too : (later : ℕ) (rests : List Rests) (s t other : State) → s.inner.tick + 1 ≤ later → SameTo later rests s other → Tick s t → SameTickTo later rests t other
+pub tick-too : (later : ℕ) (rests : List Rests) (s t other : State) → s.processes.tick + 1 ≤ later → SameTo later rests s other → Tick s t → SameTickTo later rests t other
 tick-too later rests s t other below same (desk, arrives, is) =
     let all : AreSameBut later rests s.terms other.terms = same.terms in
     let count : length s.terms ≡ length other.terms = length-all later rests s.terms other.terms all in
-    let too : DeskToo later rests desk (ArrivesFrom (s.inner.tick + 1) 0 (length s.terms)
-    (with_terms (desk_of s) other.terms)) = from-too (s.inner.tick + 1) later 0 (length s.terms) rests (desk_of s)
+    let too : DeskToo later rests desk (ArrivesFrom (s.processes.tick + 1) 0 (length s.terms)
+    (with_terms (desk_of s) other.terms)) = from-too (s.processes.tick + 1) later 0 (length s.terms) rests (desk_of s)
     desk other.terms below all arrives in
-    let there : State = record s { inner = desk.inner; files = with_io s.files desk.io; terms = too.terms } in
+    let there : State = record s { processes = desk.processes; files = with_io s.files desk.io; terms = too.terms } in
     let comes : Tick (on_terms s other.terms) there = (
       with_terms desk too.terms,
       subst
-          (λ (n : ℕ). ArrivesFrom (s.inner.tick + 1) 0 n (with_terms (desk_of s) other.terms)
+          (λ (n : ℕ). ArrivesFrom (s.processes.tick + 1) 0 n (with_terms (desk_of s) other.terms)
           (with_terms desk too.terms)) count too.comes,
       refl,
     ) in

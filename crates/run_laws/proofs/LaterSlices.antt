@@ -93,7 +93,7 @@ module _ (later : ℕ) (rests : List Rests) where
       let it : StepsToo n states t other = steps-too n chosen other states t same steps in
       record { through = it.through; last = it.last; begun = (ran, it.steps); all = it.all; same = it.same }
 
-  pub slice-too : (n : ℕ) (s t other : State) (states : List State) (end : SliceEnd) → s.inner.tick + 1 ≤ later
+  pub slice-too : (n : ℕ) (s t other : State) (states : List State) (end : SliceEnd) → s.processes.tick + 1 ≤ later
       → SameTo later rests s other → Slice n s states end t → SameSliceTo later rests n states end t other
   slice-too n s t other states end below same (ticked, chosen, ticks, chooses, rest) =
       let tick : SameTickTo later rests ticked other = tick-too later rests s ticked other below same ticks in

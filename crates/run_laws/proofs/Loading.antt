@@ -7,7 +7,7 @@ use Rattle.proc_model.proofs.LoadingLemmas.{Enters-one}
 use Rattle.call_rules.specs.CallResult.{CallResult, refused}
 use Rattle.call_rules.specs.Chain.{f_chain}
 use Rattle.call_rules.specs.Fork.{f_fork}
-use Rattle.call_rules.specs.Inner.{Inner}
+use Rattle.call_rules.specs.Processes.{Processes}
 use Rattle.call_rules.specs.ModuleLinks.{Entered}
 use Rattle.call_rules.specs.Program.{Program}
 use Rattle.file_rules.specs.Files.{Asker, DriveState, Files, drive_at, with_drives}
@@ -32,11 +32,11 @@ module _ (step : Step ProgramFile) (old : Files) where
           absurd (not_failed broken.drive (subst (λ (new : Files). Rose (drive_at old.drives broken.drive).faults (drive_at new.drives broken.drive).faults) (sym it.state) broken.failed.rose))
 
 -- a file that is loaded comes to one end
-outcome-one : (m : Inner) (file : ProgramFile) (outcome second : Result Loaded ℕ) → Loads m.memory file.bytes outcome → Loads m.memory file.bytes second → outcome ≡ second
+outcome-one : (m : Processes) (file : ProgramFile) (outcome second : Result Loaded ℕ) → Loads m.memory file.bytes outcome → Loads m.memory file.bytes second → outcome ≡ second
 outcome-one m file outcome second loads loads_too =
     loads.is ∙ ap (loaded_by m.memory file.bytes) (Enters-one loads.modules loads_too.modules) ∙ sym loads_too.is
 
-goes-one : (m : Inner) (reading : Result ProgramFile ℕ) (next : ProgramFile → Loaded → CallResult)
+goes-one : (m : Processes) (reading : Result ProgramFile ℕ) (next : ProgramFile → Loaded → CallResult)
     (result other : CallResult) → GoesOnLoaded m reading next result → GoesOnLoaded m reading next other
     → result ≡ other
 goes-one m (Err number) next result other is is_too = is ∙ sym is_too
@@ -60,7 +60,7 @@ pub record OneLoad (result second : CallResult) (new other : Files) : Type 0 whe
   pub results : result ≡ second
   pub files : new ≡ other
 
-module _ (m : Inner) (asker : Asker) (old : Files) (terms p : ℕ) (result second : CallResult) (new other : Files)
+module _ (m : Processes) (asker : Asker) (old : Files) (terms p : ℕ) (result second : CallResult) (new other : Files)
     (none : NoDriveFailed old.drives new.drives) (none_too : NoDriveFailed old.drives other.drives) where
   loads-one : (step : Step ProgramFile) (next : ProgramFile → Loaded → CallResult) (reading then_reading : Result
       ProgramFile ℕ) → ReadsProgram step reading old new → ReadsProgram step then_reading old other
@@ -80,7 +80,7 @@ module _ (m : Inner) (asker : Asker) (old : Files) (terms p : ℕ) (result secon
   load-one one two =
       loads-one (program_file asker old terms (λ step. step)) (links_first m p) one.reading two.reading one.reads two.reads one.comes two.comes
 
-  starts-one : (start : Inner → ℕ → Program → CallResult) (named : CallResult) (entered : Option Entered)
+  starts-one : (start : Processes → ℕ → Program → CallResult) (named : CallResult) (entered : Option Entered)
       → MatchOption entered (StartsFile start m asker old terms p result new) (λ entered. (result ≡ named) ×
       (new ≡ old)) → MatchOption entered (StartsFile start m asker old terms p second other)
       (λ entered. (second ≡ named) × (other ≡ old)) → OneLoad result second new other

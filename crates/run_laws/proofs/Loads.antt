@@ -154,14 +154,14 @@ module _ (s : State) (keys : Keys) (tick : ℕ) (are_later : AreLater tick keys)
       let it : SameEventTo tick rests end t (with_keys s keys) = event-too tick rests s t (with_keys s keys) end start event in
       subst (λ (last : State). Event (with_keys s keys) end last) (loaded-too t it.last it.same) it.event
 
-  slice-loaded : (n : ℕ) (t : State) (states : List State) (end : SliceEnd) → s.inner.tick + 1 ≤ tick
+  slice-loaded : (n : ℕ) (t : State) (states : List State) (end : SliceEnd) → s.processes.tick + 1 ≤ tick
       → Slice n s states end t → Slice n (with_keys s keys) (each_with keys states) end (with_keys t keys)
   slice-loaded n t states end below slice =
       let it : SameSliceTo tick rests n states end t (with_keys s keys) = slice-too tick rests n s t (with_keys s keys) states end below start slice in
       subst (λ (last : State). Slice n (with_keys s keys) (each_with keys states) end last) (loaded-too t it.last it.same)
       (subst (λ (through : List State). Slice n (with_keys s keys) through end it.last) (all-loaded-too states it.through it.all) it.slice)
 
-  begins-loaded : (n : ℕ) (t : State) (states : List State) → s.inner.tick + 1 ≤ tick → BeginsSlice n s states t → BeginsSlice n (with_keys s keys) (each_with keys states) (with_keys t keys)
+  begins-loaded : (n : ℕ) (t : State) (states : List State) → s.processes.tick + 1 ≤ tick → BeginsSlice n s states t → BeginsSlice n (with_keys s keys) (each_with keys states) (with_keys t keys)
   begins-loaded n t states below (ticked, chosen, ticks, chooses, steps) =
       let one : SameTickTo tick rests ticked (with_keys s keys) = tick-too tick rests s ticked (with_keys s keys) below start ticks in
       let two : SameChoiceTo tick rests chosen one.last = choice-too tick rests ticked chosen one.last one.same chooses in
@@ -178,10 +178,10 @@ pub event-with : (tick : ℕ) (s t : State) (end : EventEnd) (keys : Keys) → A
 event-with tick s t end keys later event = event-loaded s keys tick later t end event
 
 pub slice-with : (n : ℕ) (s t : State) (states : List State) (end : SliceEnd) (keys : Keys)
-    → AreLater (s.inner.tick + 1) keys → Slice n s states end t → Slice n (with_keys s keys) (each_with keys states)
+    → AreLater (s.processes.tick + 1) keys → Slice n s states end t → Slice n (with_keys s keys) (each_with keys states)
     end (with_keys t keys)
-slice-with n s t states end keys later slice = slice-loaded s keys (s.inner.tick + 1) later n t states end (omega arith) slice
+slice-with n s t states end keys later slice = slice-loaded s keys (s.processes.tick + 1) later n t states end (omega arith) slice
 
-pub begins-with : (n : ℕ) (s t : State) (states : List State) (keys : Keys) → AreLater (s.inner.tick + 1) keys
+pub begins-with : (n : ℕ) (s t : State) (states : List State) (keys : Keys) → AreLater (s.processes.tick + 1) keys
     → BeginsSlice n s states t → BeginsSlice n (with_keys s keys) (each_with keys states) (with_keys t keys)
-begins-with n s t states keys later begins = begins-loaded s keys (s.inner.tick + 1) later n t states (omega arith) begins
+begins-with n s t states keys later begins = begins-loaded s keys (s.processes.tick + 1) later n t states (omega arith) begins

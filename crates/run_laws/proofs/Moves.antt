@@ -5,7 +5,7 @@ use Rattle.cpu_model.specs.Step.{Aborts, Calls, Done, Outcome}
 use Rattle.os9_base.specs.declared.registers.TimePacket.{TimePacket}
 use Rattle.call_rules.specs.CallResult.{CallResult, done, ends, refused, waits}
 use Rattle.call_rules.specs.Delivery.{delivered}
-use Rattle.call_rules.specs.Inner.{Inner}
+use Rattle.call_rules.specs.Processes.{Processes}
 use Rattle.call_rules.specs.Ready.{Act, act_of, attempts, delivers, executes}
 use Rattle.call_rules.specs.declared.proc_call.ProcCall.TheVariants as Call
 use Rattle.std.specs.Prelude.{Result, Ok, Err}
@@ -35,7 +35,7 @@ module _ (files : Files) (p : ℕ) (mounted : AreMounted files) where
   after-instruction (Aborts status) =
       mounted-same files (files_after_instruction files p (Aborts status)) refl refl mounted
 
-  after-delivery : (result : Result Inner ℕ) → AreMounted (files_after_delivery files p result)
+  after-delivery : (result : Result Processes ℕ) → AreMounted (files_after_delivery files p result)
   after-delivery (Ok t) = mounted-same files (files_after_delivery files p (Ok t)) refl refl mounted
   after-delivery (Err status) = mounted-same files (files_after_delivery files p (Err status)) refl refl mounted
 
@@ -60,29 +60,29 @@ module _ (s : State) (p : ℕ) (can : CanGo s) (now : TimePacket) where
 
   serves-mounted : (service : Service) (result : CallResult) (rest : Rest) → Serves service s now p result rest → AreMounted rest.files
   serves-mounted loads result rest (files, it, is) =
-      by-rest rest _ is (mounted-same s.files files (load-leaves s.inner (asker_of s.inner p now) s.files
-      (length s.terms) p result files it).volumes (load-many s.inner (asker_of s.inner p now) s.files
+      by-rest rest _ is (mounted-same s.files files (load-leaves s.processes (asker_of s.processes p now) s.files
+      (length s.terms) p result files it).volumes (load-many s.processes (asker_of s.processes p now) s.files
       (length s.terms) p result files it).drives can.mounted)
   serves-mounted (on_processes Call.Fork) result rest (files, it, is) =
-      by-rest rest _ is (after-fork files p (mounted-same s.files files (fork-leaves s.inner (asker_of s.inner p now)
-      s.files (length s.terms) p result files it).volumes (fork-many s.inner (asker_of s.inner p now) s.files
+      by-rest rest _ is (after-fork files p (mounted-same s.files files (fork-leaves s.processes (asker_of s.processes p now)
+      s.files (length s.terms) p result files it).volumes (fork-many s.processes (asker_of s.processes p now) s.files
       (length s.terms) p result files it).drives can.mounted) result)
   serves-mounted (on_processes Call.Chain) result rest (files, it, is) =
-      by-rest rest _ is (mounted-same s.files files (chain-leaves s.inner (asker_of s.inner p now) s.files
-      (length s.terms) p result files it).volumes (chain-many s.inner (asker_of s.inner p now) s.files
+      by-rest rest _ is (mounted-same s.files files (chain-leaves s.processes (asker_of s.processes p now) s.files
+      (length s.terms) p result files it).volumes (chain-many s.processes (asker_of s.processes p now) s.files
       (length s.terms) p result files it).drives can.mounted)
   serves-mounted (on_processes call) result rest it = by-rest rest _ it.1 (after-call s.files p can.mounted result)
   serves-mounted (on_time call) result rest (clock, it, is) = by-rest rest _ is can.mounted
   serves-mounted (on_paths call) result rest (it, same) =
       subst AreMounted (sym it.state)
-      (mounted-same it.effect.files (files_after p it.effect) refl refl (does-mounted call (asker_of s.inner p now) s.files can.running.kinds can.mounted s.terms rest.terms it.effect it.does))
+      (mounted-same it.effect.files (files_after p it.effect) refl refl (does-mounted call (asker_of s.processes p now) s.files can.running.kinds can.mounted s.terms rest.terms it.effect it.does))
   serves-mounted no_call result rest (result_is, is) = by-rest rest _ is can.mounted
 
 -- ---- an event
 
 acts-mounted : (act : Act) (s : State) (p : ℕ) (end : EventEnd) (t : State) → CanGo s → Acts act s p end t → AreMounted t.files
 acts-mounted executes s p end t can (over, is) =
-    subst (λ (t : State). AreMounted t.files) (sym is) (after-instruction s.files p can.mounted (next_instruction s.inner p))
+    subst (λ (t : State). AreMounted t.files) (sym is) (after-instruction s.files p can.mounted (next_instruction s.processes p))
 acts-mounted (delivers signal) s p end t can (over, is) =
     subst (λ (t : State). AreMounted t.files) (sym is) (after-delivery s.files p can.mounted (delivered (before_delivery s p) p signal))
 acts-mounted (attempts code) s p end t can (result, rest, (now, is_now, it), over, is) =
@@ -91,7 +91,7 @@ acts-mounted (attempts code) s p end t can (result, rest, (now, is_now, it), ove
 pub event-can : (s t : State) (end : EventEnd) → Event s end t → CanGo s → CanGo t
 event-can s t end (p, chosen, lives, acts) can = record {
   running = event-running s t end (p, chosen, lives, acts) can.running;
-  mounted = acts-mounted (act_of s.inner p) s p end t can acts;
+  mounted = acts-mounted (act_of s.processes p) s p end t can acts;
 }
 
 pub tick-can : (s t : State) → Tick s t → CanGo s → CanGo t

@@ -14,14 +14,14 @@ comes-first s more later rest t are_later session = session
 
 -- one more turn
 pub comes-on : (turns : List Turn) (turn : Turn) (s m t : State) (states first : List State) (written : List ℕ) (end : SliceEnd) → ComesTo turns s states written m
-    → has_living m ≡ true → AreLater m.inner.tick turn.load → t.inner.tick ≡ m.inner.tick + 1 → Slice turn.count (with_keys m turn.load) first end t
+    → has_living m ≡ true → AreLater m.processes.tick turn.load → t.processes.tick ≡ m.processes.tick + 1 → Slice turn.count (with_keys m turn.load) first end t
     → ComesTo (turns ++ turn ∷ []) s (states ++ first) (written ++ console_bytes t.terms) (record t { terms = terminals_emptied t.terms })
 comes-on turns turn s m t states first written end comes lives load ticked slice more later rest u are_later session =
-    let due : AreLater (m.inner.tick + 1) (script more) = subst (λ (tick : ℕ). AreLater tick (script more)) ticked are_later in
+    let due : AreLater (m.processes.tick + 1) (script more) = subst (λ (tick : ℕ). AreLater tick (script more)) ticked are_later in
     let turned : Session (turn ∷ more) m (first ++ later) (console_bytes t.terms ++ rest) u =
     rw lives (due, end, t, first, later, rest, slice, refl, refl, session) in
     let all : Session (turns ++ turn ∷ more) s (states ++ (first ++ later)) (written ++ (console_bytes t.terms ++ rest)) u =
-    comes (turn ∷ more) (first ++ later) (console_bytes t.terms ++ rest) u (later-then m.inner.tick turn.load (script more) load (later-before m.inner.tick (script more) due)) turned in
+    comes (turn ∷ more) (first ++ later) (console_bytes t.terms ++ rest) u (later-then m.processes.tick turn.load (script more) load (later-before m.processes.tick (script more) due)) turned in
     let moved : Session ((turns ++ turn ∷ []) ++ more) s (states ++ (first ++ later)) (written ++ (console_bytes t.terms ++ rest)) u =
     subst (λ (turns : List Turn). Session turns s (states ++ (first ++ later)) (written ++ (console_bytes t.terms ++ rest)) u) (sym (append_assoc turns (turn ∷ []) more)) all in
     let through : Session ((turns ++ turn ∷ []) ++ more) s ((states ++ first) ++ later) (written ++ (console_bytes t.terms ++ rest)) u =

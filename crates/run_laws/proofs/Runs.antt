@@ -147,8 +147,8 @@ bare-steps left s (m ∷ ms) t (some, end, event, steps) bare =
 -- the state of a slice once its process is chosen
 abbrev begun : State → State
 begun s = record s {
-  inner = after_choice (files_may_go s.files s.inner.tick) s.inner;
-  chosen = option_map (λ (p : Pid). p.0) (choice_of (files_may_go s.files s.inner.tick) s.inner).chosen;
+  processes = after_choice (files_may_go s.files s.processes.tick) s.processes;
+  chosen = option_map (λ (p : Pid). p.0) (choice_of (files_may_go s.files s.processes.tick) s.processes).chosen;
 }
 
 -- its events then

@@ -106,7 +106,7 @@ zip-append (x ∷ a) (y ∷ b) c d one two = (one.0, zip-append a b c d one.1 tw
 abbrev Goes : Bool → Turn → List Turn → State → List State → List ℕ → State → Type 0
 Goes living turn turns s states written t =
     MatchBool living
-    (AreLater (s.inner.tick + 1) (script turns) × (end : SliceEnd) × (m : State) × (first later : List State)
+    (AreLater (s.processes.tick + 1) (script turns) × (end : SliceEnd) × (m : State) × (first later : List State)
     × (rest : List ℕ) × Slice turn.count (with_keys s turn.load) first end m × (states ≡ first ++ later)
     × (written ≡ console_bytes m.terms ++ rest)
     × Session turns (record m { terms = terminals_emptied m.terms }) later rest t)
@@ -144,7 +144,7 @@ goes-on false turn turns s states written t others (none, nothing, is) = record 
 goes-on true turn turns s states written t others (are_later, end, m, first, later, rest, slice, states_are, written_is, after) =
     let now : State = with_keys s turn.load in
     let full : State = with_keys s (script (turn ∷ turns)) in
-    let tick : ℕ = s.inner.tick + 1 in
+    let tick : ℕ = s.processes.tick + 1 in
     let full_is : with_keys now (script turns) ≡ full = ap (λ (terms : List TerminalState). record s { terms = terms }) (sym (load-then s.terms turn.load (script turns))) in
     let start : SameTo tick (rests_of now.terms (script turns)) now (with_keys now (script turns)) = record { terms = to-same tick now.terms (script turns) are_later; rest = refl } in
     let too : SameSliceTo tick (rests_of now.terms (script turns)) turn.count first end m full = slice-too tick

@@ -107,7 +107,7 @@ some-arrivals tick n (suc count) old few =
     let it = some-terminal old.terms n (omega arith) in
     let t = terminal_at old.io n in
     let between : Desk = record {
-      inner = after_key_signal old.inner (polled tick t it.0).user (poll_answer tick t it.0).signal;
+      processes = after_key_signal old.processes (polled tick t it.0).user (poll_answer tick t it.0).signal;
       io = with_terminal old.io n (polled tick t it.0);
       terms = slice_set old.terms n (poll_driver tick t it.0);
     } in
@@ -138,9 +138,9 @@ pub record SomeTick (s : State) : Type 0 where
 
 pub some-tick : (s : State) → SomeTick s
 some-tick s =
-    let it : SomeArrivals (s.inner.tick + 1) 0 (length s.terms) (desk_of s) = some-arrivals (s.inner.tick + 1) 0 (length s.terms) (desk_of s) (omega arith) in
+    let it : SomeArrivals (s.processes.tick + 1) 0 (length s.terms) (desk_of s) = some-arrivals (s.processes.tick + 1) 0 (length s.terms) (desk_of s) (omega arith) in
     record {
-      last = record s { inner = it.new.inner; files = with_io s.files it.new.io; terms = it.new.terms };
+      last = record s { processes = it.new.processes; files = with_io s.files it.new.io; terms = it.new.terms };
       tick = (it.new, it.arrive, refl);
       counts = it.counts;
     }

@@ -11,7 +11,7 @@ use Rattle.proc_rules.specs.Records.{IsLiving}
 use Rattle.call_rules.specs.Attempts.{after_attempt, done_regs, goes_on, refused_regs}
 use Rattle.call_rules.specs.CallResult.{CallResult, done, ends, refused, waits}
 use Rattle.call_rules.specs.Delivery.{after_delivery, delivered}
-use Rattle.call_rules.specs.Inner.{Inner, regs_at}
+use Rattle.call_rules.specs.Processes.{Processes, regs_at}
 use Rattle.call_rules.specs.Ready.{Act, act_of, attempts, delivers, executes}
 use Rattle.call_rules.specs.declared.proc_call.ProcCall.TheVariants as Call
 use Rattle.file_rules.specs.Attempts.{asker_of, io_effect}
@@ -45,25 +45,26 @@ use Rattle.run_laws.proofs.Going.{GoesOn, after-call-acts, after-call-lives, bro
 
 -- ---- no place for a record comes or goes in an attempt
 
-module _ (s : State) (p code : ℕ) (next : act_of s.inner p ≡ attempts code) (lives : IsLiving s.inner.records p) (now : TimePacket) (rest : Rest) where
+module _ (s : State) (p code : ℕ) (next : act_of s.processes p ≡ attempts code) (lives : IsLiving s.processes.records p) (now : TimePacket) (rest : Rest) where
   abbrev HasPlaces : CallResult → Type 0
-  HasPlaces result = length (after_attempt s.inner p result).records ≡ length s.inner.records
+  HasPlaces result = length (after_attempt s.processes p result).records ≡ length s.processes.records
 
   serves-places : (service : Service) (result : CallResult) → Asks code service → Serves service s now p result rest → HasPlaces result
   serves-places loads result asked (files, it, is) =
-      (load-over s.inner (asker_of s.inner p now) s.files (length s.terms) p result files it).aside.places
+      (load-over s.processes (asker_of s.processes p now) s.files (length s.terms) p result files it).aside.places
   serves-places (on_processes Call.Fork) result asked (files, it, is) =
-      (over-by s.inner p (Child s.inner p) result (fork-over s.inner (asker_of s.inner p now) s.files (length s.terms) p result files lives it) (λ t child. (child.aside, child.tick))).aside.places
+      (over-by s.processes p (Child s.processes p) result (fork-over s.processes (asker_of s.processes p now) s.files (length s.terms) p result files lives it)
+          (λ t child. (child.aside, child.tick))).aside.places
   serves-places (on_processes Call.Chain) result asked (files, it, is) =
-      (chain-over s.inner (asker_of s.inner p now) s.files (length s.terms) p result files it).aside.places
+      (chain-over s.processes (asker_of s.processes p now) s.files (length s.terms) p result files it).aside.places
   serves-places (on_processes call) result asked it =
-      subst HasPlaces (sym it.0) (attempt-left s.inner p call lives (code, next, asked)).places
+      subst HasPlaces (sym it.0) (attempt-left s.processes p call lives (code, next, asked)).places
   serves-places (on_time call) result asked (clock, it, is) =
-      subst HasPlaces (sym it.result_is) (time-left s.inner p (time_step call s.inner now p)).places
+      subst HasPlaces (sym it.result_is) (time-left s.processes p (time_step call s.processes now p)).places
   serves-places (on_paths call) result asked (it, same) =
-      subst HasPlaces (sym it.result_is) (by-end s.inner p (io_effect it.effect) it.effect.end).places
+      subst HasPlaces (sym it.result_is) (by-end s.processes p (io_effect it.effect) it.effect.end).places
   serves-places no_call result asked (result_is, is) =
-      subst HasPlaces (sym result_is) (left-refused s.inner p E_UNKSVC).places
+      subst HasPlaces (sym result_is) (left-refused s.processes p E_UNKSVC).places
 
 -- ---- an event has a next one
 
@@ -77,73 +78,73 @@ instruction-drives files p (Done effect) = refl
 instruction-drives files p (Calls code regs) = refl
 instruction-drives files p (Aborts status) = refl
 
-delivery-drives : (files : Files) (p : ℕ) (result : Result Inner ℕ) → (files_after_delivery files p result).drives ≡ files.drives
+delivery-drives : (files : Files) (p : ℕ) (result : Result Processes ℕ) → (files_after_delivery files p result).drives ≡ files.drives
 delivery-drives files p (Ok t) = refl
 delivery-drives files p (Err status) = refl
 
-module _ (s : State) (p : ℕ) (chosen : s.chosen ≡ Some p) (lives : IsLiving s.inner.records p) (can : CanGo s) where
-  acts-event : (act : Act) (end : EventEnd) (t : State) → act_of s.inner p ≡ act → Acts act s p end t → Event s end t
+module _ (s : State) (p : ℕ) (chosen : s.chosen ≡ Some p) (lives : IsLiving s.processes.records p) (can : CanGo s) where
+  acts-event : (act : Act) (end : EventEnd) (t : State) → act_of s.processes p ≡ act → Acts act s p end t → Event s end t
   acts-event act end t next acts =
       (p, chosen, lives, subst (λ (act : Act). Acts act s p end t) (sym next) acts)
 
-  next-executes : act_of s.inner p ≡ executes → Next Staying s p
+  next-executes : act_of s.processes p ≡ executes → Next Staying s p
   next-executes next =
-      let outcome = next_instruction s.inner p in
-      let last : State = record s { inner = after_instruction s.inner p outcome; files = files_after_instruction s.files p outcome } in
+      let outcome = next_instruction s.processes p in
+      let last : State = record s { processes = after_instruction s.processes p outcome; files = files_after_instruction s.files p outcome } in
       record {
         end = instruction_end outcome;
         last = last;
         event = acts-event executes (instruction_end outcome) last next (refl, refl);
         chosen = refl;
-        goes = instruction-goes s.inner p lives next outcome;
+        goes = instruction-goes s.processes p lives next outcome;
         counts = refl;
         still = inl (same-drives s.files.drives last.files.drives (instruction-drives s.files p outcome));
       }
 
-  next-delivers : (signal : ℕ) → act_of s.inner p ≡ delivers signal → Next Staying s p
+  next-delivers : (signal : ℕ) → act_of s.processes p ≡ delivers signal → Next Staying s p
   next-delivers signal next =
       let result = delivered (before_delivery s p) p signal in
-      let last : State = record s { inner = after_delivery (before_delivery s p) p result; files = files_after_delivery s.files p result } in
+      let last : State = record s { processes = after_delivery (before_delivery s p) p result; files = files_after_delivery s.files p result } in
       record {
         end = delivery_end result;
         last = last;
         event = acts-event (delivers signal) (delivery_end result) last next (refl, refl);
         chosen = refl;
-        goes = broken-goes s.inner p lives signal next (interrupted_count s.files.io p);
+        goes = broken-goes s.processes p lives signal next (interrupted_count s.files.io p);
         counts = refl;
         still = inl (same-drives s.files.drives last.files.drives (delivery-drives s.files p result));
       }
 
   -- an attempt
-  module _ (code : ℕ) (next : act_of s.inner p ≡ attempts code) where
-    goes-then : (n : Inner) (regs : Regs) → length (goes_on n p regs).records ≡ length s.inner.records → GoesOn s.inner p (goes_on n p regs)
+  module _ (code : ℕ) (next : act_of s.processes p ≡ attempts code) where
+    goes-then : (n : Processes) (regs : Regs) → length (goes_on n p regs).records ≡ length s.processes.records → GoesOn s.processes p (goes_on n p regs)
     goes-then n regs places =
         let few : rank (act_of (goes_on n p regs) p) ≤ 1 = after-call-acts n p regs in
-        let two : rank (act_of s.inner p) ≡ 2 = ap rank next in
+        let two : rank (act_of s.processes p) ≡ 2 = ap rank next in
         record {
           lives =
-              after-call-lives n p regs (subst (λ (n : ℕ). p < n) (sym places) (living-within s.inner.records p lives));
+              after-call-lives n p regs (subst (λ (n : ℕ). p < n) (sym places) (living-within s.processes.records p lives));
           nearer = inr (omega arith);
         }
 
-    goes-by : (result : CallResult) → length (after_attempt s.inner p result).records ≡ length s.inner.records → is_going (call_event_end result) ≡ true
-        → GoesOn s.inner p (after_attempt s.inner p result)
+    goes-by : (result : CallResult) → length (after_attempt s.processes p result).records ≡ length s.processes.records → is_going (call_event_end result) ≡ true
+        → GoesOn s.processes p (after_attempt s.processes p result)
     goes-by (done t) places going = goes-then t (done_regs (regs_at t p)) places
-    goes-by (refused number) places going = goes-then s.inner (refused_regs (regs_at s.inner p) number) places
+    goes-by (refused number) places going = goes-then s.processes (refused_regs (regs_at s.processes p) number) places
     goes-by (waits t) places going = absurd (false≢true going)
     goes-by (ends status) places going = absurd (false≢true going)
 
-    attempt-places : (result : CallResult) (rest : Rest) → Attempts code s p result rest → length (after_attempt s.inner p result).records ≡ length s.inner.records
+    attempt-places : (result : CallResult) (rest : Rest) → Attempts code s p result rest → length (after_attempt s.processes p result).records ≡ length s.processes.records
     attempt-places result rest (now, at, it) = serves-places s p code next lives now rest (service_of code) result (asks code) it
 
     -- an attempt is an event
     pub attempt-event : (Still : State → State → Type 0) (result : CallResult) (rest : Rest) → Attempts code s p result rest → fault_counts rest.terms ≡ fault_counts s.terms
-        → Still s (with_rest s (after_attempt s.inner p result) rest) → Next Still s p
+        → Still s (with_rest s (after_attempt s.processes p result) rest) → Next Still s p
     attempt-event Still result rest attempt counts still = record {
       end = call_event_end result;
-      last = with_rest s (after_attempt s.inner p result) rest;
+      last = with_rest s (after_attempt s.processes p result) rest;
       event =
-          acts-event (attempts code) (call_event_end result) (with_rest s (after_attempt s.inner p result) rest) next (result, rest, attempt, refl, refl);
+          acts-event (attempts code) (call_event_end result) (with_rest s (after_attempt s.processes p result) rest) next (result, rest, attempt, refl, refl);
       chosen = refl;
       goes = goes-by result (attempt-places result rest attempt);
       counts = counts;
@@ -170,14 +171,14 @@ module _ (s : State) (p : ℕ) (chosen : s.chosen ≡ Some p) (lives : IsLiving 
         ])
 
   pub next-event : Next Staying s p
-  next-event = by_act (act_of s.inner p) refl
+  next-event = by_act (act_of s.processes p) refl
     where
-      by_act : (act : Act) → act_of s.inner p ≡ act → Next Staying s p
+      by_act : (act : Act) → act_of s.processes p ≡ act → Next Staying s p
       by_act executes next = next-executes next
       by_act (attempts code) next = next-attempt code next
       by_act (delivers signal) next = next-delivers signal next
 
-pub event-end : (s : State) (p : ℕ) → CanGo s → s.chosen ≡ Some p → IsLiving s.inner.records p → HasEvent s
+pub event-end : (s : State) (p : ℕ) → CanGo s → s.chosen ≡ Some p → IsLiving s.processes.records p → HasEvent s
 event-end s p can chosen lives =
     let next : Next Staying s p = next-event s p chosen lives can in
     record { end = next.end; last = next.last; event = next.event; counts = next.counts; drives = next.still }
@@ -197,7 +198,7 @@ bare-still s p next bare =
     by_drives (inl none) = none
     by_drives (inr making) = absurd (none-some making.volume (sym (bare making.drive) ∙ making.mounted))
 
-bare-next : (s : State) (p : ℕ) → CanGo s → s.chosen ≡ Some p → IsLiving s.inner.records p → Next BareStays s p
+bare-next : (s : State) (p : ℕ) → CanGo s → s.chosen ≡ Some p → IsLiving s.processes.records p → Next BareStays s p
 bare-next s p can chosen lives =
     let next : Next Staying s p = next-event s p chosen lives can in
     record {

@@ -301,7 +301,7 @@ arrival-one tick n old new other one two none none_too =
     two.answer) (sym before) two.device.4) in
     λ i. record {
       inner =
-          (one.signal ∙ (λ j. after_key_signal old.inner (poll.terminal j).user (poll.signal j)) ∙ sym two.signal) i;
+          (one.signal ∙ (λ j. after_key_signal old.processes (poll.terminal j).user (poll.signal j)) ∙ sym two.signal) i;
       io = (one.io ∙ ap (with_terminal old.io n) poll.terminal ∙ sym two.io) i;
       terms = (one.device.3 ∙ ap (slice_set old.terms n) poll.driver ∙ sym two.device.3) i;
     }

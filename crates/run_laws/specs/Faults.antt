@@ -78,23 +78,23 @@ pub record MayChoose (s : State) : Type 0 where
   pub p : ℕ
   pub chosen : s.chosen ≡ Some p
   pub code : ℕ
-  pub next : act_of s.inner p ≡ attempts code
+  pub next : act_of s.processes p ≡ attempts code
   pub call : PathCall
   pub asks : service_of code ≡ on_paths call
   pub now : TimePacket
-  pub is_now : IsNow s.clock s.inner.tick now
-  pub deed : DeedTakes s.files (deed_of (file_step call (asker_of s.inner p now) s.files (length s.terms)) s.files)
+  pub is_now : IsNow s.clock s.processes.tick now
+  pub deed : DeedTakes s.files (deed_of (file_step call (asker_of s.processes p now) s.files (length s.terms)) s.files)
 
 -- the state after an attempt of a process that had this effect on the files, without a fault of a drive
 abbrev pub after_effect : State → ℕ → FileEffect → State
 after_effect s p effect =
-    with_rest s (after_attempt s.inner p (result_of s.inner p (io_effect effect)))
+    with_rest s (after_attempt s.processes p (result_of s.processes p (io_effect effect)))
     (record (rest_of s) { files = files_after p (with_drives_after effect s.files.drives) })
 
 -- an event makes the change of the volume that such an attempt asks for, with some clusters, or finds no place for them
 pub record ChoosesClusters (s : State) (choice : MayChoose s) (end : EventEnd) (t : State) : Type 0 where
   pub effect : FileEffect
-  pub does : IsChanged choice.deed.it (asker_of s.inner choice.p choice.now) s.files effect
+  pub does : IsChanged choice.deed.it (asker_of s.processes choice.p choice.now) s.files effect
       ⊎ IsTooLong choice.deed.it s.files effect
   pub ends : end ≡ Ran
   pub is : t ≡ after_effect s choice.p effect

@@ -22,7 +22,7 @@ pub record MakesFile (s : State) : Type 0 where
   pub p : ℕ
   pub chosen : s.chosen ≡ Some p
   pub code : ℕ
-  pub next : act_of s.inner p ≡ attempts code
+  pub next : act_of s.processes p ≡ attempts code
   pub makes : (path_call_of code ≡ Some Call.Create) ⊎ (path_call_of code ≡ Some Call.MakDir)
   pub drive : ℕ
   pub volume : DiskVolume

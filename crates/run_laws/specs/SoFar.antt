@@ -11,5 +11,5 @@ each_with keys states = map (λ s. with_keys s keys) states
 -- from m with keys that are due in later ticks continues it.
 abbrev pub ComesTo : List Turn → State → List State → List ℕ → State → Type 0
 ComesTo turns s states written m =
-    (more : List Turn) (later : List State) (rest : List ℕ) (t : State) → AreLater m.inner.tick (script more)
+    (more : List Turn) (later : List State) (rest : List ℕ) (t : State) → AreLater m.processes.tick (script more)
     → Session more m later rest t → Session (turns ++ more) s (states ++ later) (written ++ rest) t

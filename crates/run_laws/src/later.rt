@@ -12,7 +12,8 @@ ghost use Rattle.run_laws.specs.Later.{Rests, SameTo, SameTickTo, SameChoiceTo, 
 /// Of two states that are equal but for keys after a tick, one has each tick up to that one and
 /// each choice that the other has, and they are equal but for those keys after it.
 pub fn later_keys_change_no_tick()
-    ensures tick { (later : ℕ) (rests : List Rests) (s t other : State) → s.inner.tick + 1 ≤ later
+    ensures tick { (later : ℕ) (rests : List Rests) (s t other : State)
+        → s.processes.tick + 1 ≤ later
         → SameTo later rests s other → Tick s t → SameTickTo later rests t other }
     ensures choice { (later : ℕ) (rests : List Rests) (s t other : State)
         → SameTo later rests s other → Choose s t → SameChoiceTo later rests t other }
@@ -27,7 +28,7 @@ pub fn later_keys_change_no_event()
 /// So it has each slice up to that tick, with the same end.
 pub fn later_keys_change_no_slice()
     ensures slice { (later : ℕ) (rests : List Rests) (n : ℕ) (s t other : State)
-        (states : List State) (end : SliceEnd) → s.inner.tick + 1 ≤ later
+        (states : List State) (end : SliceEnd) → s.processes.tick + 1 ≤ later
         → SameTo later rests s other → Slice n s states end t
         → SameSliceTo later rests n states end t other }
 {}

@@ -32,7 +32,7 @@ pub fn volumes_stay_in_their_drives()
 /// are unchanged, and could rise, no device has failed.
 pub fn some_run()
     ensures event { (s : State) (p : ℕ) → CanGo s → s.chosen ≡ Some p
-        → IsLiving s.inner.records p → HasEvent s }
+        → IsLiving s.processes.records p → HasEvent s }
     ensures slice { (n : ℕ) (s : State) → CanGo s → HasSlice n s }
     ensures run { (slices : List ℕ) (s : State) → CanGo s → HasRun slices s }
     ensures started { (boot : Boot) (slices : List ℕ) (s : State) → Starts boot s

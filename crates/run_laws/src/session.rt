@@ -20,10 +20,10 @@ pub fn keys_that_come_later_change_no_slice()
     ensures event { (tick : ℕ) (s t : State) (end : EventEnd) (keys : Keys) → AreLater tick keys
         → Event s end t → Event (with_keys s keys) end (with_keys t keys) }
     ensures slice { (n : ℕ) (s t : State) (states : List State) (end : SliceEnd) (keys : Keys)
-        → AreLater (s.inner.tick + 1) keys → Slice n s states end t
+        → AreLater (s.processes.tick + 1) keys → Slice n s states end t
         → Slice n (with_keys s keys) (each_with keys states) end (with_keys t keys) }
     ensures part { (n : ℕ) (s t : State) (states : List State) (keys : Keys)
-        → AreLater (s.inner.tick + 1) keys → BeginsSlice n s states t
+        → AreLater (s.processes.tick + 1) keys → BeginsSlice n s states t
         → BeginsSlice n (with_keys s keys) (each_with keys states) (with_keys t keys) }
 {}
 
@@ -34,8 +34,9 @@ pub fn a_session_goes_on_turn_by_turn()
     ensures start { (s : State) → ComesTo [] s [] [] s }
     ensures turn { (turns : List Turn) (turn : Turn) (s m t : State) (states first : List State)
         (written : List ℕ) (end : SliceEnd) → ComesTo turns s states written m
-        → has_living m ≡ true → AreLater m.inner.tick turn.load
-        → t.inner.tick ≡ m.inner.tick + 1 → Slice turn.count (with_keys m turn.load) first end t
+        → has_living m ≡ true → AreLater m.processes.tick turn.load
+        → t.processes.tick ≡ m.processes.tick + 1
+        → Slice turn.count (with_keys m turn.load) first end t
         → ComesTo (turns ++ turn ∷ []) s (states ++ first) (written ++ console_bytes t.terms)
         (record t { terms = terminals_emptied t.terms }) }
     ensures stop { (turns : List Turn) (s m : State) (states : List State) (written : List ℕ)

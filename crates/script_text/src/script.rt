@@ -1,7 +1,8 @@
 ghost use Rattle.std.specs.Prelude.{◌≡◌, ◌≤◌, ◌<◌, ◌++◌, Ok, Err, IfOk, IfSome, Option, false, map};
 ghost use Rattle.script_text.specs.Fault.{OnLine};
 ghost use Rattle.script_text.specs.Lines.{line_words};
-ghost use Rattle.script_text.specs.Script.{terminal_of, byte_of, is_skipped as is_skipped_lem, bytes_of, tick_of, key_at, keys_of, line_keys, AreKeys};
+ghost use Rattle.script_text.specs.Script as model;
+ghost use Rattle.script_text.specs.Script.{terminal_of, byte_of, bytes_of, tick_of, key_at, keys_of, line_keys, AreKeys};
 ghost use Rattle.script_text.specs.Reached.{read_keys, count_up_to, reached_with, IsReachable};
 
 use crate::fault::LineFault;
@@ -146,7 +147,7 @@ fn push_bytes(keys: &mut Vec<ScriptKey>, line: KeyLine) -> Result<(), AllocError
 
 // Reads a line that is not skipped, up to its bytes, if it is not refused there.
 fn read_line<'a>(terminals: u8, line: &'a [u8]) -> Option<KeyLine<'a>>
-    requires { is_skipped_lem line.now ≡ false }
+    requires { model.is_skipped line.now ≡ false }
     ensures keys { read_keys result ≡ line_keys terminals line.now }
     ensures early { IfSome result (λ read. read.tick ≤ 1000000) }
     ensures terminal { IfSome result (λ read. read.term < terminals) }
@@ -182,7 +183,7 @@ fn count_bytes(words: Words, most: u32) -> Option<u32>
 
 // Is the line skipped? It is empty, or begins with `#`.
 fn is_skipped(line: &[u8]) -> bool
-    ensures { result ≡ is_skipped_lem line.now }
+    ensures { result ≡ model.is_skipped line.now }
 {
     match line {
         [] => true,

@@ -2,7 +2,8 @@ ghost use Rattle.std.specs.Prelude.{◌≡◌, ◌≤◌, ◌*◌, ◌++◌, Ok,
 ghost use Rattle.std.specs.List.{flat_map, position_or_len};
 ghost use Rattle.script_text.specs.Fault.{OnLine};
 ghost use Rattle.script_text.specs.Lines.{line_words};
-ghost use Rattle.script_text.specs.Slices.{slices_of, slice_number as slice_number_lem, word_slices, line_slices, is_asterisk, AreSlices};
+ghost use Rattle.script_text.specs.Slices as model;
+ghost use Rattle.script_text.specs.Slices.{slices_of, word_slices, line_slices, is_asterisk, AreSlices};
 ghost use Rattle.script_text.specs.Totals.{total_with, IsWithinLimits};
 
 use crate::fault::LineFault;
@@ -160,7 +161,7 @@ fn first_asterisk(word: &[u8]) -> usize
 
 // The number that the digits spell, if it is from 1 to 1,000,000.
 fn slice_number(digits: &[u8]) -> Option<u32>
-    ensures number { result ≡ slice_number_lem digits.now }
+    ensures number { result ≡ model.slice_number digits.now }
     ensures most { IfSome result (λ number. number ≤ 1000000) }
 {
     read_number(digits, 1, MOST)

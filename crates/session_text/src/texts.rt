@@ -4,7 +4,7 @@ ghost use Rattle.std.specs.Prelude.{◌≡◌, ◌++◌, ◌<◌, ◌+◌, ◌-�
 ghost use Rattle.std.specs.List.{flat_map};
 ghost use Rattle.script_text.specs.Script.{AreKeys};
 ghost use Rattle.session_text.specs.Texts.{byte_word, script_line, script_text, slice_text, FitsTexts, HasBytes, IsByte};
-ghost use Rattle.session_text.specs.Texts.{hex_digit as hex_digit_model, line_fits as line_fits_model};
+ghost use Rattle.session_text.specs.Texts as model;
 ghost use Rattle.session_text.specs.Typed.{keys_of_parts};
 
 use crate::typed::{SLICE, Typed, TypedPart};
@@ -52,7 +52,7 @@ fn lines_fit(lines: &[TypedPart]) -> bool
 /// Can a script give the keys of a part after others, if it has room for this number of keys, and
 /// the last of the others is due in this tick?
 fn line_fits(line: &TypedPart, room: u64, last: u32) -> bool
-    ensures { result ≡ line_fits_model line.now room last }
+    ensures { result ≡ model.line_fits line.now room last }
 {
     (line.bytes.len() as u64) < room && last <= line.tick && line.tick <= LAST_TICK
 }
@@ -125,7 +125,7 @@ fn push_byte(text: &mut Vec<u8>, byte: u8) -> Result<(), AllocError>
 /// A hexadecimal digit.
 fn hex_digit(value: u8) -> u8
     requires { value < 16 }
-    ensures { result ≡ hex_digit_model value }
+    ensures { result ≡ model.hex_digit value }
 {
     if value < 10 {
         b'0' + value

@@ -7,7 +7,7 @@ use Rattle.proc_model.specs.Memory.{MemoryState, map_at, mapped_objects}
 use Rattle.proc_model.specs.ModuleList.{entered_groups}
 use Rattle.proc_model.specs.Objects.{slot_of, object_byte, object_cells}
 use Rattle.proc_model.specs.Slots.{Slots, no_slots, blocks_in}
-use Rattle.call_rules.specs.Inner.{cells_at}
+use Rattle.call_rules.specs.Processes.{cells_at}
 use Rattle.memory_laws.proofs.Living.{has_number}
 use Rattle.machine_model.specs.State.{State}
 use Rattle.state_laws.specs.Numbers.{Lives, renumbered_map, IsRenumbered, DifferInNumbersAlone}
@@ -79,5 +79,5 @@ module _ (m n : MemoryState) (same : IsRenumbered m n) (process address : ℕ) w
       ∙ ap (option_and_then (object_byte n.objects (address % 8192))) (slot-renumbered same.new places (address / 8192))
       ∙ by-slot (slot_of places (address / 8192)) refl
 
-pub cells-same : (s t : State) (process address : ℕ) → DifferInNumbersAlone s t → cells_at t.inner process address ≡ cells_at s.inner process address
-cells-same s t process address differ = object-cells-same s.inner.memory t.inner.memory differ.memory process address
+pub cells-same : (s t : State) (process address : ℕ) → DifferInNumbersAlone s t → cells_at t.processes process address ≡ cells_at s.processes process address
+cells-same s t process address differ = object-cells-same s.processes.memory t.processes.memory differ.memory process address

@@ -2,7 +2,7 @@
 use Rattle.std.proofs.Common.{◌≡◌, ◌∙◌, option_map, sym, ap}
 use Rattle.os9_base.specs.declared.registers.Pid.{Pid}
 use Rattle.proc_model.specs.Memory.{MemoryState}
-use Rattle.call_rules.specs.Inner.{Inner, with_memory}
+use Rattle.call_rules.specs.Processes.{Processes, with_memory}
 use Rattle.file_rules.specs.Files.{Files}
 use Rattle.machine_model.specs.State.{State}
 use Rattle.os9_kernel.specs.Outside.{Outside}
@@ -14,9 +14,9 @@ use Rattle.state_laws.proofs.Objects.{memories-differ}
 
 module _ (kernel : Kernel) (devices : Outside) (s t : State) (stands : Represents kernel devices s) (stands_too : Represents kernel devices t) where
   -- the state that the kernel stands for, by its processes and its files
-  abbrev state_of : Inner → Files → State
-  state_of inner files = record {
-    inner = inner;
+  abbrev state_of : Processes → Files → State
+  state_of processes files = record {
+    processes = processes;
     files = files;
     clock = kernel.clock;
     chosen = option_map (λ (p : Pid). p.0) kernel.chosen;
@@ -24,23 +24,23 @@ module _ (kernel : Kernel) (devices : Outside) (s t : State) (stands : Represent
   }
 
   abbrev memory : MemoryState
-  memory = t.inner.memory
+  memory = t.processes.memory
 
   same_files : t.files ≡ s.files
   same_files = files-one kernel.files devices.drives t.files s.files stands_too.files stands.files
 
-  rest : t ≡ record s { inner = with_memory s.inner memory }
+  rest : t ≡ record s { processes = with_memory s.processes memory }
   rest =
       stands_too.is
-      ∙ ap (λ (files : Files). state_of t.inner files) same_files
-      ∙ ap (λ (inner : Inner). state_of inner s.files) stands_too.inner.is
-      ∙ sym (ap (λ (inner : Inner). state_of (with_memory inner memory) s.files) stands.inner.is)
-      ∙ sym (ap (λ (state : State). record state { inner = with_memory s.inner memory }) stands.is)
+      ∙ ap (λ (files : Files). state_of t.processes files) same_files
+      ∙ ap (λ (processes : Processes). state_of processes s.files) stands_too.processes.is
+      ∙ sym (ap (λ (processes : Processes). state_of (with_memory processes memory) s.files) stands.processes.is)
+      ∙ sym (ap (λ (state : State). record state { processes = with_memory s.processes memory }) stands.is)
 
   pub representation-is-unique : DifferInNumbersAlone s t
   representation-is-unique = record {
     memory = memories-differ kernel.processes.memory.pool kernel.processes.memory.maps.items
-        kernel.processes.memory.dir kernel.processes.memory.sound s.inner.memory memory stands.inner.memory
-        stands_too.inner.memory;
+        kernel.processes.memory.dir kernel.processes.memory.sound s.processes.memory memory stands.processes.memory
+        stands_too.processes.memory;
     rest = rest;
   }

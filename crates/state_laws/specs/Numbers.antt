@@ -3,7 +3,7 @@
 use Rattle.std.specs.Prelude.{◌≡◌, ℕ, true, option_map, List, map, slice_get}
 use Rattle.proc_model.specs.Memory.{MemoryState, is_living_object}
 use Rattle.proc_model.specs.Slots.{Slots}
-use Rattle.call_rules.specs.Inner.{with_memory}
+use Rattle.call_rules.specs.Processes.{with_memory}
 use Rattle.memory_laws.specs.Renaming.{renamed_modules}
 use Rattle.machine_model.specs.State.{State}
 
@@ -33,5 +33,5 @@ pub record IsRenumbered (m n : MemoryState) : Type 0 where
 -- Two states differ only in the numbers of objects: their memories do, and all else is equal, including the volumes
 -- that are mounted on the drives and the bytes that were put on terminals.
 pub record DifferInNumbersAlone (s t : State) : Type 0 where
-  pub memory : IsRenumbered s.inner.memory t.inner.memory
-  pub rest : t ≡ record s { inner = with_memory s.inner t.inner.memory }
+  pub memory : IsRenumbered s.processes.memory t.processes.memory
+  pub rest : t ≡ record s { processes = with_memory s.processes t.processes.memory }

@@ -2,7 +2,7 @@
 #![tactic(auto)]
 
 ghost use Rattle.std.specs.Prelude.{◌≡◌, ℕ};
-ghost use Rattle.call_rules.specs.Inner.{cells_at};
+ghost use Rattle.call_rules.specs.Processes.{cells_at};
 ghost use Rattle.machine_model.specs.State.{State};
 ghost use Rattle.os9_kernel.specs.declared.kernel.Kernel.{Kernel};
 ghost use Rattle.os9_kernel.specs.Outside.{Outside};
@@ -20,5 +20,5 @@ pub fn representation_is_unique()
 /// address.
 pub fn numbers_of_objects_are_not_seen()
     ensures { (s t : State) (process address : ℕ) → DifferInNumbersAlone s t
-        → cells_at t.inner process address ≡ cells_at s.inner process address }
+        → cells_at t.processes process address ≡ cells_at s.processes process address }
 {}

@@ -3,7 +3,7 @@ use Rattle.std.proofs.Common.{◌≡◌, ◌⊎◌, ℕ, Bool, true, false, Opti
 use Rattle.std.proofs.lemmas.Option.{none-some, same_Some}
 use Rattle.os9_base.specs.declared.registers.TimePacket.{TimePacket}
 use Rattle.call_rules.specs.CallResult.{CallResult, done, ends, refused, waits}
-use Rattle.call_rules.specs.Inner.{Inner, regs_at}
+use Rattle.call_rules.specs.Processes.{Processes, regs_at}
 use Rattle.call_rules.specs.Ready.{attempts, act_of}
 use Rattle.call_rules.specs.declared.proc_call.ProcCall.TheVariants as Call
 use Rattle.io_rules.specs.Again.{path_number}
@@ -34,14 +34,14 @@ use Rattle.stream_laws.proofs.GoesOn.{GoesOn, chain-attempt-goes, fork-attempt-g
 -- ---- a call on paths, files and directories
 
 -- a call that moves bytes of a path on a terminal or a pipe
-abbrev pub NamesDevice : Io → ℕ → Inner → IoCall → Type 0
+abbrev pub NamesDevice : Io → ℕ → Processes → IoCall → Type 0
 NamesDevice io p m call =
     (way : Direction) × (direction_of_call call ≡ Some way) × (opened : OpenPath) × (open_path io p (path_number call (regs_at m p)) ≡ Some opened) × IsDevice opened.desc.target
 
 -- it moves no byte of them
 abbrev MovesNoByte : Attempt → Type 0
 MovesNoByte it =
-    (call : IoCall) → device_call it.call ≡ Some call → NamesDevice it.files.io it.process it.inner call → ⊥
+    (call : IoCall) → device_call it.call ≡ Some call → NamesDevice it.files.io it.process it.processes call → ⊥
 
 -- and touches none of them, or waits for a record
 record IsQuiet (it : Attempt) : Type 0 where
@@ -103,9 +103,9 @@ device-or-quiet it = by_device (device_call it.call) refl
 -- the process attempts no call that moves bytes of a terminal or a pipe
 abbrev pub AttemptsNoMove : State → ℕ → Type 0
 AttemptsNoMove s p =
-    (code : ℕ) (call : IoCall) → act_of s.inner p ≡ attempts code → io_call_of code ≡ Some call → NamesDevice s.files.io p s.inner call → ⊥
+    (code : ℕ) (call : IoCall) → act_of s.processes p ≡ attempts code → io_call_of code ≡ Some call → NamesDevice s.files.io p s.processes call → ⊥
 
-pub none-moves : (s : State) (p : ℕ) → AttemptsNone (act_of s.inner p) → AttemptsNoMove s p
+pub none-moves : (s : State) (p : ℕ) → AttemptsNone (act_of s.processes p) → AttemptsNoMove s p
 none-moves s p none code call next coded names = none code call next coded
 
 -- terminals and pipes are as they were
@@ -121,7 +121,7 @@ stays-same old new is =
 pub record IsOnDevice (code : ℕ) (s : State) (p : ℕ) (result : CallResult) (rest : Rest) : Type 0 where
   pub call : IoCall
   pub coded : io_call_of code ≡ Some call
-  pub attempt : IoAttempts call s.inner s.files.io (length s.files.drives) p result rest.files.io s.terms rest.terms
+  pub attempt : IoAttempts call s.processes s.files.io (length s.files.drives) p result rest.files.io s.terms rest.terms
 
 -- what it leaves of input and output: terminals and pipes as they were, or the process has ended
 abbrev pub StaysOrEnds : State → ℕ → CallResult → Io → Type 0
@@ -134,16 +134,16 @@ pub record IsAside (s : State) (p : ℕ) (result : CallResult) (rest : Rest) : T
   pub io : StaysOrEnds s p result rest.files.io
   pub moves : AttemptsNoMove s p
 
-over-goes : (inner : Inner) (p : ℕ) (result : CallResult) → IsOver inner p result → GoesOn result
-over-goes inner p result (inl it) = subst GoesOn (sym it.is) tt
-over-goes inner p result (inr (number, is)) = subst GoesOn (sym is) tt
+over-goes : (processes : Processes) (p : ℕ) (result : CallResult) → IsOver processes p result → GoesOn result
+over-goes processes p result (inl it) = subst GoesOn (sym it.is) tt
+over-goes processes p result (inr (number, is)) = subst GoesOn (sym is) tt
 
-time-goes : (m : Inner) (p : ℕ) (step : TimeStep) → GoesOn (time_result m p step)
+time-goes : (m : Processes) (p : ℕ) (step : TimeStep) → GoesOn (time_result m p step)
 time-goes m p (time_refused number) = tt
 time-goes m p (tells at packet) = tt
 time-goes m p (sets clock) = tt
 
-module _ (s : State) (p code : ℕ) (next : act_of s.inner p ≡ attempts code) (now : TimePacket) (rest : Rest) where
+module _ (s : State) (p code : ℕ) (next : act_of s.processes p ≡ attempts code) (now : TimePacket) (rest : Rest) where
   no-call : io_call_of code ≡ None → AttemptsNoMove s p
   no-call none other call next_too coded names =
       none-some call (sym none ∙ ap io_call_of (sym (same-code other code (sym next_too ∙ next))) ∙ coded)
@@ -174,19 +174,20 @@ module _ (s : State) (p code : ℕ) (next : act_of s.inner p ≡ attempts code) 
 
   pub served : (service : Service) (result : CallResult) → io_call_of code ≡ device_of service → Serves service s now p result rest → Comes result
   served loads result asked (files, it, is) =
-      let left = load-leaves s.inner (asker_of s.inner p now) s.files (length s.terms) p result files it in
-      inr (aside files result is (inl (stays-same s.files.io files.io left.io, load-goes s.inner p (asker_of s.inner p now) s.files (length s.terms) result files it)) asked)
+      let left = load-leaves s.processes (asker_of s.processes p now) s.files (length s.terms) p result files it in
+      inr (aside files result is (inl (stays-same s.files.io files.io left.io, load-goes s.processes p (asker_of s.processes p now) s.files (length s.terms) result files it)) asked)
   served (on_processes Call.Fork) result asked (files, it, is) =
-      let left = fork-leaves s.inner (asker_of s.inner p now) s.files (length s.terms) p result files it in
-      inr (aside (files_after_fork files p result) result is (fork-stays files result left.io (fork-attempt-goes s.inner p (asker_of s.inner p now) s.files (length s.terms) result files it)) asked)
+      let left = fork-leaves s.processes (asker_of s.processes p now) s.files (length s.terms) p result files it in
+      inr (aside (files_after_fork files p result) result is (fork-stays files result left.io (fork-attempt-goes s.processes p (asker_of s.processes p now) s.files (length s.terms) result files it))
+          asked)
   served (on_processes Call.Chain) result asked (files, it, is) =
-      let left = chain-leaves s.inner (asker_of s.inner p now) s.files (length s.terms) p result files it in
-      inr (aside files result is (inl (stays-same s.files.io files.io left.io, chain-attempt-goes s.inner p (asker_of s.inner p now) s.files (length s.terms) result files it)) asked)
+      let left = chain-leaves s.processes (asker_of s.processes p now) s.files (length s.terms) p result files it in
+      inr (aside files result is (inl (stays-same s.files.io files.io left.io, chain-attempt-goes s.processes p (asker_of s.processes p now) s.files (length s.terms) result files it)) asked)
   served (on_processes call) result asked it =
       inr (aside (files_after_call s.files p result) result it.1 (call-stays result) asked)
   served (on_time call) result asked (clock, it, is) = inr (record {
     terms = ap (λ (rest : Rest). rest.terms) is;
-    io = inl (stays-same s.files.io rest.files.io (ap (λ (rest : Rest). rest.files.io) is), subst GoesOn (sym it.result_is) (time-goes s.inner p (time_step call s.inner now p)));
+    io = inl (stays-same s.files.io rest.files.io (ap (λ (rest : Rest). rest.files.io) is), subst GoesOn (sym it.result_is) (time-goes s.processes p (time_step call s.processes now p)));
     moves = no-call asked;
   })
   served (on_paths call) result asked (it, same) = by_touch (device-or-quiet attempt)
@@ -194,7 +195,7 @@ module _ (s : State) (p code : ℕ) (next : act_of s.inner p ≡ attempts code) 
       attempt : Attempt
       attempt = record {
         call = call;
-        inner = s.inner;
+        processes = s.processes;
         files = s.files;
         now = now;
         process = p;
@@ -211,10 +212,10 @@ module _ (s : State) (p code : ℕ) (next : act_of s.inner p ≡ attempts code) 
 
       by_none : AttemptsNoMove s p → TouchesNone attempt ⊎ WaitsOnRecord attempt → Comes result
       by_none moves (inl none) =
-          let kept : KeepsIo p s.files.io rest.files.io = io-kept s.inner s.files p result rest.files s.terms rest.terms none in
+          let kept : KeepsIo p s.files.io rest.files.io = io-kept s.processes s.files p result rest.files s.terms rest.terms none in
           inr (record {
             terms = none.terminals;
-            io = inl (record { pipes = kept.pipes; terminals = kept.terminals }, over-goes s.inner p result none.over);
+            io = inl (record { pipes = kept.pipes; terminals = kept.terminals }, over-goes s.processes p result none.over);
             moves = moves;
           })
       by_none moves (inr waiting) = inr (record {

@@ -10,7 +10,7 @@ use Rattle.proc_rules.specs.Records.{free_process}
 use Rattle.call_rules.specs.CallResult.{CallResult, changes, done, ends, needs, refused, refuses, waits}
 use Rattle.call_rules.specs.Chain.{begun_anew, f_chain, with_program}
 use Rattle.call_rules.specs.Fork.{f_fork, forked_regs, with_child}
-use Rattle.call_rules.specs.Inner.{Inner, cells_at, own_at, regs_at, with_memory, with_regs_of}
+use Rattle.call_rules.specs.Processes.{Processes, cells_at, own_at, regs_at, with_memory, with_regs_of}
 use Rattle.call_rules.specs.Link.{Mapped, after_link, links_at, mapped_group}
 use Rattle.call_rules.specs.ModuleLinks.{Entered, found_entry, without_primary_link}
 use Rattle.call_rules.specs.Program.{Program, area_pages, asks_for_program, blocks_of_pages, most_pages, program_kind, is_unreadable, module_name, name_at_x, reads_program}
@@ -39,7 +39,7 @@ of-changes : (change : Result MemoryState MemoryFault) (next : MemoryState → C
 of-changes (Ok memory) next goes = goes memory
 of-changes (Err fault) next goes = tt
 
-module _ (m : Inner) (p : ℕ) where
+module _ (m : Processes) (p : ℕ) where
   -- ---- a program that is entered
 
   module _ (next : Program → CallResult) (goes : (program : Program) → GoesOn (next program)) where
@@ -108,15 +108,15 @@ module _ (m : Inner) (p : ℕ) where
 
 -- ---- a program of a file
 
-goes-loaded : (m : Inner) (reading : Result ProgramFile ℕ) (next : ProgramFile → Loaded → CallResult)
+goes-loaded : (m : Processes) (reading : Result ProgramFile ℕ) (next : ProgramFile → Loaded → CallResult)
     (result : CallResult) → ((file : ProgramFile) (loaded : Loaded) → GoesOn (next file loaded))
     → GoesOnLoaded m reading next result → GoesOn result
 goes-loaded m (Err number) next result goes is = subst GoesOn (sym is) tt
 goes-loaded m (Ok file) next result goes (Err number, loads, is) = subst GoesOn (sym is) tt
 goes-loaded m (Ok file) next result goes (Ok loaded, loads, is) = subst GoesOn (sym is) (goes file loaded)
 
-module _ (m : Inner) (p : ℕ) where
-  first-goes : (start : Inner → ℕ → Program → CallResult) → ((n : Inner) (program : Program)
+module _ (m : Processes) (p : ℕ) where
+  first-goes : (start : Processes → ℕ → Program → CallResult) → ((n : Processes) (program : Program)
       → GoesOn (start n p program)) → (file : ProgramFile) (loaded : Loaded)
       → GoesOn (starts_first start m p file loaded)
   first-goes start goes file loaded =

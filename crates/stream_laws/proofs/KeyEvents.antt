@@ -9,7 +9,7 @@ use Rattle.proc_model.specs.MemoryChanges.{stored}
 use Rattle.call_rules.specs.Attempts.{after_attempt}
 use Rattle.call_rules.specs.CallResult.{CallResult, done, waits, ends}
 use Rattle.call_rules.specs.Delivery.{delivered}
-use Rattle.call_rules.specs.Inner.{Inner, regs_at}
+use Rattle.call_rules.specs.Processes.{Processes, regs_at}
 use Rattle.call_rules.specs.Ready.{Act, attempts, delivers, executes, act_of}
 use Rattle.io_model.specs.Edit.{Editing, Typing}
 use Rattle.io_model.specs.Terminal.{Terminal, reader, typed}
@@ -81,18 +81,18 @@ module _ (s : State) (p n : ℕ) (chosen : s.chosen ≡ Some p) (has : HasAhead 
   Drops end io = StopsReading n p s end → IsReader s.files.io p n → (terminal_at io n).reading ≡ None
 
   -- a process that attempts a call, or executes, and does not end, goes on reading
-  attempt-reads : (end : EventEnd) (code : ℕ) → act_of s.inner p ≡ attempts code → (end ≡ Ended → ⊥) → StopsReading n p s end → ⊥
+  attempt-reads : (end : EventEnd) (code : ℕ) → act_of s.processes p ≡ attempts code → (end ≡ Ended → ⊥) → StopsReading n p s end → ⊥
   attempt-reads end code next going (inl ended_it) = going ended_it
   attempt-reads end code next going (inr (signal, is, on)) = attempts-delivers code signal (sym next ∙ is)
 
-  instruction-reads : (end : EventEnd) → act_of s.inner p ≡ executes → (end ≡ Ended → ⊥) → StopsReading n p s end → ⊥
+  instruction-reads : (end : EventEnd) → act_of s.processes p ≡ executes → (end ≡ Ended → ⊥) → StopsReading n p s end → ⊥
   instruction-reads end next going (inl ended_it) = going ended_it
   instruction-reads end next going (inr (signal, is, on)) = executes-delivers signal (sym next ∙ is)
 
   -- an attempt of a read that uses no key ends as it may
   abbrev Reads_none : State → Type 0
   Reads_none t =
-      (q : ℕ) (kind : ReadKind) → s.chosen ≡ Some q → ReadsFrom s q n kind → EndsIn s q (UsesNone n (caller_of s.inner q) s.files.io) t × (t.inner.memory ≡ s.inner.memory)
+      (q : ℕ) (kind : ReadKind) → s.chosen ≡ Some q → ReadsFrom s q n kind → EndsIn s q (UsesNone n (caller_of s.processes q) s.files.io) t × (t.processes.memory ≡ s.processes.memory)
 
   attempts-none : (t : State) → AttemptsNoMove s p → Reads_none t
   attempts-none t none q kind chosen_is it =
@@ -107,8 +107,8 @@ module _ (s : State) (p n : ℕ) (chosen : s.chosen ≡ Some p) (has : HasAhead 
             here.path.2,
       ))
     where
-      named : (kind : ReadKind) (opened : OpenPath) → open_path s.files.io p (regs_at s.inner p).a ≡ Some opened
-          → open_path s.files.io p (path_number (read_call kind) (regs_at s.inner p)) ≡ Some opened
+      named : (kind : ReadKind) (opened : OpenPath) → open_path s.files.io p (regs_at s.processes p).a ≡ Some opened
+          → open_path s.files.io p (path_number (read_call kind) (regs_at s.processes p)) ≡ Some opened
       named Bytes opened is = is
       named WholeLine opened is = is
 
@@ -136,11 +136,11 @@ module _ (s : State) (p n : ℕ) (chosen : s.chosen ≡ Some p) (has : HasAhead 
   stopped end t it drops come none =
       left end t (left-for (ReaderStops n p s end) (Causes end t) n s.files.io t.files.io (λ stops. inl stops) it) drops come (attempts-none t none)
 
-  module _ (code : ℕ) (call : IoCall) (result : CallResult) (rest : Rest) (next : act_of s.inner p ≡ attempts code)
-      (coded : io_call_of code ≡ Some call) (attempt : IoAttempts call s.inner s.files.io (length s.files.drives) p
+  module _ (code : ℕ) (call : IoCall) (result : CallResult) (rest : Rest) (next : act_of s.processes p ≡ attempts code)
+      (coded : io_call_of code ≡ Some call) (attempt : IoAttempts call s.processes s.files.io (length s.files.drives) p
       result rest.files.io s.terms rest.terms) (end : EventEnd) (over : end ≡ call_event_end result) where
     abbrev last : State
-    last = with_rest s (after_attempt s.inner p result) rest
+    last = with_rest s (after_attempt s.processes p result) rest
 
     terminals-then : rest.files.io.terminals ≡ attempt.effect.io.terminals
     terminals-then = ap (λ (io : Io). io.terminals) attempt.state
@@ -150,12 +150,12 @@ module _ (s : State) (p n : ℕ) (chosen : s.chosen ≡ Some p) (has : HasAhead 
 
     come-then : keys_to_come last n ≡ keys_to_come s n
     come-then =
-        does-come call (caller_of s.inner p) s.files.io n has.within s.terms rest.terms (step_of call s.inner p s.files.io (length s.files.drives) s.terms) attempt.effect attempt.does
+        does-come call (caller_of s.processes p) s.files.io n has.within s.terms rest.terms (step_of call s.processes p s.files.io (length s.files.drives) s.terms) attempt.effect attempt.does
 
     ends-in : (Counts : IoEnd → Type 0) → Counts attempt.effect.end → EndsIn s p Counts last
     ends-in Counts counts = record {
       effect = attempt.effect;
-      inner = ap (after_attempt s.inner p) attempt.result_is;
+      processes = ap (after_attempt s.processes p) attempt.result_is;
       io = attempt.state;
       counts = counts;
     }
@@ -167,62 +167,62 @@ module _ (s : State) (p n : ℕ) (chosen : s.chosen ≡ Some p) (has : HasAhead 
     }
 
     -- how its read ends
-    read-ends : (request : Reading) (made : Typing) (over : IoEnd) → attempt.effect.at ≡ (regs_at s.inner p).x
-        → result ≡ result_by over s.inner p attempt.effect → Ends (Failed s.terms rest.terms n) (caller_of s.inner p)
+    read-ends : (request : Reading) (made : Typing) (over : IoEnd) → attempt.effect.at ≡ (regs_at s.processes p).x
+        → result ≡ result_by over s.processes p attempt.effect → Ends (Failed s.terms rest.terms n) (caller_of s.processes p)
         made request (terminal_at attempt.effect.io n) attempt.effect.bytes over → ReadEnds n s p request made last
         over
     read-ends request made (answers regs) at is (ended, counted, bytes, goes) = (
       ended,
       counted,
-      ap (λ (result : CallResult). (after_attempt s.inner p result).memory) is ∙ (λ i. stored s.inner.memory p (at i) (bytes i)),
+      ap (λ (result : CallResult). (after_attempt s.processes p result).memory) is ∙ (λ i. stored s.processes.memory p (at i) (bytes i)),
       goes-then made.line goes,
     )
     read-ends request made (fails number) at is (cause, goes) =
-        (cause, goes-then made.line goes, ap (λ (result : CallResult). (after_attempt s.inner p result).memory) is)
+        (cause, goes-then made.line goes, ap (λ (result : CallResult). (after_attempt s.processes p result).memory) is)
     read-ends request made (keeps kept) at is (unfinished, line, reading, ahead, none) = (
       unfinished,
       ap (λ (t : Terminal). t.line) terminal-then ∙ line,
       ap (λ (t : Terminal). t.reading) terminal-then ∙ reading,
       ap (λ (t : Terminal). t.ahead) terminal-then ∙ ahead,
-      ap (λ (result : CallResult). (after_attempt s.inner p result).memory) is ∙ ap (stored s.inner.memory p attempt.effect.at) none,
+      ap (λ (result : CallResult). (after_attempt s.processes p result).memory) is ∙ ap (stored s.processes.memory p attempt.effect.at) none,
     )
 
-    by_moved : Moved call (caller_of s.inner p) s.files.io n s.terms rest.terms attempt.effect → Comes end last
+    by_moved : Moved call (caller_of s.processes p) s.files.io n s.terms rest.terms attempt.effect → Comes end last
     by_moved (inl (it, unused)) = left end last (record {
       terminal =
           subst (TermLeft (Causes end last) (terminal_at s.files.io n)) (sym terminal-then)
-          (term-for (WriteRefused call (caller_of s.inner p) s.files.io attempt.effect.end s.terms rest.terms n)
+          (term-for (WriteRefused call (caller_of s.processes p) s.files.io attempt.effect.end s.terms rest.terms n)
           (Causes end last) (terminal_at s.files.io n) (terminal_at attempt.effect.io n) write-fails it.terminal);
       places = ap (length {A = Terminal}) terminals-then ∙ it.places;
     }) (λ stops reads_it. absurd (attempt-reads end code next (goes-on-ended attempt.effect.end attempt.result_is) stops)) come-then reads_none
       where
-        memory-then : (over : IoEnd) → result ≡ result_by over s.inner p attempt.effect → attempt.effect.bytes ≡ [] → last.inner.memory ≡ s.inner.memory
+        memory-then : (over : IoEnd) → result ≡ result_by over s.processes p attempt.effect → attempt.effect.bytes ≡ [] → last.processes.memory ≡ s.processes.memory
         memory-then (answers regs) is none =
-            ap (λ (result : CallResult). (after_attempt s.inner p result).memory) is ∙ ap (stored s.inner.memory p attempt.effect.at) none
-        memory-then (fails number) is none = ap (λ (result : CallResult). (after_attempt s.inner p result).memory) is
+            ap (λ (result : CallResult). (after_attempt s.processes p result).memory) is ∙ ap (stored s.processes.memory p attempt.effect.at) none
+        memory-then (fails number) is none = ap (λ (result : CallResult). (after_attempt s.processes p result).memory) is
         memory-then (keeps kept) is none =
-            ap (λ (result : CallResult). (after_attempt s.inner p result).memory) is ∙ ap (stored s.inner.memory p attempt.effect.at) none
+            ap (λ (result : CallResult). (after_attempt s.processes p result).memory) is ∙ ap (stored s.processes.memory p attempt.effect.at) none
 
-        here : (kind : ReadKind) → ReadsFrom s p n kind → EndsIn s p (UsesNone n (caller_of s.inner p) s.files.io) last × (last.inner.memory ≡ s.inner.memory)
+        here : (kind : ReadKind) → ReadsFrom s p n kind → EndsIn s p (UsesNone n (caller_of s.processes p) s.files.io) last × (last.processes.memory ≡ s.processes.memory)
         here kind on =
             let same_code : on.attempted.0 ≡ code = same-code on.attempted.0 code (sym on.attempted.1 ∙ next) in
             let same_call : call ≡ read_call kind = same_Some call (read_call kind) (sym coded ∙ ap io_call_of (sym same_code) ∙ on.attempted.2) in
             let it = unused kind same_call on.path in
-            (ends-in (UsesNone n (caller_of s.inner p) s.files.io) it.0, memory-then attempt.effect.end attempt.result_is it.1)
+            (ends-in (UsesNone n (caller_of s.processes p) s.files.io) it.0, memory-then attempt.effect.end attempt.result_is it.1)
 
         reads_none : Reads_none last
         reads_none q kind chosen_is on =
             let same : q ≡ p = same_Some q p (sym chosen_is ∙ chosen) in
-            subst (λ (q : ℕ). EndsIn s q (UsesNone n (caller_of s.inner q) s.files.io) last ×
-            (last.inner.memory ≡ s.inner.memory)) (sym same)
+            subst (λ (q : ℕ). EndsIn s q (UsesNone n (caller_of s.processes q) s.files.io) last ×
+            (last.processes.memory ≡ s.processes.memory)) (sym same)
             (here kind (subst (λ (q : ℕ). ReadsFrom s q n kind) same on))
 
-        goes-on-ended : (it : IoEnd) → result ≡ result_by it s.inner p attempt.effect → end ≡ Ended → ⊥
+        goes-on-ended : (it : IoEnd) → result ≡ result_by it s.processes p attempt.effect → end ≡ Ended → ⊥
         goes-on-ended (answers regs) is ended_it = ran-ended (sym (over ∙ ap call_event_end is) ∙ ended_it)
         goes-on-ended (fails number) is ended_it = ran-ended (sym (over ∙ ap call_event_end is) ∙ ended_it)
         goes-on-ended (keeps kept) is ended_it = waits-ended (sym (over ∙ ap call_event_end is) ∙ ended_it)
 
-        write-fails : WriteRefused call (caller_of s.inner p) s.files.io attempt.effect.end s.terms rest.terms n → Causes end last
+        write-fails : WriteRefused call (caller_of s.processes p) s.files.io attempt.effect.end s.terms rest.terms n → Causes end last
         write-fails (way, path, refuses_it, failed) = inr (record {
           call = call;
           attempted = (code, next, coded);
@@ -234,7 +234,7 @@ module _ (s : State) (p n : ℕ) (chosen : s.chosen ≡ Some p) (has : HasAhead 
     by_moved (inr (kind, call_is, path, places, at, (keys, uses))) =
         let front : ahead_at s n ≡ keys ++ ahead_at last n = uses.front ∙ ap (λ (t : Terminal). keys ++ t.ahead) (sym terminal-then) in
         let fewer : length (ahead_at s n) ≡ length keys + length (ahead_at last n) = ap (length {A = ℕ}) front ∙ length-append keys (ahead_at last n) in
-        let request : Reading = reading_of kind s.files.io p (regs_at s.inner p) in
+        let request : Reading = reading_of kind s.files.io p (regs_at s.processes p) in
         let made : Typing = typed request (terminal_at s.files.io n).line keys in (
           use_up keys,
           record {
@@ -256,18 +256,18 @@ module _ (s : State) (p n : ℕ) (chosen : s.chosen ≡ Some p) (has : HasAhead 
 
     io-comes : Comes end last
     io-comes =
-        by_moved (does-moves call (caller_of s.inner p) s.files.io n has.within s.terms rest.terms (step_of call s.inner p s.files.io (length s.files.drives) s.terms) attempt.effect gives
-        (step-reads call (λ (new : Io). new.terminals ≡ s.files.io.terminals) (caller_of s.inner p) s.files.io (length s.files.drives) (length s.terms) gives)
-        (step-writes call (λ (new : Io). new.terminals ≡ s.files.io.terminals) (caller_of s.inner p) s.files.io (length s.files.drives) (length s.terms) gives) attempt.does)
+        by_moved (does-moves call (caller_of s.processes p) s.files.io n has.within s.terms rest.terms (step_of call s.processes p s.files.io (length s.files.drives) s.terms) attempt.effect gives
+        (step-reads call (λ (new : Io). new.terminals ≡ s.files.io.terminals) (caller_of s.processes p) s.files.io (length s.files.drives) (length s.terms) gives)
+        (step-writes call (λ (new : Io). new.terminals ≡ s.files.io.terminals) (caller_of s.processes p) s.files.io (length s.files.drives) (length s.terms) gives) attempt.does)
       where
-        gives : StepGives call (λ (new : Io). new.terminals ≡ s.files.io.terminals) (caller_of s.inner p) s.files.io (step_of call s.inner p s.files.io (length s.files.drives) s.terms)
+        gives : StepGives call (λ (new : Io). new.terminals ≡ s.files.io.terminals) (caller_of s.processes p) s.files.io (step_of call s.processes p s.files.io (length s.files.drives) s.terms)
         gives =
-            step-gives call (λ (new : Io). new.terminals ≡ s.files.io.terminals) (caller_of s.inner p) s.files.io
+            step-gives call (λ (new : Io). new.terminals ≡ s.files.io.terminals) (caller_of s.processes p) s.files.io
             (length s.files.drives) (length s.terms) (record {
               same = refl;
               pipes = λ pipes. refl;
               dup = refl;
-              close = closed-terminals s.files.io p (regs_at s.inner p).a;
+              close = closed-terminals s.files.io p (regs_at s.processes p).a;
               on_terminal = λ terminal there. refl;
               on_pipe = λ pipe free. refl;
             })
@@ -290,7 +290,7 @@ module _ (s : State) (p n : ℕ) (chosen : s.chosen ≡ Some p) (has : HasAhead 
     instruction-leaves (Calls code regs) over = unchanged-by s.files.io refl
     instruction-leaves (Aborts status) over = ended-by over
 
-    delivery-leaves : (signal : ℕ) → act_of s.inner p ≡ delivers signal → (result : Result Inner ℕ) → end ≡ delivery_end result → Leaves (files_after_delivery s.files p result).io
+    delivery-leaves : (signal : ℕ) → act_of s.processes p ≡ delivers signal → (result : Result Processes ℕ) → end ≡ delivery_end result → Leaves (files_after_delivery s.files p result).io
     delivery-leaves signal next (Ok t) over =
         left-for (IsReader s.files.io p n) (ReaderStops n p s end) n s.files.io (io_interrupted s.files.io p)
         (λ reads_it. record { reads = reads_it; stops = inr (signal, next) }) (interrupted-left n s.files.io p)
@@ -299,14 +299,14 @@ module _ (s : State) (p n : ℕ) (chosen : s.chosen ≡ Some p) (has : HasAhead 
     runs-on : (it : EventEnd) → end ≡ it → (it ≡ Ended → ⊥) → end ≡ Ended → ⊥
     runs-on it over going ended_it = going (sym over ∙ ended_it)
 
-    instruction-drops : act_of s.inner p ≡ executes → (outcome : Outcome) → end ≡ instruction_end outcome → Drops end (files_after_instruction s.files p outcome).io
+    instruction-drops : act_of s.processes p ≡ executes → (outcome : Outcome) → end ≡ instruction_end outcome → Drops end (files_after_instruction s.files p outcome).io
     instruction-drops next (Done effect) over =
         λ stops reads_it. absurd (instruction-reads end next (runs-on Ran over ran-ended) stops)
     instruction-drops next (Calls code regs) over =
         λ stops reads_it. absurd (instruction-reads end next (runs-on Ran over ran-ended) stops)
     instruction-drops next (Aborts status) over = λ stops reads_it. ended-drops n s.files.io p reads_it
 
-    delivery-drops : (result : Result Inner ℕ) → end ≡ delivery_end result → Drops end (files_after_delivery s.files p result).io
+    delivery-drops : (result : Result Processes ℕ) → end ≡ delivery_end result → Drops end (files_after_delivery s.files p result).io
     delivery-drops (Ok t) over = by_stop
       where
         by_stop : Drops end (io_interrupted s.files.io p)
@@ -322,10 +322,10 @@ module _ (s : State) (p n : ℕ) (chosen : s.chosen ≡ Some p) (has : HasAhead 
     going-on (ends status) over goes = absurd goes
 
     -- an attempt beside terminals and pipes
-    aside-comes : (code : ℕ) (result : CallResult) (rest : Rest) → end ≡ call_event_end result → act_of s.inner p ≡
-        attempts code → IsAside s p result rest → Comes end (with_rest s (after_attempt s.inner p result) rest)
+    aside-comes : (code : ℕ) (result : CallResult) (rest : Rest) → end ≡ call_event_end result → act_of s.processes p ≡
+        attempts code → IsAside s p result rest → Comes end (with_rest s (after_attempt s.processes p result) rest)
     aside-comes code result rest over next it =
-        stopped end (with_rest s (after_attempt s.inner p result) rest) (leaves it.io) (drops it.io) (ap (λ (terms : List TerminalState). come_of terms n) it.terms) it.moves
+        stopped end (with_rest s (after_attempt s.processes p result) rest) (leaves it.io) (drops it.io) (ap (λ (terms : List TerminalState). come_of terms n) it.terms) it.moves
       where
         leaves : StaysOrEnds s p result rest.files.io → Leaves rest.files.io
         leaves (inl (stays, goes)) = unchanged-by rest.files.io stays.terminals
@@ -337,24 +337,24 @@ module _ (s : State) (p n : ℕ) (chosen : s.chosen ≡ Some p) (has : HasAhead 
         drops (inr (status, is, gone)) =
             subst (Drops end) (sym gone) (λ stops reads_it. ended-drops n s.files.io p reads_it)
 
-    call-comes : (code : ℕ) (result : CallResult) (rest : Rest) → end ≡ call_event_end result → act_of s.inner p ≡
+    call-comes : (code : ℕ) (result : CallResult) (rest : Rest) → end ≡ call_event_end result → act_of s.processes p ≡
         attempts code → IsOnDevice code s p result rest ⊎ IsAside s p result rest
-        → Comes end (with_rest s (after_attempt s.inner p result) rest)
+        → Comes end (with_rest s (after_attempt s.processes p result) rest)
     call-comes code result rest over next (inl on) = io-comes code on.call result rest next on.coded on.attempt end over
     call-comes code result rest over next (inr it) = aside-comes code result rest over next it
 
-    acts-come : (act : Act) (t : State) → act_of s.inner p ≡ act → Acts act s p end t → Comes end t
+    acts-come : (act : Act) (t : State) → act_of s.processes p ≡ act → Acts act s p end t → Comes end t
     acts-come executes t next (over, is) =
-        subst (Comes end) (sym is) (stopped end _ (instruction-leaves (next_instruction s.inner p) over)
-        (instruction-drops next (next_instruction s.inner p) over) refl
-        (none-moves s p (none-executing (act_of s.inner p) next)))
+        subst (Comes end) (sym is) (stopped end _ (instruction-leaves (next_instruction s.processes p) over)
+        (instruction-drops next (next_instruction s.processes p) over) refl
+        (none-moves s p (none-executing (act_of s.processes p) next)))
     acts-come (delivers signal) t next (over, is) =
         subst (Comes end) (sym is)
         (stopped end _ (delivery-leaves signal next (delivered (before_delivery s p) p signal) over)
         (delivery-drops (delivered (before_delivery s p) p signal) over) refl
-        (none-moves s p (none-delivering (act_of s.inner p) signal next)))
+        (none-moves s p (none-delivering (act_of s.processes p) signal next)))
     acts-come (attempts code) t next (result, rest, (now, is_now, it), over, is) =
         subst (Comes end) (sym is) (call-comes code result rest over next (served s p code next now rest (service_of code) result (device-asked code) it))
 
 pub event-keys : (s t : State) (end : EventEnd) (n : ℕ) → Event s end t → HasAhead n s → (move : KeyMove) × EventKeys n s end move t × HasAhead n t
-event-keys s t end n (p, chosen, lives, acts) has = acts-come s p n chosen has end (act_of s.inner p) t refl acts
+event-keys s t end n (p, chosen, lives, acts) has = acts-come s p n chosen has end (act_of s.processes p) t refl acts

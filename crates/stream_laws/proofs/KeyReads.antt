@@ -7,7 +7,7 @@ use Rattle.std.proofs.lemmas.Option.{same_Some}
 use Rattle.os9_base.specs.declared.calls.TheConstants.{I_READ, I_READLN}
 use Rattle.os9_base.specs.declared.errors.TheConstants.{E_BPADDR, E_BPNUM, E_BMODE, E_EOF, E_UNKSVC, E_WRITE}
 use Rattle.call_rules.specs.UserBytes.{user_bytes}
-use Rattle.io_model.specs.declared.kept.Kept.{Kept}
+use Rattle.io_model.specs.declared.pending.PendingCall.{PendingCall}
 use Rattle.io_model.specs.declared.path.Target.{Target}
 use Rattle.io_model.specs.declared.path.Target.TheVariants.{File, Folder, Term, Pipe}
 use Rattle.io_model.specs.declared.terminal.ReadKind.{ReadKind}
@@ -16,7 +16,7 @@ use Rattle.io_model.specs.declared.terminal.Reading.{Reading}
 use Rattle.io_model.specs.declared.terminal.TheConstants.{TYPE_AHEAD}
 use Rattle.io_rules.specs.Attempts.{io_step}
 use Rattle.io_rules.specs.Codes.{direction_of_call}
-use Rattle.io_rules.specs.Io.{Io, OpenPath, kept_at, open_path}
+use Rattle.io_rules.specs.Io.{Io, OpenPath, pending_at, open_path}
 use Rattle.io_rules.specs.Modes.{can_read}
 use Rattle.io_rules.specs.Read.{reads_path, reads_target}
 use Rattle.io_rules.specs.Step.{Caller, IoStep, answers, refused, comes, reads, writes, leaves, needs, refuses, done, TerminalRead}
@@ -75,11 +75,11 @@ module _ (kind : ReadKind) (code : ℕ) (caller : Caller) (io : Io) where
   Is step = StepReads (read_call kind) caller io step
 
   asked-is : (opened : OpenPath) → (call_now caller io code opened caller.regs.y).count ≡ asked_by io caller.process.0 caller.regs
-  asked-is opened = by_kept (kept_at io caller.process.0)
+  asked-is opened = by_kept (pending_at io caller.process.0)
     where
-      by_kept : (place : Option Kept) → (unwrap_or place (first_call code opened caller.regs.y)).count ≡ (option_map_or (λ (kept : Kept). kept.count) place caller.regs.y)
+      by_kept : (place : Option PendingCall) → (unwrap_or place (first_call code opened caller.regs.y)).count ≡ (option_map_or (λ (pending : PendingCall). pending.count) place caller.regs.y)
       by_kept None = refl
-      by_kept (Some kept) = refl
+      by_kept (Some pending) = refl
 
   on-target : (opened : OpenPath) → open_path io caller.process.0 caller.regs.a ≡ Some opened → (target : Target)
       → opened.desc.target ≡ target → Is (reads_target kind caller io (call_now caller io code opened caller.regs.y)

@@ -5,7 +5,7 @@ use Rattle.std.proofs.lemmas.List.{get_or-replicate, length-append, length-take}
 use Rattle.os9_outer.specs.TerminalState.{TerminalState}
 use Rattle.os9_outer.specs.declared.terminal.Key.{Key}
 use Rattle.proc_rules.specs.declared.turn.Turn.{Turn}
-use Rattle.call_rules.specs.Inner.{Inner}
+use Rattle.call_rules.specs.Processes.{Processes}
 use Rattle.io_model.specs.Pipe.{Flows}
 use Rattle.io_model.proofs.PipeLemmas.{flows-in_order}
 use Rattle.io_model.specs.Terminal.{Terminal, key_bytes, new_terminal, typed_bytes}
@@ -30,7 +30,7 @@ use Rattle.stream_laws.proofs.KeyEvents.{event-keys}
 
 pub tick-keys : (s t : State) (n : ℕ) → Tick s t → HasAhead n s → (keys : List Key) × KeysArrive n s keys t × HasAhead n t
 tick-keys s t n (desk, arrives, is) has =
-    let it : Polled n (s.inner.tick + 1) (desk_of s) desk = arrivals-polled n (s.inner.tick + 1) 0 (length s.terms) (desk_of s) desk has.within has.few arrives in (
+    let it : Polled n (s.processes.tick + 1) (desk_of s) desk = arrivals-polled n (s.processes.tick + 1) 0 (length s.terms) (desk_of s) desk has.within has.few arrives in (
       it.keys,
       record {
         come =
@@ -55,24 +55,25 @@ tick-keys s t n (desk, arrives, is) has =
 -- ---- what stays from one step to the next
 
 stands-same : (s : State) → Stands s s
-stands-same s = record { io = refl; come = λ n. refl; inner = refl }
+stands-same s = record { io = refl; come = λ n. refl; processes = refl }
 
 stands-then : (s m t : State) → Stands s m → Stands m t → Stands s t
 stands-then s m t one two = record {
   io = two.io ∙ one.io;
   come = λ n. two.come n ∙ one.come n;
-  inner = two.inner ∙ ap (λ (inner : Inner). let next : Inner = record inner { order = t.inner.order } in next) one.inner;
+  processes = two.processes ∙ ap (λ (processes : Processes). let next : Processes = record processes { order = t.processes.order } in next) one.processes;
 }
 
 stands-choice : (s t : State) → Choose s t → Stands s t
 stands-choice s t is = record {
   io = ap (λ (t : State). t.files.io) is;
   come = λ n. ap (λ (t : State). keys_to_come t n) is;
-  inner = by_choice t is;
+  processes = by_choice t is;
 }
   where
-    by_choice : (t : State) → Choose s t → t.inner ≡ record s.inner { order = t.inner.order }
-    by_choice t is = ap (λ (t : State). t.inner) is ∙ ap (λ (order : List Turn). let next : Inner = record s.inner { order = order } in next) (sym (ap (λ (t : State). t.inner.order) is))
+    by_choice : (t : State) → Choose s t → t.processes ≡ record s.processes { order = t.processes.order }
+    by_choice t is = ap (λ (t : State). t.processes) is
+        ∙ ap (λ (order : List Turn). let next : Processes = record s.processes { order = order } in next) (sym (ap (λ (t : State). t.processes.order) is))
 
 follow-from : (s m : State) (steps : List KeyStep) (t : State) → Stands s m → FollowOn m steps t → FollowOn s steps t
 follow-from s m [] t stands linked = stands-then s m t stands linked
@@ -135,7 +136,7 @@ keeps-event n s m states t end stay event stays (it, has) = (
 -- ---- slices and runs
 
 stands-emptied : (m : State) → Stands m (record m { terms = terminals_emptied m.terms })
-stands-emptied m = record { io = refl; come = λ n. come-emptied m.terms n; inner = refl }
+stands-emptied m = record { io = refl; come = λ n. come-emptied m.terms n; processes = refl }
 
 -- a state with the same input and output
 has-same : (n : ℕ) (s m : State) → m.files.io ≡ s.files.io → HasAhead n s → HasAhead n m

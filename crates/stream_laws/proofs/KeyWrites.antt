@@ -4,13 +4,13 @@ use Rattle.std.specs.Prelude.{ℕ, if◌then◌else◌}
 use Rattle.os9_base.specs.declared.calls.TheConstants.{I_WRITE, I_WRITLN, F_PERR}
 use Rattle.os9_base.specs.declared.errors.TheConstants.{E_BPADDR, E_BPNUM, E_BMODE}
 use Rattle.call_rules.specs.UserBytes.{user_bytes}
-use Rattle.io_model.specs.declared.kept.Kept.{Kept}
+use Rattle.io_model.specs.declared.pending.PendingCall.{PendingCall}
 use Rattle.io_model.specs.declared.path.Target.{Target}
 use Rattle.io_model.specs.declared.path.Target.TheVariants.{File, Folder, Term, Pipe}
 use Rattle.io_rules.specs.Again.{path_number}
 use Rattle.io_rules.specs.Attempts.{io_step}
 use Rattle.io_rules.specs.Codes.{direction_of_call}
-use Rattle.io_rules.specs.Io.{Io, OpenPath, kept_at, open_path}
+use Rattle.io_rules.specs.Io.{Io, OpenPath, pending_at, open_path}
 use Rattle.io_rules.specs.Modes.{can_write}
 use Rattle.io_rules.specs.Step.{Caller, IoStep, refused, comes, reads, writes, needs, refuses, done}
 use Rattle.io_rules.specs.Transfer.{call_now, on_path, unless_nothing}
@@ -36,7 +36,7 @@ module _ (call : IoCall) (caller : Caller) (io : Io) where
   abbrev Is : IoStep → Type 0
   Is step = StepWrites call caller io step
 
-  on-target : (sending : Sending) (now : Kept) (opened : OpenPath) → open_path io caller.process.0
+  on-target : (sending : Sending) (now : PendingCall) (opened : OpenPath) → open_path io caller.process.0
       (path_number call caller.regs) ≡ Some opened → (target : Target) → opened.desc.target ≡ target
       → Is (writes_target sending caller io now target)
   on-target sending now opened is (File drive sector) on = tt
@@ -97,7 +97,7 @@ pub step-writes : (call : IoCall) (P : Io → Type 0) (caller : Caller) (io : Io
 step-writes Call.Write P caller io drives terms gives =
     send-writes Call.Write caller io (sent_bytes caller) I_WRITE (user_bytes caller.cells caller.regs.x caller.regs.y)
 step-writes Call.WritLn P caller io drives terms gives =
-    send-writes Call.WritLn caller io (sent_line caller) I_WRITLN (line_bytes caller (kept_at io caller.process.0))
+    send-writes Call.WritLn caller io (sent_line caller) I_WRITLN (line_bytes caller (pending_at io caller.process.0))
 step-writes Call.PErr P caller io drives terms gives = error-writes Call.PErr caller io
 step-writes Call.Read P caller io drives terms gives = other-writes Call.Read P caller io read-writes (io_step Call.Read caller io drives terms) gives
 step-writes Call.ReadLn P caller io drives terms gives = other-writes Call.ReadLn P caller io read-writes (io_step Call.ReadLn caller io drives terms) gives

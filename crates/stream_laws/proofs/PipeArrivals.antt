@@ -8,7 +8,7 @@ use Rattle.os9_base.specs.declared.registers.Regs.{Regs}
 use Rattle.proc_rules.specs.declared.record.Record.{Record}
 use Rattle.proc_rules.specs.Records.{new_record, record_at}
 use Rattle.proc_rules.specs.Signals.{after_send, send_fault, wake_signal, with_signal}
-use Rattle.call_rules.specs.Inner.{Inner, regs_at}
+use Rattle.call_rules.specs.Processes.{Processes, regs_at}
 use Rattle.io_rules.specs.Arrivals.{ArrivesFrom, Desk, after_key_signal, every_user}
 use Rattle.io_rules.specs.Io.{Io}
 
@@ -40,26 +40,26 @@ pub record DeskRests (old new : Desk) : Type 0 where
   pub pipes : new.io.pipes ≡ old.io.pipes
   pub paths : new.io.paths ≡ old.io.paths
   pub calls : new.io.calls ≡ old.io.calls
-  pub memory : new.inner.memory ≡ old.inner.memory
-  pub regs : (p : ℕ) → regs_at new.inner p ≡ regs_at old.inner p
+  pub memory : new.processes.memory ≡ old.processes.memory
+  pub regs : (p : ℕ) → regs_at new.processes p ≡ regs_at old.processes p
 
-key-memory : (inner : Inner) (user : Option Pid) (signal : Option ℕ) → (after_key_signal inner user signal).memory ≡ inner.memory
-key-memory inner None signal = refl
-key-memory inner (Some process) None = refl
-key-memory inner (Some process) (Some signal) = refl
+key-memory : (processes : Processes) (user : Option Pid) (signal : Option ℕ) → (after_key_signal processes user signal).memory ≡ processes.memory
+key-memory processes None signal = refl
+key-memory processes (Some process) None = refl
+key-memory processes (Some process) (Some signal) = refl
 
-key-regs : (inner : Inner) (user : Option Pid) (signal : Option ℕ) (p : ℕ) → regs_at (after_key_signal inner user signal) p ≡ regs_at inner p
-key-regs inner None signal p = refl
-key-regs inner (Some process) None p = refl
-key-regs inner (Some process) (Some signal) p = sent-regs inner.records every_user process.0 signal p
+key-regs : (processes : Processes) (user : Option Pid) (signal : Option ℕ) (p : ℕ) → regs_at (after_key_signal processes user signal) p ≡ regs_at processes p
+key-regs processes None signal p = refl
+key-regs processes (Some process) None p = refl
+key-regs processes (Some process) (Some signal) p = sent-regs processes.records every_user process.0 signal p
 
 pub arrivals-rest : (tick k count : ℕ) (old new : Desk) → ArrivesFrom tick k count old new → DeskRests old new
 arrivals-rest tick k zero old new is = record {
   pipes = ap (λ (desk : Desk). desk.io.pipes) is;
   paths = ap (λ (desk : Desk). desk.io.paths) is;
   calls = ap (λ (desk : Desk). desk.io.calls) is;
-  memory = ap (λ (desk : Desk). desk.inner.memory) is;
-  regs = λ p. ap (λ (desk : Desk). regs_at desk.inner p) is;
+  memory = ap (λ (desk : Desk). desk.processes.memory) is;
+  regs = λ p. ap (λ (desk : Desk). regs_at desk.processes p) is;
 }
 arrivals-rest tick k (suc count) old new (between, here, later) =
     let rest : DeskRests between new = arrivals-rest tick (k + 1) count between new later in
@@ -68,7 +68,7 @@ arrivals-rest tick k (suc count) old new (between, here, later) =
       paths = rest.paths ∙ ap (λ (io : Io). io.paths) here.io;
       calls = rest.calls ∙ ap (λ (io : Io). io.calls) here.io;
       memory =
-          rest.memory ∙ ap (λ (inner : Inner). inner.memory) here.signal ∙ key-memory old.inner here.terminal.user here.answer.signal;
+          rest.memory ∙ ap (λ (processes : Processes). processes.memory) here.signal ∙ key-memory old.processes here.terminal.user here.answer.signal;
       regs =
-          λ p. rest.regs p ∙ ap (λ (inner : Inner). regs_at inner p) here.signal ∙ key-regs old.inner here.terminal.user here.answer.signal p;
+          λ p. rest.regs p ∙ ap (λ (processes : Processes). regs_at processes p) here.signal ∙ key-regs old.processes here.terminal.user here.answer.signal p;
     }

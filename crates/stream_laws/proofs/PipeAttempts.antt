@@ -3,7 +3,7 @@ use Rattle.std.proofs.Common.{◌≡◌, ℕ, zero, suc, Option, Some, None, Lis
 use Rattle.os9_outer.specs.TerminalState.{TerminalState}
 use Rattle.proc_model.specs.MemoryChanges.{stored}
 use Rattle.call_rules.specs.Attempts.{after_attempt}
-use Rattle.call_rules.specs.Inner.{Inner}
+use Rattle.call_rules.specs.Processes.{Processes}
 use Rattle.io_model.specs.Path.{slot_of}
 use Rattle.io_model.specs.Pipe.{IsPipe, pipe_of}
 use Rattle.io_model.specs.declared.path.SysPath.{SysPath}
@@ -71,13 +71,13 @@ does-fresh call caller io n (writes write) effect before after moves does absent
     inl (ap (λ (effect : IoEffect). pipe_of effect.io.pipes n) does.effect_is ∙ absent.none)
 
 -- bytes are stored where the process sees them
-pub stores-them : (m : Inner) (p : ℕ) (effect : IoEffect) (end : IoEnd) → IsStoring end → (after_attempt m p (result_by end m p effect)).memory ≡ stored m.memory p effect.at effect.bytes
+pub stores-them : (m : Processes) (p : ℕ) (effect : IoEffect) (end : IoEnd) → IsStoring end → (after_attempt m p (result_by end m p effect)).memory ≡ stored m.memory p effect.at effect.bytes
 stores-them m p effect (answers regs) storing = refl
 stores-them m p effect (fails number) storing = absurd storing
 stores-them m p effect (keeps kept) storing = refl
 
 -- none is stored
-pub stores-none : (m : Inner) (p : ℕ) (effect : IoEffect) (end : IoEnd) → effect.bytes ≡ [] → (after_attempt m p (result_by end m p effect)).memory ≡ m.memory
+pub stores-none : (m : Processes) (p : ℕ) (effect : IoEffect) (end : IoEnd) → effect.bytes ≡ [] → (after_attempt m p (result_by end m p effect)).memory ≡ m.memory
 stores-none m p effect (answers regs) none = ap (stored m.memory p effect.at) none
 stores-none m p effect (fails number) none = refl
 stores-none m p effect (keeps kept) none = ap (stored m.memory p effect.at) none

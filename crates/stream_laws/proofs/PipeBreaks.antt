@@ -13,9 +13,9 @@ use Rattle.proc_rules.specs.Records.{IsLiving, is_waiting, record_at}
 use Rattle.proc_rules.specs.Signals.{with_signal}
 use Rattle.call_rules.specs.Attempts.{goes_on, refused_regs}
 use Rattle.call_rules.specs.Delivery.{after_delivery, delivered, frame_bytes, has_no_room, routine_begun, stack_top, with_frame}
-use Rattle.call_rules.specs.Inner.{Inner, regs_at, with_records, with_regs_of}
+use Rattle.call_rules.specs.Processes.{Processes, regs_at, with_records, with_regs_of}
 use Rattle.call_rules.specs.Ready.{Act, delivers, act_of}
-use Rattle.io_model.specs.declared.kept.Kept.{Kept}
+use Rattle.io_model.specs.declared.pending.PendingCall.{PendingCall}
 use Rattle.io_rules.specs.Io.{target_of}
 use Rattle.io_rules.specs.Waiting.{count_by, interrupted_count}
 use Rattle.event_rules.specs.declared.ends.EventEnd.{EventEnd}
@@ -26,12 +26,12 @@ use Rattle.machine_model.specs.Event.{Acts, Event, before_delivery}
 use Rattle.machine_model.specs.State.{State}
 use Rattle.stream_laws.specs.Flow.{IsBrokenOff, TellsMoved, pushed_regs, with_y}
 
-module _ (m : Inner) (p signal moved : ℕ) (lives : IsLiving m.records p) where
+module _ (m : Processes) (p signal moved : ℕ) (lives : IsLiving m.records p) where
   -- the processes as the signal finds them
-  abbrev found : Inner
+  abbrev found : Processes
   found = with_regs_of m p (record (regs_at m p) { y = moved })
 
-  abbrev taken : Inner
+  abbrev taken : Processes
   taken = with_records found (with_signal found.records p None)
 
   found-regs : regs_at found p ≡ record (regs_at m p) { y = moved }
@@ -43,7 +43,7 @@ module _ (m : Inner) (p signal moved : ℕ) (lives : IsLiving m.records p) where
   waits-still =
       ap (λ (r : Record). is_waiting r.life) (record-put m.records p (record (record_at m.records p) { regs = record (regs_at m p) { y = moved } }) (living-within m.records p lives))
 
-  abbrev Tells : Result Inner ℕ → Type 0
+  abbrev Tells : Result Processes ℕ → Type 0
   Tells result = (delivery_end result ≡ Ended) ⊎ TellsMoved m p signal moved (after_delivery found p result)
 
   -- the frame, by the registers that the process had
@@ -71,7 +71,7 @@ module _ (m : Inner) (p signal moved : ℕ) (lives : IsLiving m.records p) where
   delivery-tells : Tells (delivered found p signal)
   delivery-tells = by_intercept (record_at found.records p).intercept
     where
-      answer : Option Intercept → Result Inner ℕ
+      answer : Option Intercept → Result Processes ℕ
       answer None = Err signal
       answer (Some intercept) = if signal == 0 then Err signal else routine_begun found p intercept signal
 
@@ -83,35 +83,36 @@ module _ (m : Inner) (p signal moved : ℕ) (lives : IsLiving m.records p) where
       by_intercept None = inl refl
       by_intercept (Some intercept) = by_zero intercept (signal == 0)
 
-pub broken-tells : (s t : State) (end : EventEnd) (n p : ℕ) (kept : Kept) → Event s end t → (it : IsBrokenOff n s p kept) → (end ≡ Ended) ⊎ TellsMoved s.inner p it.signal.0 kept.moved t.inner
-broken-tells s t end n p kept (q, chosen, living, acts) it =
-    by_delivery (subst (λ (act : Act). Acts act s p end t) it.signal.1 (subst (λ (q : ℕ). Acts (act_of s.inner q) s q end t) same acts))
+pub broken-tells : (s t : State) (end : EventEnd) (n p : ℕ) (pending : PendingCall) → Event s end t → (it : IsBrokenOff n s p pending) → (end ≡ Ended)
+    ⊎ TellsMoved s.processes p it.signal.0 pending.moved t.processes
+broken-tells s t end n p pending (q, chosen, living, acts) it =
+    by_delivery (subst (λ (act : Act). Acts act s p end t) it.signal.1 (subst (λ (q : ℕ). Acts (act_of s.processes q) s q end t) same acts))
   where
     same : q ≡ p
     same = same_Some q p (sym chosen ∙ it.chosen)
 
-    counted : (read : Bool) → (kept.code == I_READ) ≡ read → (if read then None else Some kept.moved) ≡ Some kept.moved
-    counted true is = absurd (it.counts (eqb-true kept.code I_READ is))
+    counted : (read : Bool) → (pending.code == I_READ) ≡ read → (if read then None else Some pending.moved) ≡ Some pending.moved
+    counted true is = absurd (it.counts (eqb-true pending.code I_READ is))
     counted false is = refl
 
-    count : interrupted_count s.files.io p ≡ Some kept.moved
+    count : interrupted_count s.files.io p ≡ Some pending.moved
     count =
-        ap (λ (place : Option Kept). option_and_then (λ (kept : Kept). count_by kept (target_of s.files.io kept.path)) place) it.call
-        ∙ ap (count_by kept) it.on ∙ counted (kept.code == I_READ) refl
+        ap (λ (place : Option PendingCall). option_and_then (λ (pending : PendingCall). count_by pending (target_of s.files.io pending.path)) place) it.call
+        ∙ ap (count_by pending) it.on ∙ counted (pending.code == I_READ) refl
 
-    Came : Inner → Type 0
+    Came : Processes → Type 0
     Came m =
-        (delivery_end (delivered m p it.signal.0) ≡ Ended) ⊎ TellsMoved s.inner p it.signal.0 kept.moved (after_delivery m p (delivered m p it.signal.0))
+        (delivery_end (delivered m p it.signal.0) ≡ Ended) ⊎ TellsMoved s.processes p it.signal.0 pending.moved (after_delivery m p (delivered m p it.signal.0))
 
     came : Came (before_delivery s p)
     came =
-        subst Came (sym (ap (broken_off s.inner p) count)) (delivery-tells s.inner p it.signal.0 kept.moved (subst (IsLiving s.inner.records) same living))
+        subst Came (sym (ap (broken_off s.processes p) count)) (delivery-tells s.processes p it.signal.0 pending.moved (subst (IsLiving s.processes.records) same living))
 
-    by_came : end ≡ delivery_end (delivered (before_delivery s p) p it.signal.0) → t.inner ≡ after_delivery
+    by_came : end ≡ delivery_end (delivered (before_delivery s p) p it.signal.0) → t.processes ≡ after_delivery
         (before_delivery s p) p (delivered (before_delivery s p) p it.signal.0) → Came (before_delivery s p)
-        → (end ≡ Ended) ⊎ TellsMoved s.inner p it.signal.0 kept.moved t.inner
+        → (end ≡ Ended) ⊎ TellsMoved s.processes p it.signal.0 pending.moved t.processes
     by_came over is (inl ended_it) = inl (over ∙ ended_it)
-    by_came over is (inr tells) = inr (subst (TellsMoved s.inner p it.signal.0 kept.moved) (sym is) tells)
+    by_came over is (inr tells) = inr (subst (TellsMoved s.processes p it.signal.0 pending.moved) (sym is) tells)
 
-    by_delivery : Acts (delivers it.signal.0) s p end t → (end ≡ Ended) ⊎ TellsMoved s.inner p it.signal.0 kept.moved t.inner
-    by_delivery (over, is) = by_came over (ap (λ (t : State). t.inner) is) came
+    by_delivery : Acts (delivers it.signal.0) s p end t → (end ≡ Ended) ⊎ TellsMoved s.processes p it.signal.0 pending.moved t.processes
+    by_delivery (over, is) = by_came over (ap (λ (t : State). t.processes) is) came

@@ -2,7 +2,7 @@
 use Rattle.std.proofs.Common.{◌≡◌, ℕ, ◌+◌, Option, Some, None, List, [], ◌∷◌, ◌++◌, length, map, refl, sym, ap, ◌∙◌, subst}
 use Rattle.std.specs.List.{AllByRecursion}
 use Rattle.std.proofs.lemmas.List.Elements.{filter_map-append}
-use Rattle.call_rules.specs.Inner.{regs_at}
+use Rattle.call_rules.specs.Processes.{regs_at}
 use Rattle.io_model.specs.Pipe.{Flows, IsPipe, In, Movement, Out, held_bytes}
 use Rattle.io_model.proofs.PipeLemmas.{flows-in_order}
 use Rattle.io_rules.specs.Io.{pipe_bytes}
@@ -42,13 +42,13 @@ linked-then s (it ∷ first) later m t one two = (one.0, linked-then it.after fi
 
 rests-tick : (s t : State) → Tick s t → Rests s t
 rests-tick s t (desk, arrives, is) =
-    let it : DeskRests (desk_of s) desk = arrivals-rest (s.inner.tick + 1) 0 (length s.terms) (desk_of s) desk arrives in
+    let it : DeskRests (desk_of s) desk = arrivals-rest (s.processes.tick + 1) 0 (length s.terms) (desk_of s) desk arrives in
     record {
       pipes = ap (λ (t : State). t.files.io.pipes) is ∙ it.pipes;
       paths = ap (λ (t : State). t.files.io.paths) is ∙ it.paths;
       calls = ap (λ (t : State). t.files.io.calls) is ∙ it.calls;
-      memory = ap (λ (t : State). t.inner.memory) is ∙ it.memory;
-      regs = λ p. ap (λ (t : State). regs_at t.inner p) is ∙ it.regs p;
+      memory = ap (λ (t : State). t.processes.memory) is ∙ it.memory;
+      regs = λ p. ap (λ (t : State). regs_at t.processes p) is ∙ it.regs p;
     }
 
 rests-choice : (s t : State) → Choose s t → Rests s t
@@ -56,8 +56,8 @@ rests-choice s t is = record {
   pipes = ap (λ (t : State). t.files.io.pipes) is;
   paths = ap (λ (t : State). t.files.io.paths) is;
   calls = ap (λ (t : State). t.files.io.calls) is;
-  memory = ap (λ (t : State). t.inner.memory) is;
-  regs = λ p. ap (λ (t : State). regs_at t.inner p) is;
+  memory = ap (λ (t : State). t.processes.memory) is;
+  regs = λ p. ap (λ (t : State). regs_at t.processes p) is;
 }
 
 -- ---- what passes, by its parts

@@ -13,11 +13,11 @@ use Rattle.os9_base.specs.declared.registers.Regs.{Regs}
 use Rattle.user_names.specs.declared.name_fault.NameFault.{NameFault}
 use Rattle.user_names.specs.declared.name_fault.NameFault.TheVariants.{Unreadable, NoName}
 use Rattle.call_rules.specs.UserBytes.{user_bytes}
-use Rattle.io_model.specs.Kept.{count_left, is_complete, moved_on}
+use Rattle.io_model.specs.Pending.{count_left, is_complete, moved_on}
 use Rattle.io_model.specs.Line.{has_return, line_length, return_place}
 use Rattle.io_model.specs.Path.{closed_desc, slot_of, free_number, new_number, paths_after_begin, paths_after_close, paths_after_dup}
 use Rattle.io_model.specs.Pipe.{IsPipe, answer_unmoved, bytes_moved, free_pipe, held_bytes, moved_count, pipe_of, pipe_room, pipes_after_begin, read_answer, read_line_answer, with_pipe, write_answer, without_pipe}
-use Rattle.io_model.specs.declared.kept.Kept.{Kept}
+use Rattle.io_model.specs.declared.pending.PendingCall.{PendingCall}
 use Rattle.io_model.specs.declared.path.Desc.{Desc}
 use Rattle.io_model.specs.declared.path.SysPath.{SysPath}
 use Rattle.io_model.specs.declared.path.Target.{Target}
@@ -31,7 +31,7 @@ use Rattle.io_rules.specs.Alone.{is_alone}
 use Rattle.io_rules.specs.Attempts.{io_step}
 use Rattle.io_rules.specs.Close.{after_close, without_path, without_target}
 use Rattle.io_rules.specs.Codes.{direction_of_call}
-use Rattle.io_rules.specs.Io.{Io, OpenPath, kept_at, new_desc, open_path, pipe_bytes, with_paths, with_pipes}
+use Rattle.io_rules.specs.Io.{Io, OpenPath, pending_at, new_desc, open_path, pipe_bytes, with_paths, with_pipes}
 use Rattle.io_rules.specs.Lead.{Lead, to_terminal, to_pipe, nowhere, what_is_there, a_new_place, lead_of}
 use Rattle.io_rules.specs.Modes.{can_read, can_write, is_mode}
 use Rattle.io_rules.specs.Open.{begins, opened_regs, opens_lead, reads_list}
@@ -234,7 +234,7 @@ none-moved bytes count few none = sym (length-take-le count bytes few) ∙ ap (l
 abbrev pub IsStoring : IoEnd → Type 0
 IsStoring (answers regs) = Unit {0}
 IsStoring (fails number) = ⊥
-IsStoring (keeps kept) = Unit {0}
+IsStoring (keeps pending) = Unit {0}
 
 module _ (call : IoCall) (caller : Caller) (io : Io) (n : ℕ) where
   abbrev pub OnPipe : Type 0
@@ -290,17 +290,17 @@ StepMoves call caller io n (writes write) = OnPipe call caller io n → ⊥
 
 -- the call as an attempt finds it has moved what it had moved
 now-moved : (caller : Caller) (io : Io) (code count : ℕ) (opened : OpenPath) → (call_now caller io code opened count).moved ≡ moved_before io caller.process.0
-now-moved caller io code count opened = by_kept (kept_at io caller.process.0)
+now-moved caller io code count opened = by_kept (pending_at io caller.process.0)
   where
-    by_kept : (place : Option Kept) → (unwrap_or place (first_call code opened count)).moved ≡ option_map_or (λ kept. kept.moved) place 0
+    by_kept : (place : Option PendingCall) → (unwrap_or place (first_call code opened count)).moved ≡ option_map_or (λ kept. kept.moved) place 0
     by_kept None = refl
     by_kept (Some kept) = refl
 
 -- and moves what it moves in all
 now-count : (caller : Caller) (io : Io) (code : ℕ) (opened : OpenPath) (count : ℕ) → (call_now caller io code opened count).count ≡ in_all io caller.process.0 count
-now-count caller io code opened count = by_kept (kept_at io caller.process.0)
+now-count caller io code opened count = by_kept (pending_at io caller.process.0)
   where
-    by_kept : (place : Option Kept) → (unwrap_or place (first_call code opened count)).count ≡ option_map_or (λ kept. kept.count) place count
+    by_kept : (place : Option PendingCall) → (unwrap_or place (first_call code opened count)).count ≡ option_map_or (λ kept. kept.count) place count
     by_kept None = refl
     by_kept (Some kept) = refl
 
@@ -312,7 +312,7 @@ stored_by WholeLine x moved = x + moved
 module _ (call : IoCall) (caller : Caller) (io : Io) (n : ℕ) where
   -- ---- attempts on this pipe
 
-  module _ (lives : IsPipe io.pipes n) (path : OnPipe call caller io n) (now : Kept) (moved : now.moved ≡ moved_before io caller.process.0) where
+  module _ (lives : IsPipe io.pipes n) (path : OnPipe call caller io n) (now : PendingCall) (moved : now.moved ≡ moved_before io caller.process.0) where
     front-is : (answer : PipeAns) → pipe_bytes io n ≡ bytes_moved answer (pipe_bytes io n) ++ pipe_bytes (after_taking io n answer) n
     front-is answer =
         sym (take-append-drop (moved_count answer) (pipe_bytes io n)) ∙ ap (λ (rest : List ℕ). bytes_moved answer
@@ -545,7 +545,7 @@ module _ (call : IoCall) (caller : Caller) (io : Io) (n : ℕ) where
 
   takes-here : (kind : ReadKind) → direction_of_call call ≡ Some Reading
       → ((moved : ℕ) → stored_from call caller.regs moved ≡ stored_by kind caller.regs.x moved)
-      → call ≡ read_call kind → (now : Kept) → now.count ≡ in_all io caller.process.0 caller.regs.y
+      → call ≡ read_call kind → (now : PendingCall) → now.count ≡ in_all io caller.process.0 caller.regs.y
       → now.moved ≡ moved_before io caller.process.0 → HasPath (Pipe n) → IsPipe io.pipes n → Takes call caller io n
       (pipe_read kind caller io n now)
   takes-here Bytes way at is now all moved path lives =
@@ -564,7 +564,7 @@ module _ (call : IoCall) (caller : Caller) (io : Io) (n : ℕ) where
 
   read-moves : (kind : ReadKind) → direction_of_call call ≡ Some Reading
       → ((moved : ℕ) → stored_from call caller.regs moved ≡ stored_by kind caller.regs.x moved)
-      → call ≡ read_call kind → (now : Kept) → now.count ≡ in_all io caller.process.0 caller.regs.y
+      → call ≡ read_call kind → (now : PendingCall) → now.count ≡ in_all io caller.process.0 caller.regs.y
       → now.moved ≡ moved_before io caller.process.0 → (target : Target) → HasPath target → StepMoves call caller io n
       (reads_target kind caller io now target)
   read-moves kind way at is now all moved (File drive sector) path = tt
@@ -586,7 +586,7 @@ module _ (call : IoCall) (caller : Caller) (io : Io) (n : ℕ) where
 
   -- what a write sends is what its call sends
   puts-here : (sending : Sending) (sent : List ℕ) → direction_of_call call ≡ Some Writing → sent_by call caller io ≡
-      Some sent → sending.bytes ≡ sent → sending.regs ≡ write_answers call caller (length sent) → (now : Kept)
+      Some sent → sending.bytes ≡ sent → sending.regs ≡ write_answers call caller (length sent) → (now : PendingCall)
       → now.count ≡ in_all io caller.process.0 (length sent) → now.moved ≡ moved_before io caller.process.0
       → HasPath (Pipe n) → IsPipe io.pipes n → Puts call caller io n
       (writes_pipe io n now (is_alone io caller.process.0 now.path.0 Writing) sending.bytes sending.regs)
@@ -601,7 +601,7 @@ module _ (call : IoCall) (caller : Caller) (io : Io) (n : ℕ) where
       (omega (arith, left, moved, length-drop now.moved sent))))
 
   write-moves : (sending : Sending) (sent : List ℕ) → direction_of_call call ≡ Some Writing → sent_by call caller io ≡
-      Some sent → sending.bytes ≡ sent → sending.regs ≡ write_answers call caller (length sent) → (now : Kept)
+      Some sent → sending.bytes ≡ sent → sending.regs ≡ write_answers call caller (length sent) → (now : PendingCall)
       → now.count ≡ in_all io caller.process.0 (length sent) → now.moved ≡ moved_before io caller.process.0
       → (target : Target) → HasPath target → StepMoves call caller io n (writes_target sending caller io now target)
   write-moves sending sent way sends bytes_are answered now all moved (File drive sector) path = tt
@@ -799,7 +799,7 @@ step-moves Call.ReadLn caller io n drives terms =
 step-moves Call.Write caller io n drives terms =
     send-through Call.Write caller io n (sent_bytes caller) I_WRITE refl refl (λ bytes. refl) (λ bytes. refl) (user_bytes caller.cells caller.regs.x caller.regs.y) refl
 step-moves Call.WritLn caller io n drives terms =
-    send-through Call.WritLn caller io n (sent_line caller) I_WRITLN refl refl (λ bytes. refl) (λ bytes. refl) (line_bytes caller (kept_at io caller.process.0)) refl
+    send-through Call.WritLn caller io n (sent_line caller) I_WRITLN refl refl (λ bytes. refl) (λ bytes. refl) (line_bytes caller (pending_at io caller.process.0)) refl
 step-moves Call.GetStt caller io n drives terms =
     get-through Call.GetStt caller io n refl (open_path io caller.process.0 caller.regs.a)
 step-moves Call.SetStt caller io n drives terms =

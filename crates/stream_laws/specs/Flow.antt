@@ -8,16 +8,16 @@ use Rattle.proc_model.specs.MemoryChanges.{stored}
 use Rattle.proc_rules.specs.Records.{is_waiting, record_at}
 use Rattle.call_rules.specs.Attempts.{after_attempt, refused_regs}
 use Rattle.call_rules.specs.Delivery.{frame_bytes, stack_top}
-use Rattle.call_rules.specs.Inner.{Inner, regs_at}
+use Rattle.call_rules.specs.Processes.{Processes, regs_at}
 use Rattle.call_rules.specs.Ready.{attempts, delivers, act_of}
 use Rattle.call_rules.specs.UserBytes.{user_bytes}
 use Rattle.io_model.specs.Pipe.{Flows, IsPipe, Movement, In, Out, came_in, pipe_of, pipe_room, went_out}
-use Rattle.io_model.specs.declared.kept.Kept.{Kept}
+use Rattle.io_model.specs.declared.pending.PendingCall.{PendingCall}
 use Rattle.io_model.specs.declared.path.Target.TheVariants.{Pipe}
 use Rattle.io_rules.specs.Again.{path_number}
 use Rattle.io_rules.specs.Attempts.{caller_of, io_after, result_of}
 use Rattle.io_rules.specs.Codes.{direction_of_call, io_call_of}
-use Rattle.io_rules.specs.Io.{Io, OpenPath, kept_at, open_path, pipe_bytes, target_of}
+use Rattle.io_rules.specs.Io.{Io, OpenPath, pending_at, open_path, pipe_bytes, target_of}
 use Rattle.io_rules.specs.Pipes.{count_regs}
 use Rattle.io_rules.specs.Step.{Caller, IoEffect, IoEnd, answers, fails, keeps}
 use Rattle.io_rules.specs.Write.{error_line, line_bytes}
@@ -33,7 +33,7 @@ use Rattle.machine_model.specs.State.{State}
 
 -- the number of bytes that earlier attempts of a call of a process have moved
 abbrev pub moved_before : Io → ℕ → ℕ
-moved_before io p = option_map_or (λ kept. kept.moved) (kept_at io p) 0
+moved_before io p = option_map_or (λ pending. pending.moved) (pending_at io p) 0
 
 -- the address at which a read stores: I$ReadLn after what it has moved
 abbrev pub stored_from : IoCall → Regs → ℕ → ℕ
@@ -43,20 +43,20 @@ stored_from call regs moved = regs.x
 -- the bytes that a call sends in all
 abbrev pub sent_by : IoCall → Caller → Io → Option (List ℕ)
 sent_by Call.Write caller io = user_bytes caller.cells caller.regs.x caller.regs.y
-sent_by Call.WritLn caller io = line_bytes caller (kept_at io caller.process.0)
+sent_by Call.WritLn caller io = line_bytes caller (pending_at io caller.process.0)
 sent_by Call.PErr caller io = Some (error_line caller.regs.b)
 sent_by call caller io = None
 
 -- a process attempts a call that moves bytes this way, whose path was opened on this pipe
 pub record AttemptsOn (s : State) (p n : ℕ) (call : IoCall) (way : Direction) : Type 0 where
-  pub attempted : (code : ℕ) × (act_of s.inner p ≡ attempts code) × (io_call_of code ≡ Some call)
+  pub attempted : (code : ℕ) × (act_of s.processes p ≡ attempts code) × (io_call_of code ≡ Some call)
   pub way_is : direction_of_call call ≡ Some way
-  pub path : (opened : OpenPath) × (open_path s.files.io p (path_number call (regs_at s.inner p)) ≡ Some opened)
+  pub path : (opened : OpenPath) × (open_path s.files.io p (path_number call (regs_at s.processes p)) ≡ Some opened)
       × (opened.desc.target ≡ Pipe n)
 
--- the number of bytes that a call moves in all: from what is kept of it, or from its first attempt
+-- the number of bytes that a call moves in all: that of the pending call, or of its first attempt
 abbrev pub in_all : Io → ℕ → ℕ → ℕ
-in_all io p first = option_map_or (λ kept. kept.count) (kept_at io p) first
+in_all io p first = option_map_or (λ pending. pending.count) (pending_at io p) first
 
 -- the registers of the caller after a finished read that took `count` bytes in this attempt: I$ReadLn adds those of the
 -- attempts before
@@ -74,7 +74,7 @@ write_answers call caller count = count_regs caller count
 abbrev pub ReadCounts : IoCall → Caller → Io → ℕ → IoEnd → Type 0
 ReadCounts call caller io count (answers regs) = regs ≡ read_answers call caller io count
 ReadCounts call caller io count (fails number) = count ≡ 0
-ReadCounts call caller io count (keeps kept) = kept.moved ≡ moved_before io caller.process.0 + count
+ReadCounts call caller io count (keeps pending) = pending.moved ≡ moved_before io caller.process.0 + count
 
 -- the end of a write that sends these bytes and put in `count`: if it waits it has moved `count` more; if it is done it
 -- has moved all and answers their count; and if one with bytes left is refused, it still has some left
@@ -85,19 +85,19 @@ WriteCounts call caller io sent count (answers regs) =
 WriteCounts call caller io sent count (fails number) =
     moved_before io caller.process.0 < in_all io caller.process.0 (length sent)
     → moved_before io caller.process.0 + count ≢ in_all io caller.process.0 (length sent)
-WriteCounts call caller io sent count (keeps kept) = kept.moved ≡ moved_before io caller.process.0 + count
+WriteCounts call caller io sent count (keeps pending) = pending.moved ≡ moved_before io caller.process.0 + count
 
 -- The end of an attempt on a pipe that moves no byte of it: it is refused; or its call asks for none, and is done at
 -- once, with the registers with which it was made. F$PErr always sends a line.
 abbrev pub MovesNone : Caller → IoEnd → Type 0
 MovesNone caller (answers regs) = (caller.regs.y ≡ 0) × (regs ≡ caller.regs)
 MovesNone caller (fails number) = ⊤
-MovesNone caller (keeps kept) = ⊥
+MovesNone caller (keeps pending) = ⊥
 
 -- an attempt of a process with this kind of end leads to this state
 pub record EndsIn (s : State) (p : ℕ) (Counts : IoEnd → Type 0) (t : State) : Type 0 where
   pub effect : IoEffect
-  pub inner : t.inner ≡ after_attempt s.inner p (result_of s.inner p effect)
+  pub processes : t.processes ≡ after_attempt s.processes p (result_of s.processes p effect)
   pub io : t.files.io ≡ io_after p effect
   pub counts : Counts effect.end
 
@@ -109,12 +109,12 @@ pub record TakesOut (n : ℕ) (s : State) (bytes : List ℕ) (t : State) : Type 
   pub attempt : AttemptsOn s process n call Reading
   pub front : pipe_bytes s.files.io n ≡ bytes ++ pipe_bytes t.files.io n
   -- a read with a byte left to move that takes none finds none
-  pub none : bytes ≡ [] → moved_before s.files.io process < in_all s.files.io process (regs_at s.inner process).y
+  pub none : bytes ≡ [] → moved_before s.files.io process < in_all s.files.io process (regs_at s.processes process).y
       → pipe_bytes s.files.io n ≡ []
-  pub seen : t.inner.memory
-      ≡ stored s.inner.memory process
-      (stored_from call (regs_at s.inner process) (moved_before s.files.io process)) bytes
-  pub counts : EndsIn s process (ReadCounts call (caller_of s.inner process) s.files.io (length bytes)) t
+  pub seen : t.processes.memory
+      ≡ stored s.processes.memory process
+      (stored_from call (regs_at s.processes process) (moved_before s.files.io process)) bytes
+  pub counts : EndsIn s process (ReadCounts call (caller_of s.processes process) s.files.io (length bytes)) t
 
 -- a write puts bytes into a pipe, at its end: the next ones of those that its process sends
 pub record PutsIn (n : ℕ) (s : State) (bytes : List ℕ) (t : State) : Type 0 where
@@ -124,12 +124,12 @@ pub record PutsIn (n : ℕ) (s : State) (bytes : List ℕ) (t : State) : Type 0 
   pub attempt : AttemptsOn s process n call Writing
   pub behind : pipe_bytes t.files.io n ≡ pipe_bytes s.files.io n ++ bytes
   pub sent : List ℕ
-  pub sends : sent_by call (caller_of s.inner process) s.files.io ≡ Some sent
+  pub sends : sent_by call (caller_of s.processes process) s.files.io ≡ Some sent
   pub next : bytes ≡ take (length bytes) (drop (moved_before s.files.io process) sent)
   -- a write with a byte left to move that puts none in finds no room
   pub none : bytes ≡ [] → moved_before s.files.io process < length sent → pipe_room (pipe_bytes s.files.io n) ≡ 0
-  pub memory : t.inner.memory ≡ s.inner.memory
-  pub counts : EndsIn s process (WriteCounts call (caller_of s.inner process) s.files.io sent (length bytes)) t
+  pub memory : t.processes.memory ≡ s.processes.memory
+  pub counts : EndsIn s process (WriteCounts call (caller_of s.processes process) s.files.io sent (length bytes)) t
 
 -- ---- events
 
@@ -137,7 +137,7 @@ pub record PutsIn (n : ℕ) (s : State) (bytes : List ℕ) (t : State) : Type 0 
 pub record LeavesPipe (n : ℕ) (s t : State) : Type 0 where
   pub held : pipe_bytes t.files.io n ≡ pipe_bytes s.files.io n
   pub attempt : (p : ℕ) (call : IoCall) (way : Direction) → s.chosen ≡ Some p → AttemptsOn s p n call way
-      → EndsIn s p (MovesNone (caller_of s.inner p)) t × (t.inner.memory ≡ s.inner.memory)
+      → EndsIn s p (MovesNone (caller_of s.processes p)) t × (t.processes.memory ≡ s.processes.memory)
 
 -- an event moves this through a pipe, or leaves it unchanged
 abbrev pub MovesThrough : ℕ → State → Option Movement → State → Type 0
@@ -167,24 +167,25 @@ pub record IsNew (n : ℕ) (s t : State) : Type 0 where
 -- ---- signals
 
 -- a signal is delivered to a process whose call, another one than I$Read, waits on this pipe
-pub record IsBrokenOff (n : ℕ) (s : State) (p : ℕ) (kept : Kept) : Type 0 where
+pub record IsBrokenOff (n : ℕ) (s : State) (p : ℕ) (pending : PendingCall) : Type 0 where
   pub chosen : s.chosen ≡ Some p
-  pub signal : (number : ℕ) × (act_of s.inner p ≡ delivers number)
-  pub call : kept_at s.files.io p ≡ Some kept
-  pub on : target_of s.files.io kept.path ≡ Some (Pipe n)
-  pub counts : kept.code ≢ I_READ
+  pub signal : (number : ℕ) × (act_of s.processes p ≡ delivers number)
+  pub call : pending_at s.files.io p ≡ Some pending
+  pub on : target_of s.files.io pending.path ≡ Some (Pipe n)
+  pub counts : pending.code ≢ I_READ
 
 -- the registers of a process with this in Y
-abbrev pub with_y : Inner → ℕ → ℕ → Regs
-with_y inner p y = record (regs_at inner p) { y = y }
+abbrev pub with_y : Processes → ℕ → ℕ → Regs
+with_y processes p y = record (regs_at processes p) { y = y }
 
 -- the registers that are pushed for the routine of its intercept: a pending call ends as refused with the signal
-abbrev pub pushed_regs : Inner → ℕ → ℕ → ℕ → Regs
-pushed_regs inner p signal y =
-    if is_waiting (record_at inner.records p).life then refused_regs (with_y inner p y) signal else with_y inner p y
+abbrev pub pushed_regs : Processes → ℕ → ℕ → ℕ → Regs
+pushed_regs processes p signal y =
+    if is_waiting (record_at processes.records p).life then
+        refused_regs (with_y processes p y) signal else with_y processes p y
 
 -- a frame is pushed whose Y has the number of bytes that the call has moved
-pub record TellsMoved (before : Inner) (p signal moved : ℕ) (after : Inner) : Type 0 where
+pub record TellsMoved (before : Processes) (p signal moved : ℕ) (after : Processes) : Type 0 where
   pub frame : after.memory
       ≡ stored before.memory p (stack_top (regs_at before p).s - 12) (frame_bytes (pushed_regs before p signal moved))
 
@@ -196,8 +197,8 @@ pub record Rests (m s : State) : Type 0 where
   pub pipes : s.files.io.pipes ≡ m.files.io.pipes
   pub paths : s.files.io.paths ≡ m.files.io.paths
   pub calls : s.files.io.calls ≡ m.files.io.calls
-  pub memory : s.inner.memory ≡ m.inner.memory
-  pub regs : (p : ℕ) → regs_at s.inner p ≡ regs_at m.inner p
+  pub memory : s.processes.memory ≡ m.processes.memory
+  pub regs : (p : ℕ) → regs_at s.processes p ≡ regs_at m.processes p
 
 -- each of these events begins in the state after the one before it, the first one in s, and t is the state after the
 -- last one

@@ -7,7 +7,7 @@ use Rattle.os9_base.specs.declared.errors.TheConstants.{E_EOF, E_WRITE}
 use Rattle.os9_base.specs.declared.registers.Regs.{Regs}
 use Rattle.os9_outer.specs.declared.terminal.Key.{Key}
 use Rattle.proc_model.specs.MemoryChanges.{stored}
-use Rattle.call_rules.specs.Inner.{regs_at}
+use Rattle.call_rules.specs.Processes.{regs_at}
 use Rattle.call_rules.specs.Ready.{attempts, delivers, act_of}
 use Rattle.io_model.specs.Edit.{Editing, Typing, cleared}
 use Rattle.io_model.specs.Pipe.{Flows, In, Movement, Out, came_in, went_out}
@@ -21,7 +21,7 @@ use Rattle.io_model.specs.declared.terminal.TheConstants.{TYPE_AHEAD}
 use Rattle.io_rules.specs.Again.{path_number}
 use Rattle.io_rules.specs.Attempts.{caller_of}
 use Rattle.io_rules.specs.Codes.{direction_of_call, io_call_of}
-use Rattle.io_rules.specs.Io.{Io, OpenPath, kept_at, open_path, terminal_at}
+use Rattle.io_rules.specs.Io.{Io, OpenPath, pending_at, open_path, terminal_at}
 use Rattle.io_rules.specs.Pipes.{count_regs}
 use Rattle.io_rules.specs.Step.{Caller, IoEnd, answers, fails, keeps}
 use Rattle.io_rules.specs.Waiting.{pid, wait_target}
@@ -71,15 +71,15 @@ pub record LineGoes (last : Editing) (new : Terminal) : Type 0 where
 -- the process whose read is unfinished ends in this event, or a signal is delivered to it
 pub record ReaderStops (n p : ℕ) (s : State) (end : EventEnd) : Type 0 where
   pub reads : reader (terminal_at s.files.io n) ≡ Some (pid p)
-  pub stops : (end ≡ Ended) ⊎ ((signal : ℕ) × (act_of s.inner p ≡ delivers signal))
+  pub stops : (end ≡ Ended) ⊎ ((signal : ℕ) × (act_of s.processes p ≡ delivers signal))
 
 -- a process attempts a write on a path that was opened on this terminal, and the write is refused because the terminal
 -- failed
 pub record WriteFails (n p : ℕ) (s t : State) : Type 0 where
   pub call : IoCall
-  pub attempted : (code : ℕ) × (act_of s.inner p ≡ attempts code) × (io_call_of code ≡ Some call)
+  pub attempted : (code : ℕ) × (act_of s.processes p ≡ attempts code) × (io_call_of code ≡ Some call)
   pub way_is : direction_of_call call ≡ Some Writing
-  pub path : (opened : OpenPath) × (open_path s.files.io p (path_number call (regs_at s.inner p)) ≡ Some opened)
+  pub path : (opened : OpenPath) × (open_path s.files.io p (path_number call (regs_at s.processes p)) ≡ Some opened)
       × (opened.desc.target ≡ Term n)
   pub ends : EndsIn s p (λ end. end ≡ fails E_WRITE) t
   pub faults : Rose (faults_at s n) (faults_at t n)
@@ -106,10 +106,10 @@ abbrev pub read_call : ReadKind → IoCall
 read_call Bytes = Call.Read
 read_call WholeLine = Call.ReadLn
 
--- the number of bytes that a read of a process with these registers asks for: from what is kept of it, or from Y at its
+-- the number of bytes that a read of a process with these registers asks for: that of the pending call, or Y at its
 -- first attempt
 abbrev pub asked_by : Io → ℕ → Regs → ℕ
-asked_by io p regs = option_map_or (λ kept. kept.count) (kept_at io p) regs.y
+asked_by io p regs = option_map_or (λ pending. pending.count) (pending_at io p) regs.y
 
 -- its read of this kind, as a terminal has it: it asks for 256 bytes at most
 abbrev pub reading_of : ReadKind → Io → ℕ → Regs → Reading
@@ -118,8 +118,8 @@ reading_of kind io p regs =
 
 -- a process attempts a read of this kind, whose path was opened on this terminal
 pub record ReadsFrom (s : State) (p n : ℕ) (kind : ReadKind) : Type 0 where
-  pub attempted : (code : ℕ) × (act_of s.inner p ≡ attempts code) × (io_call_of code ≡ Some (read_call kind))
-  pub path : (opened : OpenPath) × (open_path s.files.io p (regs_at s.inner p).a ≡ Some opened)
+  pub attempted : (code : ℕ) × (act_of s.processes p ≡ attempts code) × (io_call_of code ≡ Some (read_call kind))
+  pub path : (opened : OpenPath) × (open_path s.files.io p (regs_at s.processes p).a ≡ Some opened)
       × (opened.desc.target ≡ Term n)
 
 -- The end of an attempt of a read that used keys, by their effect on its line. If they ended the line, its bytes are
@@ -127,16 +127,16 @@ pub record ReadsFrom (s : State) (p n : ℕ) (kind : ReadKind) : Type 0 where
 -- the line is dropped. If they did not end it, the line stays with the read, no key is left, and the call waits.
 abbrev pub ReadEnds : ℕ → State → ℕ → Reading → Typing → State → IoEnd → Type 0
 ReadEnds n s p request made t (answers regs) =
-    (made.end ≡ Some Line) × (regs ≡ count_regs (caller_of s.inner p) (length made.line.bytes))
-    × (t.inner.memory ≡ stored s.inner.memory p (regs_at s.inner p).x made.line.bytes)
+    (made.end ≡ Some Line) × (regs ≡ count_regs (caller_of s.processes p) (length made.line.bytes))
+    × (t.processes.memory ≡ stored s.processes.memory p (regs_at s.processes p).x made.line.bytes)
     × LineGoes made.line (terminal_at t.files.io n)
 ReadEnds n s p request made t (fails number) =
     ((made.end ≡ Some EndOfFile) × (number ≡ E_EOF) ⊎ (number ≡ E_WRITE) × Rose (faults_at s n) (faults_at t n))
-    × LineGoes made.line (terminal_at t.files.io n) × (t.inner.memory ≡ s.inner.memory)
-ReadEnds n s p request made t (keeps kept) =
+    × LineGoes made.line (terminal_at t.files.io n) × (t.processes.memory ≡ s.processes.memory)
+ReadEnds n s p request made t (keeps pending) =
     (made.end ≡ None) × ((terminal_at t.files.io n).line ≡ made.line)
     × ((terminal_at t.files.io n).reading ≡ Some request)
-    × (ahead_at t n ≡ []) × (t.inner.memory ≡ s.inner.memory)
+    × (ahead_at t n ≡ []) × (t.processes.memory ≡ s.processes.memory)
 
 -- a read of the chosen process uses these keys, the next ones of the type-ahead: its line is the result of all of them,
 -- and none is after its end
@@ -146,7 +146,7 @@ pub record UsesKeys (n : ℕ) (s : State) (keys : List ℕ) (t : State) : Type 0
   pub kind : ReadKind
   pub attempt : ReadsFrom s process n kind
   pub request : Reading
-  pub request_is : request ≡ reading_of kind s.files.io process (regs_at s.inner process)
+  pub request_is : request ≡ reading_of kind s.files.io process (regs_at s.processes process)
   pub alone : is_taken request.process (terminal_at s.files.io n) ≡ false
   pub front : ahead_at s n ≡ keys ++ ahead_at t n
   pub used : (typed request (terminal_at s.files.io n).line keys).left ≡ []
@@ -157,14 +157,14 @@ pub record UsesKeys (n : ℕ) (s : State) (keys : List ℕ) (t : State) : Type 0
 abbrev pub StopsReading : ℕ → ℕ → State → EventEnd → Type 0
 StopsReading n p s end =
     (end ≡ Ended)
-    ⊎ ((signal : ℕ) × (act_of s.inner p ≡ delivers signal) × (wait_target s.files.io p ≡ Some (Term n)))
+    ⊎ ((signal : ℕ) × (act_of s.processes p ≡ delivers signal) × (wait_target s.files.io p ≡ Some (Term n)))
 
 -- The end of an attempt of a read that uses no key: it asks for no byte, and is done at once, with the registers with
 -- which it was made; it is refused with neither 211 nor 245; or it waits for the read of another process.
 abbrev pub UsesNone : ℕ → Caller → Io → IoEnd → Type 0
 UsesNone n caller io (answers regs) = (caller.regs.y ≡ 0) × (regs ≡ caller.regs)
 UsesNone n caller io (fails number) = (number ≢ E_EOF) × (number ≢ E_WRITE)
-UsesNone n caller io (keeps kept) = is_taken caller.process (terminal_at io n) ≡ true
+UsesNone n caller io (keeps pending) = is_taken caller.process (terminal_at io n) ≡ true
 
 -- no key arrives, and none is used, so an attempt of a read of this terminal ends as one that uses none; the line
 -- stays, or it is dropped for a cause, and it is dropped if the reader stops
@@ -175,7 +175,7 @@ pub record KeysStay (n : ℕ) (s : State) (end : EventEnd) (t : State) : Type 0 
   pub over : (p : ℕ) → s.chosen ≡ Some p → reader (terminal_at s.files.io n) ≡ Some (pid p) → StopsReading n p s end
       → (terminal_at t.files.io n).reading ≡ None
   pub reads : (p : ℕ) (kind : ReadKind) → s.chosen ≡ Some p → ReadsFrom s p n kind
-      → EndsIn s p (UsesNone n (caller_of s.inner p) s.files.io) t × (t.inner.memory ≡ s.inner.memory)
+      → EndsIn s p (UsesNone n (caller_of s.processes p) s.files.io) t × (t.processes.memory ≡ s.processes.memory)
 
 -- what happens to keys in a step of a run
 pub data KeyMove : Type 0 where
@@ -226,7 +226,7 @@ ahead_moves n steps = filter_map (λ it. through_ahead n it.before it.move) step
 pub record Stands (m s : State) : Type 0 where
   pub io : s.files.io ≡ m.files.io
   pub come : (n : ℕ) → keys_to_come s n ≡ keys_to_come m n
-  pub inner : s.inner ≡ record m.inner { order = s.inner.order }
+  pub processes : s.processes ≡ record m.processes { order = s.processes.order }
 
 -- each of these steps begins in the state after the one before it, the first one in s, and t is the state after the
 -- last one

@@ -2,7 +2,7 @@
 
 ghost use Rattle.std.specs.Prelude.{◌≡◌, ◌⊎◌, ℕ, List, [], ◌++◌};
 ghost use Rattle.io_model.specs.Pipe.{IsPipe};
-ghost use Rattle.io_model.specs.declared.kept.Kept.{Kept};
+ghost use Rattle.io_model.specs.declared.pending.PendingCall.{PendingCall};
 ghost use Rattle.io_rules.specs.Io.{pipe_bytes};
 ghost use Rattle.event_rules.specs.declared.ends.EventEnd.{EventEnd};
 ghost use Rattle.event_rules.specs.declared.ends.EventEnd.TheVariants.{Ended};
@@ -23,9 +23,10 @@ ghost use Rattle.stream_laws.specs.Flow.{TellsMoved, AllLive, IsBrokenOff, IsNew
 pub fn what_is_read_of_a_pipe_is_what_was_written()
     ensures event { (s t : State) (end : EventEnd) (n : ℕ) → Event s end t
         → IsPipe s.files.io.pipes n → IsPipe t.files.io.pipes n → Passes n s t }
-    ensures signal { (s t : State) (end : EventEnd) (n p : ℕ) (kept : Kept) → Event s end t
-        → (it : IsBrokenOff n s p kept)
-        → (end ≡ Ended) ⊎ TellsMoved s.inner p it.signal.0 kept.moved t.inner }
+    ensures signal { (s t : State) (end : EventEnd) (n p : ℕ) (pending : PendingCall)
+        → Event s end t
+        → (it : IsBrokenOff n s p pending)
+        → (end ≡ Ended) ⊎ TellsMoved s.processes p it.signal.0 pending.moved t.processes }
     ensures slice { (size : ℕ) (s t : State) (states : List State) (end : SliceEnd) (n : ℕ)
         → Slice size s states end t → IsPipe s.files.io.pipes n → AllLive n states
         → PassesThrough n s states t }

@@ -1,6 +1,6 @@
 -- An accepted boot file starts a machine.
 use Rattle.std.proofs.Common.{◌≡◌, ℕ, List, refl, ap, ◌∙◌, arith}
-use Rattle.call_rules.specs.Inner.{Inner}
+use Rattle.call_rules.specs.Processes.{Processes}
 use Rattle.proc_model.specs.MemoryChanges.{started}
 use Rattle.call_rules.specs.Program.{area_pages, blocks_of_pages}
 use Rattle.event_rules.specs.declared.ends.BootFault.{BootFault}
@@ -13,7 +13,7 @@ module _ (file : List ℕ) (blocks : ℕ) (accepted : IsAccepted file blocks) wh
   one-block : blocks_of_pages (area_pages accepted.entry 0 0) ≡ 1
   one-block = let few = accepted.storage in omega arith
 
-  pub starts-accepted : (m : Inner) × StartsProcesses file blocks m
+  pub starts-accepted : (m : Processes) × StartsProcesses file blocks m
   starts-accepted = (
     only_process accepted.memory (first_start accepted.number accepted.entry),
     record {

@@ -37,7 +37,7 @@ stress_setup seed = record {
 -- the line of the counts of the machine's last state, with this volume in D0: the slices that were begun, each of which
 -- is a tick, and what the volume has
 abbrev pub stress_counts : State → DiskVolume → List ℕ
-stress_counts t v = stress_line (counts_with t.inner.tick v)
+stress_counts t v = stress_line (counts_with t.processes.tick v)
 
 -- the machine ran to its end, and this is the volume of D0 then
 pub record StressRuns (seed : ℕ) (t : State) (written : List ℕ) (volume : DiskVolume) (before after : World) : Type 0

@@ -5,7 +5,8 @@ ghost use Rattle.rbf_check.specs.Tree.{IsTreeOf};
 ghost use Rattle.rbf_check.specs.Verdict.{RepresentsNone};
 ghost use Rattle.rbf_model.specs.Geometry.{image_geometry};
 ghost use Rattle.rbf_model.specs.Volume.{DiskVolume, Vol};
-ghost use Rattle.stress_run.specs.Counts.{counts_with, file_bytes as file_bytes_lem};
+ghost use Rattle.stress_run.specs.Counts as model;
+ghost use Rattle.stress_run.specs.Counts.{counts_with};
 ghost use Rattle.stress_run.specs.Nodes.{node_size};
 
 use os9_words::stress_counts::StressCounts;
@@ -40,7 +41,7 @@ pub(crate) fn count_volume(
 fn file_bytes(tree: &Tree) -> u64
     requires { (image : List ℕ) × IsTreeOf image tree.now }
     ensures { (image : List ℕ) (is : IsTreeOf image tree.now)
-        → result ≡ file_bytes_lem (image_geometry image) is.volume }
+        → result ≡ model.file_bytes (image_geometry image) is.volume }
 {
     let mut bytes = 0;
     for place in 0..tree.nodes.len() {

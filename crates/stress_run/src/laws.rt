@@ -1,7 +1,7 @@
 //! The effect of an accepted boot file, and of the boot file of a load.
 
 ghost use Rattle.std.specs.Prelude.{ℕ, List};
-ghost use Rattle.call_rules.specs.Inner.{Inner};
+ghost use Rattle.call_rules.specs.Processes.{Processes};
 ghost use Rattle.event_rules.specs.declared.ends.BootFault.{BootFault};
 ghost use Rattle.event_rules.specs.Start.{Refuses, StartsProcesses};
 ghost use Rattle.guest_mods.specs.declared.load.Load.{Load};
@@ -12,7 +12,7 @@ ghost use Rattle.guest_mods.specs.Stress.{IsLoad, stress_file};
 /// not refused.
 pub fn accepted_files_start()
     ensures starts { (file : List ℕ) (blocks : ℕ)
-        → IsAccepted file blocks → (m : Inner) × StartsProcesses file blocks m }
+        → IsAccepted file blocks → (m : Processes) × StartsProcesses file blocks m }
     ensures no_refusal { (file : List ℕ) (blocks : ℕ) (fault : BootFault)
         → IsAccepted file blocks → ¬ Refuses file blocks fault }
 {}
@@ -20,7 +20,7 @@ pub fn accepted_files_start()
 /// The boot file of every load starts a machine of 64 blocks, and is not refused.
 pub fn loads_start()
     ensures starts { (load : Load)
-        → IsLoad load → (m : Inner) × StartsProcesses (stress_file load) 64 m }
+        → IsLoad load → (m : Processes) × StartsProcesses (stress_file load) 64 m }
     ensures no_refusal { (load : Load) (fault : BootFault)
         → IsLoad load → ¬ Refuses (stress_file load) 64 fault }
 {}

@@ -9,7 +9,8 @@ ghost use Rattle.os9_kernel.specs.Outside.{outside};
 ghost use Rattle.os9_words.specs.Notes.{notes_of};
 ghost use Rattle.stress_run.specs.Disk.{IsDiskOf};
 ghost use Rattle.stress_run.specs.Stress.{StressCall, stress_setup};
-ghost use Rattle.stress_run.specs.Told.{TellsEnd, WritesCounts, end_told as end_told_lem};
+ghost use Rattle.stress_run.specs.Told as model;
+ghost use Rattle.stress_run.specs.Told.{TellsEnd, WritesCounts};
 
 use crate::counts::count_volume;
 use boot_images::boot_file::{BootFileFault, boot_file};
@@ -156,7 +157,7 @@ fn tell_end<H: Host>(alloc: Global, end: RunEnd, image: &[u8], host: &mut H) -> 
 
 /// The end of a stress, by the end of its run and the outcome of its counts.
 fn end_told(end: StressEnd, answer: Result<(), HostFault>) -> StressEnd
-    ensures { result ≡ end_told_lem end answer }
+    ensures { result ≡ model.end_told end answer }
 {
     match answer {
         Ok(()) => end,

@@ -3,12 +3,13 @@
 
 ghost use Rattle.std.specs.Prelude.{◌≡◌, ◌≤◌, length};
 ghost use Rattle.std.specs.List.{position_or_len};
-ghost use Rattle.text_values.specs.Cuts.{is_space, first_word as first_word_lem, behind_word as behind_word_lem, without_spaces as without_spaces_lem};
+ghost use Rattle.text_values.specs.Cuts as model;
+ghost use Rattle.text_values.specs.Cuts.{is_space};
 
 pub use number::{hex_digit, read_number};
 /// The line without its leading spaces.
 pub fn without_spaces(line: &[u8]) -> &[u8]
-    ensures { result.now ≡ without_spaces_lem line.now }
+    ensures { result.now ≡ model.without_spaces line.now }
 {
     let spaces = line
         .iter()
@@ -27,13 +28,13 @@ pub fn first_space(line: &[u8]) -> usize
 }
 /// The line up to its first space, the whole line if it has none.
 pub fn first_word(line: &[u8]) -> &[u8]
-    ensures { result.now ≡ first_word_lem line.now }
+    ensures { result.now ≡ model.first_word line.now }
 {
     &line[..first_space(line)]
 }
 /// The line from its first space on.
 pub fn behind_word(line: &[u8]) -> &[u8]
-    ensures { result.now ≡ behind_word_lem line.now }
+    ensures { result.now ≡ model.behind_word line.now }
 {
     &line[first_space(line)..]
 }

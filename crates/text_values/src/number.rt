@@ -1,5 +1,6 @@
 ghost use Rattle.std.specs.Prelude.{◌≡◌, ◌<◌, IfSome, option_map, min};
-ghost use Rattle.text_values.specs.Number.{number_after, number_of, within, hex_digit as hex_digit_lem};
+ghost use Rattle.text_values.specs.Number as model;
+ghost use Rattle.text_values.specs.Number.{number_after, number_of, within};
 
 // The value used for every number that does not fit 32 bits.
 const TOO_LARGE: u64 = 1 << 32;
@@ -37,7 +38,7 @@ fn capped_number(digits: &[u8]) -> Option<u64>
 
 /// The value of a hexadecimal digit of either case.
 pub fn hex_digit(byte: u8) -> Option<u8>
-    ensures number { result ≡ hex_digit_lem byte }
+    ensures number { result ≡ model.hex_digit byte }
     ensures below { IfSome result (λ number. number < 16) }
 {
     match byte {

@@ -7,7 +7,7 @@ use Rattle.os9_base.specs.declared.errors.TheConstants.{E_BADTIME, E_BPADDR}
 use Rattle.os9_base.specs.declared.registers.Regs.{Regs}
 use Rattle.os9_base.specs.declared.registers.TimePacket.{TimePacket}
 use Rattle.proc_model.specs.MemoryChanges.{stored}
-use Rattle.call_rules.specs.Inner.{Inner, regs_at, cells_at, with_memory}
+use Rattle.call_rules.specs.Processes.{Processes, regs_at, cells_at, with_memory}
 use Rattle.call_rules.specs.UserBytes.{user_bytes}
 use Rattle.civil_time.specs.CivilTime.{is_time_packet}
 use Rattle.civil_time.proofs.Next.{later-packet}
@@ -24,7 +24,7 @@ use Rattle.time_rules.specs.declared.time_call.TimeCall.TheVariants as Call
 use Rattle.time_calls.specs.Attempt.{Attempts, AttemptsNow, step_end}
 
 -- an attempt whose step is known
-attempt-of : (call : TimeCall) (m : Inner) (clock new : Clock) (now : TimePacket) (p : ℕ) (step : TimeStep) (end : CallEnd)
+attempt-of : (call : TimeCall) (m : Processes) (clock new : Clock) (now : TimePacket) (p : ℕ) (step : TimeStep) (end : CallEnd)
     (s : ProcState) → time_step call m now p ≡ step → Comes m p (result_of m p step) end s
     → new ≡ clock_after clock step → Attempts call m clock now p end s new
 attempt-of call m clock new now p step end s is comes set = record {
@@ -37,11 +37,11 @@ attempt-of call m clock new now p step end s is comes set = record {
 }
 
 -- the tick is that of the kernel's processes
-pub tick_seen : (s : ProcState) (m : Inner) → Represents s m → s.tick ≡ m.tick
-tick_seen s m tied = sym (ap (λ (i : Inner). i.tick) tied.is)
+pub tick_seen : (s : ProcState) (m : Processes) → Represents s m → s.tick ≡ m.tick
+tick_seen s m tied = sym (ap (λ (i : Processes). i.tick) tied.is)
 
 -- an attempt that is the same at any time is one at the time that the clock shows
-pub at-any-time : (call : TimeCall) (m : Inner) (clock new : Clock) (p : ℕ) (end : CallEnd) (s : ProcState)
+pub at-any-time : (call : TimeCall) (m : Processes) (clock new : Clock) (p : ℕ) (end : CallEnd) (s : ProcState)
     → IsClock clock m.tick → ((now : TimePacket) → Attempts call m clock now p end s new)
     → AttemptsNow call m clock p end s new
 at-any-time call m clock new p end s is attempts =
@@ -60,7 +60,7 @@ told-by : (bytes : Option (List ℕ)) (at : ℕ) (now : TimePacket) → is_some 
 told-by None at now is = absurd (cc)
 told-by (Some bytes) at now is = refl
 
-pub time-refused : (m : Inner) (clock : Clock) (now : TimePacket) (p : ℕ) (regs : Regs) (s : ProcState)
+pub time-refused : (m : Processes) (clock : Clock) (now : TimePacket) (p : ℕ) (regs : Regs) (s : ProcState)
     → regs ≡ regs_at m p → is_some (user_bytes (cells_at m p) regs.x 6) ≡ false → Represents s m
     → Attempts Call.Time m clock now p (Error E_BPADDR) s clock
 time-refused m clock now p regs s at missing tied =
@@ -69,7 +69,7 @@ time-refused m clock now p regs s at missing tied =
     attempt-of Call.Time m clock clock now p (refused E_BPADDR) (Error E_BPADDR) s
     (refused-by (user_bytes (cells_at m p) (regs_at m p).x 6) (regs_at m p).x now is) (refl, tied) refl
 
-pub time-told : (m : Inner) (clock : Clock) (now : TimePacket) (p : ℕ) (regs : Regs) (s : ProcState)
+pub time-told : (m : Processes) (clock : Clock) (now : TimePacket) (p : ℕ) (regs : Regs) (s : ProcState)
     → regs ≡ regs_at m p → is_some (user_bytes (cells_at m p) regs.x 6) ≡ true
     → Represents s (with_memory m (stored m.memory p regs.x (packet_bytes now)))
     → Attempts Call.Time m clock now p Done s clock
@@ -97,7 +97,7 @@ set-step None packet tick read = absurd (cc)
 set-step (Some bytes) packet tick read =
     ap (λ (it : TimePacket). sets_clock tick it) (same-packet (packet_of bytes) packet read)
 
-pub stime-refused : (m : Inner) (clock : Clock) (now : TimePacket) (p : ℕ) (regs : Regs) (s : ProcState)
+pub stime-refused : (m : Processes) (clock : Clock) (now : TimePacket) (p : ℕ) (regs : Regs) (s : ProcState)
     → regs ≡ regs_at m p → option_map packet_of (user_bytes (cells_at m p) regs.x 6) ≡ None → Represents s m
     → Attempts Call.STime m clock now p (Error E_BPADDR) s clock
 stime-refused m clock now p regs s at read tied =
@@ -106,13 +106,13 @@ stime-refused m clock now p regs s at read tied =
     attempt-of Call.STime m clock clock now p (refused E_BPADDR) (Error E_BPADDR) s
     (unread-step (user_bytes (cells_at m p) (regs_at m p).x 6) m.tick missing) (refl, tied) refl
 
-comes-if : (m : Inner) (p : ℕ) (clock : Clock) (s : ProcState) (is : Bool) → Represents s m
+comes-if : (m : Processes) (p : ℕ) (clock : Clock) (s : ProcState) (is : Bool) → Represents s m
     → Comes m p (result_of m p (refuses (not is) E_BADTIME (sets clock)))
     (step_end (refuses (not is) E_BADTIME (sets clock))) s
 comes-if m p clock s true tied = (refl, tied)
 comes-if m p clock s false tied = (refl, tied)
 
-pub stime-set : (m : Inner) (clock new : Clock) (now : TimePacket) (p : ℕ) (regs : Regs) (packet : TimePacket) (tick : ℕ)
+pub stime-set : (m : Processes) (clock new : Clock) (now : TimePacket) (p : ℕ) (regs : Regs) (packet : TimePacket) (tick : ℕ)
     (end : CallEnd) (s : ProcState) → regs ≡ regs_at m p
     → option_map packet_of (user_bytes (cells_at m p) regs.x 6) ≡ Some packet → tick ≡ m.tick
     → end ≡ step_end (sets_clock tick packet) → new ≡ clock_after clock (sets_clock tick packet) → Represents s m

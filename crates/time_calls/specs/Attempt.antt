@@ -4,7 +4,7 @@ use Rattle.os9_base.specs.declared.call.CallEnd.{CallEnd}
 use Rattle.os9_base.specs.declared.call.CallEnd.TheVariants.{Done, Error}
 use Rattle.os9_base.specs.declared.registers.TimePacket.{TimePacket}
 use Rattle.call_rules.specs.CallResult.{CallResult}
-use Rattle.call_rules.specs.Inner.{Inner}
+use Rattle.call_rules.specs.Processes.{Processes}
 use Rattle.time_rules.specs.Attempts.{TimeAttempts}
 use Rattle.time_rules.specs.Clock.{IsNow}
 use Rattle.time_rules.specs.Step.{TimeStep, refused, tells, sets}
@@ -15,14 +15,14 @@ use Rattle.proc_state.specs.declared.state.ProcState.{ProcState}
 
 -- an attempt of a call by a process, at this time: how it ends, and the processes and the clock afterwards; its process
 -- does not have the result yet
-pub record Attempts (call : TimeCall) (m : Inner) (clock : Clock) (now : TimePacket) (p : ℕ) (end : CallEnd)
+pub record Attempts (call : TimeCall) (m : Processes) (clock : Clock) (now : TimePacket) (p : ℕ) (end : CallEnd)
     (processes : ProcState) (new : Clock) : Type 0 where
   pub result : CallResult
   pub attempt : TimeAttempts call m clock now p result new
   pub comes : Comes m p result end processes
 
 -- an attempt at the time that the clock shows
-pub record AttemptsNow (call : TimeCall) (m : Inner) (clock : Clock) (p : ℕ) (end : CallEnd) (processes : ProcState)
+pub record AttemptsNow (call : TimeCall) (m : Processes) (clock : Clock) (p : ℕ) (end : CallEnd) (processes : ProcState)
     (new : Clock) : Type 0 where
   pub now : TimePacket
   pub is : IsNow clock m.tick now

@@ -2,7 +2,7 @@
 
 ghost use Rattle.std.specs.Prelude.{◌≡◌};
 ghost use Rattle.proc_rules.specs.Records.{IsLiving};
-ghost use Rattle.call_rules.specs.Inner.{Inner};
+ghost use Rattle.call_rules.specs.Processes.{Processes};
 ghost use Rattle.proc_state.specs.Tie.{Represents, IsSame};
 ghost use Rattle.time_rules.specs.Attempts.{clock_after};
 ghost use Rattle.time_rules.specs.Clock.{IsClock};
@@ -26,7 +26,7 @@ use time_rules::time_call::TimeCall;
 pub fn attempt(s: &mut ProcState, clock: &mut Clock, p: Pid, call: TimeCall) -> CallEnd
     requires lives { IsLiving s.old.table p.0 }
     requires clock { IsClock clock.old s.old.tick }
-    ensures call { (m : Inner) → Represents s.old m
+    ensures call { (m : Processes) → Represents s.old m
         → AttemptsNow call m clock.old p.0 result s.new clock.new }
     ensures lives { IsLiving s.new.table p.0 }
     ensures clock { IsClock clock.new s.new.tick }
@@ -47,7 +47,7 @@ pub fn attempt(s: &mut ProcState, clock: &mut Clock, p: Pid, call: TimeCall) -> 
 pub fn f_time(s: &mut ProcState, clock: &Clock, p: Pid) -> CallEnd
     requires lives { IsLiving s.old.table p.0 }
     requires clock { IsClock clock.now s.old.tick }
-    ensures call { (m : Inner) → Represents s.old m
+    ensures call { (m : Processes) → Represents s.old m
         → AttemptsNow Call.Time m clock.now p.0 result s.new clock.now }
     ensures lives { IsLiving s.new.table p.0 }
     ensures clock { IsClock clock.now s.new.tick }
@@ -59,7 +59,7 @@ pub fn f_time(s: &mut ProcState, clock: &Clock, p: Pid) -> CallEnd
 /// Stores this time at X.
 fn tell(s: &mut ProcState, p: Pid, packet: TimePacket) -> CallEnd
     requires lives { IsLiving s.old.table p.0 }
-    ensures call { (m : Inner) (clock : Clock) → Represents s.old m
+    ensures call { (m : Processes) (clock : Clock) → Represents s.old m
         → Attempts Call.Time m clock packet p.0 result s.new clock }
     ensures records { s.new.table ≡ s.old.table }
     ensures tick { s.new.tick ≡ s.old.tick }
@@ -82,7 +82,7 @@ fn tell(s: &mut ProcState, p: Pid, packet: TimePacket) -> CallEnd
 pub fn f_stime(s: &mut ProcState, clock: &mut Clock, p: Pid) -> CallEnd
     requires lives { IsLiving s.old.table p.0 }
     requires clock { IsClock clock.old s.old.tick }
-    ensures call { (m : Inner) → Represents s.old m
+    ensures call { (m : Processes) → Represents s.old m
         → AttemptsNow Call.STime m clock.old p.0 result s.new clock.new }
     ensures lives { IsLiving s.new.table p.0 }
     ensures clock { IsClock clock.new s.new.tick }

@@ -4,10 +4,10 @@ ghost use Rattle.std.specs.Prelude.{◌≡◌, ◌<◌, option_map, length};
 ghost use Rattle.os9_base.specs.Cells.{FitsIn};
 ghost use Rattle.guest_memory.specs.Tie.{cells_of};
 ghost use Rattle.proc_model.specs.MemoryChanges.{stored};
-ghost use Rattle.call_rules.specs.Inner.{Inner, cells_at, with_memory};
+ghost use Rattle.call_rules.specs.Processes.{Processes, cells_at, with_memory};
 ghost use Rattle.call_rules.specs.UserBytes.{user_bytes};
 ghost use Rattle.proc_state.specs.Tie.{Represents, IsSame};
-ghost use Rattle.time_rules.specs.Packet.{packet_bytes as packet_bytes_lem, packet_of as packet_of_lem};
+ghost use Rattle.time_rules.specs.Packet as model;
 ghost use Rattle.time_rules.specs.declared.clock.TheConstants.{PACKET_BYTES};
 
 use os9_base::registers::{Pid, TimePacket};
@@ -18,8 +18,8 @@ use time_rules::clock::PACKET_BYTES;
 /// slot or past `FFFF`.
 pub(crate) fn read_packet(s: &mut ProcState, p: Pid, at: u16) -> Option<TimePacket>
     requires { p.0 < 33 }
-    ensures read { (m : Inner) → Represents s.old m
-        → result ≡ option_map packet_of_lem (user_bytes (cells_at m p.0) at PACKET_BYTES) }
+    ensures read { (m : Processes) → Represents s.old m
+        → result ≡ option_map model.packet_of (user_bytes (cells_at m p.0) at PACKET_BYTES) }
     ensures same { IsSame s.old s.new }
 {
     if s.read_bytes(p, at, PACKET_BYTES as u16) {
@@ -32,7 +32,7 @@ pub(crate) fn read_packet(s: &mut ProcState, p: Pid, at: u16) -> Option<TimePack
 /// The packet with these six bytes.
 fn packet_of(bytes: &[u8]) -> TimePacket
     requires { length bytes.now ≡ PACKET_BYTES }
-    ensures { result ≡ packet_of_lem bytes.now }
+    ensures { result ≡ model.packet_of bytes.now }
 {
     TimePacket {
         year: bytes[0],
@@ -48,8 +48,8 @@ fn packet_of(bytes: &[u8]) -> TimePacket
 pub(crate) fn store_packet(s: &mut ProcState, p: Pid, at: u16, packet: TimePacket)
     requires process { p.0 < 33 }
     requires fits { FitsIn (cells_of s.old.memory p.0) at PACKET_BYTES }
-    ensures tied { (m : Inner) → Represents s.old m → Represents s.new
-        (with_memory m (stored m.memory p.0 at (packet_bytes_lem packet))) }
+    ensures tied { (m : Processes) → Represents s.old m → Represents s.new
+        (with_memory m (stored m.memory p.0 at (model.packet_bytes packet))) }
     ensures records { s.new.table ≡ s.old.table }
     ensures tick { s.new.tick ≡ s.old.tick }
 {
@@ -58,7 +58,7 @@ pub(crate) fn store_packet(s: &mut ProcState, p: Pid, at: u16, packet: TimePacke
 
 /// The bytes of a packet.
 fn packet_bytes(t: TimePacket) -> [u8; PACKET_BYTES]
-    ensures { result ≡ packet_bytes_lem t }
+    ensures { result ≡ model.packet_bytes t }
 {
     [t.year, t.month, t.day, t.hour, t.minute, t.second]
 }

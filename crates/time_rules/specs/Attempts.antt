@@ -3,7 +3,7 @@ use Rattle.std.specs.Prelude.{◌≡◌, ℕ}
 use Rattle.os9_base.specs.declared.registers.TimePacket.{TimePacket}
 use Rattle.proc_model.specs.MemoryChanges.{stored}
 use Rattle.call_rules.specs.CallResult.{CallResult}
-use Rattle.call_rules.specs.Inner.{Inner, with_memory}
+use Rattle.call_rules.specs.Processes.{Processes, with_memory}
 use Rattle.time_rules.specs.Packet.{packet_bytes}
 use Rattle.time_rules.specs.STime.{f_stime}
 use Rattle.time_rules.specs.Step.{TimeStep, refused, tells, sets}
@@ -13,12 +13,12 @@ use Rattle.time_rules.specs.declared.time_call.TimeCall.{TimeCall}
 use Rattle.time_rules.specs.declared.time_call.TimeCall.TheVariants as Call
 
 -- what an attempt of a call by a process does, at this time
-abbrev pub time_step : TimeCall → Inner → TimePacket → ℕ → TimeStep
+abbrev pub time_step : TimeCall → Processes → TimePacket → ℕ → TimeStep
 time_step Call.Time m now p = f_time m now p
 time_step Call.STime m now p = f_stime m p
 
 -- the result of the call
-abbrev pub result_of : Inner → ℕ → TimeStep → CallResult
+abbrev pub result_of : Processes → ℕ → TimeStep → CallResult
 result_of m p (refused number) = CallResult.refused number
 result_of m p (tells at packet) = CallResult.done (with_memory m (stored m.memory p at (packet_bytes packet)))
 result_of m p (sets clock) = CallResult.done m
@@ -30,7 +30,7 @@ clock_after clock (tells at packet) = clock
 clock_after clock (sets other) = other
 
 -- an attempt of a call by a process, at this time: its result, and the clock afterwards
-pub record TimeAttempts (call : TimeCall) (m : Inner) (clock : Clock) (now : TimePacket) (p : ℕ)
+pub record TimeAttempts (call : TimeCall) (m : Processes) (clock : Clock) (now : TimePacket) (p : ℕ)
     (result : CallResult) (new : Clock) : Type 0 where
   pub result_is : result ≡ result_of m p (time_step call m now p)
   pub clock_is : new ≡ clock_after clock (time_step call m now p)

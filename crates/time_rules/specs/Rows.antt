@@ -3,12 +3,12 @@ use Rattle.std.specs.Prelude.{ℕ, List}
 use Rattle.os9_base.specs.declared.registers.TimePacket.{TimePacket}
 use Rattle.civil_time.specs.Rows.{at}
 use Rattle.proc_rules.specs.Records.{zero_regs}
-use Rattle.call_rules.specs.Inner.{Inner}
+use Rattle.call_rules.specs.Processes.{Processes}
 use Rattle.call_rules.specs.Rows.{one_process}
 use Rattle.time_rules.specs.declared.clock.Clock.{Clock}
 
 -- the state in tick 10 in which process 2 has this address in X, and sees these bytes from address 0 on
-abbrev pub asking : ℕ → List ℕ → Inner
+abbrev pub asking : ℕ → List ℕ → Processes
 asking x bytes = one_process bytes (record zero_regs { x = x })
 
 -- a second before 1 March of 1992, a leap year, and 1 March itself

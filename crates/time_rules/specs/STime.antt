@@ -4,7 +4,7 @@
 use Rattle.std.specs.Prelude.{ℕ, not}
 use Rattle.os9_base.specs.declared.errors.TheConstants.{E_BPADDR, E_BADTIME}
 use Rattle.os9_base.specs.declared.registers.TimePacket.{TimePacket}
-use Rattle.call_rules.specs.Inner.{Inner, regs_at, cells_at}
+use Rattle.call_rules.specs.Processes.{Processes, regs_at, cells_at}
 use Rattle.call_rules.specs.UserBytes.{user_bytes}
 use Rattle.civil_time.specs.CivilTime.{is_time_packet}
 use Rattle.time_rules.specs.Packet.{packet_of}
@@ -16,7 +16,7 @@ abbrev pub sets_clock : ℕ → TimePacket → TimeStep
 sets_clock tick packet =
     refuses (not (is_time_packet packet)) E_BADTIME (sets (record { from = packet; since = tick }))
 
-abbrev pub f_stime : Inner → ℕ → TimeStep
+abbrev pub f_stime : Processes → ℕ → TimeStep
 f_stime m p =
     needs (user_bytes (cells_at m p) (regs_at m p).x PACKET_BYTES) E_BPADDR
     (λ bytes. sets_clock m.tick (packet_of bytes))

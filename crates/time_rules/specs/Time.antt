@@ -4,11 +4,11 @@
 use Rattle.std.specs.Prelude.{ℕ, is_none}
 use Rattle.os9_base.specs.declared.errors.TheConstants.{E_BPADDR}
 use Rattle.os9_base.specs.declared.registers.TimePacket.{TimePacket}
-use Rattle.call_rules.specs.Inner.{Inner, regs_at, cells_at}
+use Rattle.call_rules.specs.Processes.{Processes, regs_at, cells_at}
 use Rattle.call_rules.specs.UserBytes.{user_bytes}
 use Rattle.time_rules.specs.Step.{TimeStep, tells, refuses}
 use Rattle.time_rules.specs.declared.clock.TheConstants.{PACKET_BYTES}
 
-abbrev pub f_time : Inner → TimePacket → ℕ → TimeStep
+abbrev pub f_time : Processes → TimePacket → ℕ → TimeStep
 f_time m now p =
     refuses (is_none (user_bytes (cells_at m p) (regs_at m p).x PACKET_BYTES)) E_BPADDR (tells (regs_at m p).x now)

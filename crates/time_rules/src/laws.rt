@@ -3,7 +3,7 @@
 ghost use Rattle.std.specs.Prelude.{◌≡◌, ℕ, ◌≤◌, true};
 ghost use Rattle.os9_base.specs.declared.registers.TimePacket.{TimePacket};
 ghost use Rattle.call_rules.specs.CallResult.{CallResult};
-ghost use Rattle.call_rules.specs.Inner.{Inner};
+ghost use Rattle.call_rules.specs.Processes.{Processes};
 ghost use Rattle.civil_time.specs.CivilTime.{is_time_packet};
 ghost use Rattle.time_rules.specs.Attempts.{TimeAttempts};
 ghost use Rattle.time_rules.specs.Clock.{IsClock, IsNow, first_clock};
@@ -18,7 +18,7 @@ pub fn clocks_stay_clocks()
         → IsClock (first_clock start) 0 }
     ensures tick { (clock : Clock) (tick later : ℕ) → tick ≤ later → IsClock clock tick
         → IsClock clock later }
-    ensures call { (call : TimeCall) (m : Inner) (clock : Clock) (now : TimePacket) (p : ℕ)
+    ensures call { (call : TimeCall) (m : Processes) (clock : Clock) (now : TimePacket) (p : ℕ)
         (result : CallResult) (new : Clock) → TimeAttempts call m clock now p result new
         → IsClock clock m.tick → IsClock new m.tick }
 {}

@@ -1,6 +1,7 @@
 ghost use Rattle.std.specs.Prelude.{◌≡◌, ◌≤◌, ◌+◌, IfSome, length, true};
 ghost use Rattle.civil_time.specs.CivilTime.{is_time_packet};
-ghost use Rattle.time_text.specs.TimeText.{has_marks as has_marks_lem, number_at as number_at_lem, packet_in as packet_in_lem, time_in, year_in as year_in_lem};
+ghost use Rattle.time_text.specs.TimeText as model;
+ghost use Rattle.time_text.specs.TimeText.{time_in};
 
 use os9_base::registers::TimePacket;
 use os9_clock::time::is_time;
@@ -34,7 +35,7 @@ pub fn read_time(text: &[u8]) -> Option<TimePacket>
 
 /// Does the text have nineteen characters, with the marks between the numbers in their places?
 fn has_marks(text: &[u8]) -> bool
-    ensures { result ≡ has_marks_lem text.now }
+    ensures { result ≡ model.has_marks text.now }
 {
     text.len() == TEXT_BYTES
         && text[4] == b'-'
@@ -47,7 +48,7 @@ fn has_marks(text: &[u8]) -> bool
 /// The packet of the numbers in their places.
 fn packet_in(text: &[u8]) -> Option<TimePacket>
     requires { length text.now ≡ 19 }
-    ensures { result ≡ packet_in_lem text.now }
+    ensures { result ≡ model.packet_in text.now }
 {
     let year = year_in(text);
     let month = number_at(text, 5);
@@ -73,7 +74,7 @@ fn packet_in(text: &[u8]) -> Option<TimePacket>
 /// The year that the first four characters spell, less 1900, if it is from 1900 to 2155.
 fn year_in(text: &[u8]) -> Option<u8>
     requires { length text.now ≡ 19 }
-    ensures { result ≡ year_in_lem text.now }
+    ensures { result ≡ model.year_in text.now }
 {
     match read_number(&text[0..4], FIRST_YEAR, LAST_YEAR) {
         None => None,
@@ -84,7 +85,7 @@ fn year_in(text: &[u8]) -> Option<u8>
 /// The number that two characters from this place on spell.
 fn number_at(text: &[u8], at: usize) -> Option<u8>
     requires { at + 2 ≤ length text.now }
-    ensures { result ≡ number_at_lem text.now at 2 }
+    ensures { result ≡ model.number_at text.now at 2 }
 {
     match read_number(&text[at..at + 2], 0, TWO_DIGITS) {
         None => None,

@@ -1,6 +1,6 @@
 ghost use Rattle.std.specs.Prelude.{◌≡◌, ◌+◌, ◌≤◌, None, Some, IfNone, IfSome, length, take};
-ghost use Rattle.user_names.specs.UserNames.{user_cell, goes_on as goes_on_lem, run_bytes, name_at};
-ghost use Rattle.os9_base.specs.Name.{is_name_character as is_name_character_lem};
+ghost use Rattle.user_names.specs.UserNames.{user_cell, goes_on as goes_on_model, run_bytes, name_at};
+ghost use Rattle.os9_base.specs.Name.{is_name_character as is_name_character_model};
 
 use crate::name_fault::NameFault;
 use os9_base::memory::UserMem;
@@ -65,13 +65,13 @@ pub fn read_run<M: UserMem>(memory: &M, at: u16, into: &mut [u8]) -> Option<usiz
 
 /// Does a run of name characters go on after this byte?
 fn goes_on(byte: u8) -> bool
-    ensures { result ≡ goes_on_lem byte }
+    ensures { result ≡ goes_on_model byte }
 {
     byte < 0x80 && is_name_character(byte)
 }
 
 fn is_name_character(character: u8) -> bool
-    ensures { result ≡ is_name_character_lem character }
+    ensures { result ≡ is_name_character_model character }
 {
     matches!(character, b'a'..=b'z' | b'A'..=b'Z' | b'0'..=b'9' | b'_' | b'.')
 }

@@ -1,7 +1,8 @@
 //! The names of the files that the words of `vol` give.
 
 ghost use Rattle.std.specs.Prelude.{◌≡◌, [], slice_get, unwrap_or};
-ghost use Rattle.vol_command.specs.Vol.{path_of as path_of_lem, vol_file_name};
+ghost use Rattle.vol_command.specs.Vol as model;
+ghost use Rattle.vol_command.specs.Vol.{vol_file_name};
 
 use command_files::status::Input;
 use os9_words::vol_words::VolWords;
@@ -19,7 +20,7 @@ pub fn vol_name(vol: &VolWords, input: Input) -> &str
 
 /// PATH; empty for a verb that takes none.
 pub fn path_of(vol: &VolWords) -> &str
-    ensures { result.now ≡ path_of_lem vol.now }
+    ensures { result.now ≡ model.path_of vol.now }
 {
     word_at(vol, 0)
 }

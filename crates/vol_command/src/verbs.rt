@@ -6,9 +6,9 @@ ghost use Rattle.os9_words.specs.Vol.{IsVol};
 ghost use Rattle.boot_images.specs.BootFile.{IsVolume};
 ghost use Rattle.boot_images.specs.Drives.{HaveRoom};
 ghost use Rattle.vol_tools.specs.Uses.{tool_of as tool_used};
-ghost use Rattle.tool_rules.specs.Tool.{freed_line as freed_line_lem, repair as repair_tool};
+ghost use Rattle.tool_rules.specs.Tool.{freed_line as freed_line_model, repair as repair_tool};
 ghost use Rattle.vol_command.specs.Steps.{DrivesAfter, MakesOf, RefusesImage, FormatsDisk, RepairsImage};
-ghost use Rattle.vol_command.specs.Vol.{path_of as path_of_lem, tool_of};
+ghost use Rattle.vol_command.specs.Vol.{path_of as path_of_model, tool_of};
 
 use crate::drive::use_on_image;
 use crate::files::VolFiles;
@@ -109,7 +109,7 @@ fn check_image(alloc: Global, image: &[u8]) -> Result<(), End>
 fn tool_for<'a>(vol: &'a VolWords, file: &'a [u8]) -> ToolUse<'a>
     requires no_disk { vol.now.verb ≢ Verb.Format }
     requires no_repair { vol.now.verb ≢ Verb.Repair }
-    ensures { tool_of vol.now.verb (path_of_lem vol.now) file.now ≡ Some (tool_used result) }
+    ensures { tool_of vol.now.verb (path_of_model vol.now) file.now ≡ Some (tool_used result) }
 {
     let path = path_of(vol).as_bytes();
     match vol.verb {
@@ -142,7 +142,7 @@ fn repair_image(alloc: Global, image: Vec<u8>) -> Result<Made, End>
 
 /// The line with the number of clusters that have become free.
 fn freed_line(alloc: Global, freed: u32) -> Result<Vec<u8>, AllocError>
-    ensures { IfOk result (λ line. line.items ≡ freed_line_lem freed) }
+    ensures { IfOk result (λ line. line.items ≡ freed_line_model freed) }
 {
     let mut number = Buffer::new();
     let mut line = Vec::from_slice(alloc, b"freed ")?;

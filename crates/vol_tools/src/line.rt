@@ -2,7 +2,8 @@ ghost use Rattle.std.specs.Prelude.{◌≡◌, ◌++◌, ◌∷◌, ◌/◌, ◌
 ghost use Rattle.rbf_model.specs.Fields.{entry_name_field};
 ghost use Rattle.rbf_model.specs.File.{DiskFile};
 ghost use Rattle.rbf_access.specs.Reading.{IsFdOf};
-ghost use Rattle.tool_rules.specs.Listing.{file_line, hex_digit as hex_digit_lem};
+ghost use Rattle.tool_rules.specs.Listing as model;
+ghost use Rattle.tool_rules.specs.Listing.{file_line};
 
 use itoa::Buffer;
 use os9_base::name::{Name, header_name};
@@ -25,7 +26,7 @@ pub fn push_line(lines: &mut Vec<u8>, file: &Fd, entry: &[u8; 32]) -> Result<(),
 // Appends the attributes and the size, each followed by a space.
 fn push_head(lines: &mut Vec<u8>, file: &Fd) -> Result<(), AllocError>
     ensures { OnOk result (lines.new.items ≡ lines.old.items
-        ++ (hex_digit_lem (file.now.attr / 16) ∷ hex_digit_lem (file.now.attr % 16) ∷ codes " "
+        ++ (model.hex_digit (file.now.attr / 16) ∷ model.hex_digit (file.now.attr % 16) ∷ codes " "
         ++ decimal file.now.size ++ codes " ")) }
 {
     let mut size = Buffer::new();
@@ -40,7 +41,7 @@ fn push_head(lines: &mut Vec<u8>, file: &Fd) -> Result<(), AllocError>
 // A hexadecimal digit, upper-case.
 fn hex_digit(value: u8) -> u8
     requires { value < 16 }
-    ensures { result ≡ hex_digit_lem value }
+    ensures { result ≡ model.hex_digit value }
 {
     if value < 10 {
         b'0' + value

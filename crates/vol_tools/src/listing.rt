@@ -1,6 +1,7 @@
 ghost use Rattle.std.specs.Prelude.{◌≡◌, ◌+◌, ◌*◌, ◌≤◌, ◌++◌, ◌∷◌, [], drop, length};
 ghost use Rattle.os9_base.specs.declared.registers.TimePacket.{TimePacket};
-ghost use Rattle.rbf_model.specs.Fields.{directory_entry, is_used as is_used_lem};
+ghost use Rattle.rbf_model.specs.Fields as model;
+ghost use Rattle.rbf_model.specs.Fields.{directory_entry};
 ghost use Rattle.rbf_model.specs.Walk.{directory_entries};
 ghost use Rattle.rbf_access.specs.Mounted.{IsMounted};
 ghost use Rattle.rbf_walk.specs.Walk.{OnVolume};
@@ -86,7 +87,7 @@ fn entry_at(contents: &[u8], place: usize) -> [u8; 32]
 
 // Whether the entry is used.
 fn is_used(entry: &[u8; 32]) -> bool
-    ensures { result ≡ is_used_lem entry.now }
+    ensures { result ≡ model.is_used entry.now }
 {
     entry[0] != 0
 }

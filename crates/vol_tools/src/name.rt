@@ -1,6 +1,6 @@
 ghost use Rattle.std.specs.Prelude.{◌≡◌, MatchOption, true, false};
 ghost use Rattle.std.specs.List.{list_all};
-ghost use Rattle.os9_base.specs.Name.{is_name_character as is_name_character_lem};
+ghost use Rattle.os9_base.specs.Name as model;
 ghost use Rattle.tool_rules.specs.Path.{is_name_text};
 ghost use Rattle.vol_tools.specs.Names.{IsNameOf};
 
@@ -22,14 +22,14 @@ pub fn name_of(text: &[u8]) -> Option<Name>
 
 // Whether all bytes are letters, digits, `_` or `.`.
 fn has_name_characters(text: &[u8]) -> bool
-    ensures { result ≡ list_all is_name_character_lem text.now }
+    ensures { result ≡ list_all model.is_name_character text.now }
 {
     text.iter().all(|byte| is_name_character(*byte))
 }
 
 // Whether it is a letter, a digit, `_` or `.`.
 fn is_name_character(byte: u8) -> bool
-    ensures { result ≡ is_name_character_lem byte }
+    ensures { result ≡ model.is_name_character byte }
 {
     matches!(byte, b'a'..=b'z' | b'A'..=b'Z' | b'0'..=b'9' | b'_' | b'.')
 }

@@ -1,5 +1,5 @@
 ghost use Rattle.std.specs.Prelude.{◌≡◌, IfOk, map, option_map};
-ghost use Rattle.tool_rules.specs.Path.{directory_names as directory_names_lem, parts as parts_lem, path_names as path_names_lem};
+ghost use Rattle.tool_rules.specs.Path as model;
 ghost use Rattle.vol_tools.specs.Names.{if_names};
 
 use crate::name::name_of;
@@ -13,7 +13,7 @@ use std::alloc::{AllocError, Global};
 /// `AllocError` if out of memory.
 pub fn path_names(alloc: Global, path: &[u8]) -> Result<Option<Vec<Name>>, AllocError>
     ensures { IfOk result
-        (λ names. option_map (λ names. names.items) names ≡ path_names_lem path.now) }
+        (λ names. option_map (λ names. names.items) names ≡ model.path_names path.now) }
 {
     let parts = parts(alloc, path)?;
     names_of(alloc, &parts)
@@ -27,7 +27,7 @@ pub fn path_names(alloc: Global, path: &[u8]) -> Result<Option<Vec<Name>>, Alloc
 /// `AllocError` if out of memory.
 pub fn directory_names(alloc: Global, path: &[u8]) -> Result<Option<Vec<Name>>, AllocError>
     ensures { IfOk result
-        (λ names. option_map (λ names. names.items) names ≡ directory_names_lem path.now) }
+        (λ names. option_map (λ names. names.items) names ≡ model.directory_names path.now) }
 {
     if path == b"/".as_slice() {
         return Ok(Some(Vec::new(alloc)));
@@ -37,7 +37,7 @@ pub fn directory_names(alloc: Global, path: &[u8]) -> Result<Option<Vec<Name>>, 
 
 // The parts of a text between slashes.
 fn parts(alloc: Global, path: &[u8]) -> Result<Vec<&[u8]>, AllocError>
-    ensures { IfOk result (λ parts. map (λ part. part.now) parts.items ≡ parts_lem path.now) }
+    ensures { IfOk result (λ parts. map (λ part. part.now) parts.items ≡ model.parts path.now) }
 {
     path.split(|byte| *byte == b'/').collect(alloc)
 }

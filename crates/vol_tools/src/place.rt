@@ -1,7 +1,7 @@
 ghost use Rattle.std.specs.Prelude.{◌≡◌, IfOk, option_map};
 ghost use Rattle.os9_base.specs.Name.{IsName};
-ghost use Rattle.rbf_change.specs.Names.{is_dots as is_dots_lem};
-ghost use Rattle.tool_rules.specs.Path.{place_of as place_of_lem};
+ghost use Rattle.rbf_change.specs.Names.{is_dots as is_dots_model};
+ghost use Rattle.tool_rules.specs.Path.{place_of as place_of_model};
 ghost use Rattle.vol_tools.specs.Names.{new_place, place};
 
 use crate::path::path_names;
@@ -21,7 +21,7 @@ pub struct Place {
 ///
 /// `AllocError` if out of memory.
 pub fn place_of(alloc: Global, path: &[u8]) -> Result<Option<Place>, AllocError>
-    ensures { IfOk result (λ at. option_map place at ≡ place_of_lem path.now) }
+    ensures { IfOk result (λ at. option_map place at ≡ place_of_model path.now) }
 {
     let Some(mut way) = path_names(alloc, path)? else {
         return Ok(None);
@@ -52,7 +52,7 @@ pub fn new_place_of(alloc: Global, path: &[u8]) -> Result<Option<Place>, AllocEr
 
 // Whether it is `.` or `..`, which every directory has.
 fn is_dots(name: &Name) -> bool
-    ensures value { result ≡ is_dots_lem name.now }
+    ensures value { result ≡ is_dots_model name.now }
     ensures name { IsName name.now }
 {
     match name.len() {

@@ -1,8 +1,8 @@
 ghost use Rattle.std.specs.Prelude.{◌≡◌, [], ℕ, List, OnOk, Some};
 ghost use Rattle.os9_base.specs.declared.registers.TimePacket.{TimePacket};
 ghost use Rattle.rbf_access.specs.Mounted.{IsMounted};
-ghost use Rattle.vol_tools.specs.Names.{place as place_lem};
-ghost use Rattle.tool_rules.specs.Path.{place_of as place_of_lem};
+ghost use Rattle.vol_tools.specs.Names.{place as place_model};
+ghost use Rattle.tool_rules.specs.Path.{place_of as place_of_model};
 ghost use Rattle.tool_rules.specs.Tool.{remove as remove_tool};
 ghost use Rattle.vol_tools.specs.Answers.{OnVolumeBefore};
 ghost use Rattle.vol_tools.specs.Faults.{Faults, tool_fault};
@@ -52,11 +52,11 @@ pub fn remove(
 fn remove_at(v: &mut Volume, d: &mut dyn BlockDriver, place: &Place) -> Result<(), ToolFault>
     requires { IsMounted v.old (media d.old) }
     ensures answer { (path : List ℕ) (now : TimePacket)
-        → place_of_lem path ≡ Some (place_lem place.now)
+        → place_of_model path ≡ Some (place_model place.now)
         → OnVolumeBefore (record { tool = remove_tool path; now = now }) (λ _. [])
         (media d.old) (media d.new) result }
     ensures tail { OnMedia KeepsTailUnused (media d.old) (media d.new) }
-    ensures others { (path : List ℕ) → place_of_lem path ≡ Some (place_lem place.now)
+    ensures others { (path : List ℕ) → place_of_model path ≡ Some (place_model place.now)
         → OnOk result (OnMedia (KeepsOthers path) (media d.old) (media d.new)) }
     ensures mounted { IsMounted v.new (media d.new) }
     ensures fault { Faults BlockDriver-dyn (tool_fault result) d.old d.new }

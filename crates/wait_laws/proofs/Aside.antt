@@ -9,12 +9,12 @@ use Rattle.proc_rules.specs.declared.record.Life.{Life}
 use Rattle.proc_rules.specs.declared.record.Life.TheVariants.{Running}
 use Rattle.proc_rules.specs.declared.record.Record.{Record}
 use Rattle.proc_rules.specs.Records.{IsLiving, has_ended, is_waiting, record_at, record_of, record_passes}
-use Rattle.call_rules.specs.Inner.{Inner, cells_at, own_at, regs_at}
+use Rattle.call_rules.specs.Processes.{Processes, cells_at, own_at, regs_at}
 use Rattle.io_model.specs.Path.{numbers_of}
-use Rattle.io_model.specs.declared.kept.Kept.{Kept}
+use Rattle.io_model.specs.declared.pending.PendingCall.{PendingCall}
 use Rattle.io_model.specs.declared.path.SysPath.{SysPath}
-use Rattle.io_rules.specs.Again.{IsKept, path_number}
-use Rattle.io_rules.specs.Io.{Io, OpenPath, kept_at, open_path}
+use Rattle.io_rules.specs.Again.{IsPending, path_number}
+use Rattle.io_rules.specs.Io.{Io, OpenPath, pending_at, open_path}
 use Rattle.io_rules.specs.Modes.{can_read}
 use Rattle.io_rules.specs.declared.io_call.IoCall.{IoCall}
 use Rattle.event_rules.specs.declared.ends.EventEnd.{EventEnd}
@@ -24,7 +24,7 @@ use Rattle.call_laws.proofs.CallsKept.{Left}
 use Rattle.call_laws.specs.Objects.{KeepsSizes}
 use Rattle.call_laws.proofs.OthersKept.{living-record}
 use Rattle.call_laws.specs.PathOthers.{LeavesPaths}
-use Rattle.call_laws.specs.Kept.{AreInCalls, AreKept, KeepsCall, StaysAllowed, StaysRead, WaitsInCall}
+use Rattle.call_laws.specs.Pending.{AreInCalls, ArePending, IsPendingCall, StaysAllowed, StaysRead, WaitsInCall}
 use Rattle.call_laws.specs.Terminals.{AreOnTerminals}
 use Rattle.wait_laws.proofs.InCalls.{IsWaiting, waits-runs}
 use Rattle.wait_laws.proofs.KeptEvents.{lives-runs, there-at, there-lives}
@@ -33,25 +33,25 @@ use Rattle.wait_laws.proofs.Named.{fits-on}
 -- ---- the other processes
 
 -- another process goes on in the same call
-pub record StaysSo (m n : Inner) (q : ℕ) (old new : Record) : Type 0 where
+pub record StaysSo (m n : Processes) (q : ℕ) (old new : Record) : Type 0 where
   pub life : new.life ≡ old.life
   pub regs : new.regs ≡ old.regs
   pub map : map_at n.memory q ≡ map_at m.memory q
   pub call : (own_at n q).call ≡ (own_at m q).call
 
 -- another process stays so, or had ended and goes, or begins and runs
-abbrev pub ComesSo : Inner → Inner → ℕ → Option Record → Option Record → Type 0
+abbrev pub ComesSo : Processes → Processes → ℕ → Option Record → Option Record → Type 0
 ComesSo m n q (Some old) (Some new) = StaysSo m n q old new
 ComesSo m n q (Some old) None = has_ended old.life ≡ true
 ComesSo m n q None (Some new) = new.life ≡ Running
 ComesSo m n q None None = Unit {0}
 
-pub record Aside (m n : Inner) (p : ℕ) : Type 0 where
+pub record Aside (m n : Processes) (p : ℕ) : Type 0 where
   pub sizes : KeepsSizes m.memory n.memory
   pub places : length n.records ≡ length m.records
   pub others : (q : ℕ) → q ≢ p → ComesSo m n q (record_of m.records q) (record_of n.records q)
 
-comes-so : (m : Inner) (p : ℕ) (end : EventEnd) (n : Inner) (q : ℕ) (old new : Option Record) → ComesOf m p end n q old new → ComesSo m n q old new
+comes-so : (m : Processes) (p : ℕ) (end : EventEnd) (n : Processes) (q : ℕ) (old new : Option Record) → ComesOf m p end n q old new → ComesSo m n q old new
 comes-so m p end n q (Some old) (Some new) stays = record {
   life = ap (λ (r : Record). r.life) stays.record_is.others;
   regs = ap (λ (r : Record). r.regs) stays.record_is.others;
@@ -63,7 +63,7 @@ comes-so m p end n q None (Some new) begins = begins.runs
 comes-so m p end n q None None it = tt
 
 -- by what an instruction, a call or a delivery leaves
-pub left-aside : (m : Inner) (p : ℕ) (end : EventEnd) (n : Inner) → Left m p end n → Aside m n p
+pub left-aside : (m : Processes) (p : ℕ) (end : EventEnd) (n : Processes) → Left m p end n → Aside m n p
 left-aside m p end n left = record {
   sizes = left.leaves.sizes;
   places = left.places;
@@ -88,7 +88,7 @@ same-named new q n opened is = record { now = opened; is = is; path = refl; mode
 pub record IoAside (records : List (Option Record)) (terms p : ℕ) (old new : Io) : Type 0 where
   pub numbers : (q : ℕ) → q ≢ p → IsLiving records q → numbers_of new.paths q ≡ numbers_of old.paths q
   pub paths : (q n : ℕ) (opened : OpenPath) → q ≢ p → IsLiving records q → open_path old q n ≡ Some opened → StaysNamed new q n opened
-  pub calls : (q : ℕ) → q ≢ p → kept_at new q ≡ kept_at old q
+  pub calls : (q : ℕ) → q ≢ p → pending_at new q ≡ pending_at old q
   pub places : length new.calls ≡ length old.calls
   pub on : AreOnTerminals terms old.paths → AreOnTerminals terms new.paths
 
@@ -136,10 +136,11 @@ stays-so call cells later regs now old new q same fits paths stays reads =
 
 -- ---- what waits
 
-module _ (m n : Inner) (terms p : ℕ) (old new : Io) (aside : Aside m n p) (io_aside : IoAside m.records terms p old new) where
+module _ (m n : Processes) (terms p : ℕ) (old new : Io) (aside : Aside m n p) (io_aside : IoAside m.records terms p old new) where
   -- what is kept of the call of another process
-  kept-stays : (q : ℕ) → q ≢ p → (kept : Kept) → KeepsCall m old q kept → (r : Record) → record_of n.records q ≡ Some r → StaysSo m n q (record_at m.records q) r → KeepsCall n new q kept
-  kept-stays q differ kept it r is stays =
+  kept-stays : (q : ℕ) → q ≢ p → (pending : PendingCall) → IsPendingCall m old q pending → (r : Record) → record_of n.records q ≡ Some r → StaysSo m n q (record_at m.records q) r
+      → IsPendingCall n new q pending
+  kept-stays q differ pending it r is stays =
       let here : record_at n.records q ≡ r = there-at n.records q r is in
       let life : (record_at n.records q).life ≡ (record_at m.records q).life = ap (λ (r : Record). r.life) here ∙ stays.life in
       let regs : regs_at n q ≡ regs_at m q = ap (λ (r : Record). r.regs) here ∙ stays.regs in
@@ -148,7 +149,7 @@ module _ (m n : Inner) (terms p : ℕ) (old new : Io) (aside : Aside m n p) (io_
         waits = ap is_waiting life ∙ it.waits;
         made = stays.call ∙ it.made;
         call = it.call;
-        again = subst (λ (regs : Regs). IsKept it.call regs new q kept) (sym regs) (record {
+        again = subst (λ (regs : Regs). IsPending it.call regs new q pending) (sym regs) (record {
           code = it.again.code;
           path =
               ap (λ (numbers : List (Option SysPath)). slice_index_or numbers (path_number it.call (regs_at m q)) None) (io_aside.numbers q differ it.lives) ∙ it.again.path;
@@ -160,22 +161,22 @@ module _ (m n : Inner) (terms p : ℕ) (old new : Io) (aside : Aside m n p) (io_
             (λ number opened. io_aside.paths q number opened differ it.lives) it.stays;
       }
 
-  kept-other : (q : ℕ) → q ≢ p → (kept : Kept) → KeepsCall m old q kept → KeepsCall n new q kept
-  kept-other q differ kept it =
+  kept-other : (q : ℕ) → q ≢ p → (pending : PendingCall) → IsPendingCall m old q pending → IsPendingCall n new q pending
+  kept-other q differ pending it =
       by_place (record_of n.records q) refl (subst (λ (place : Option Record). ComesSo m n q place (record_of n.records q)) (living-record m.records q it.lives) (aside.others q differ))
     where
-      by_place : (place : Option Record) → record_of n.records q ≡ place → ComesSo m n q (Some (record_at m.records q)) (record_of n.records q) → KeepsCall n new q kept
+      by_place : (place : Option Record) → record_of n.records q ≡ place → ComesSo m n q (Some (record_at m.records q)) (record_of n.records q) → IsPendingCall n new q pending
       by_place (Some r) is comes =
-          kept-stays q differ kept it r is (subst (ComesSo m n q (Some (record_at m.records q))) is comes)
+          kept-stays q differ pending it r is (subst (ComesSo m n q (Some (record_at m.records q))) is comes)
       by_place None is comes =
           let ended : has_ended (record_at m.records q).life ≡ true = subst (ComesSo m n q (Some (record_at m.records q))) is comes in
           absurd (false≢true (sym (lives-runs m.records q it.lives) ∙ ended))
 
-  pub aside-kept : ((kept : Kept) → kept_at new p ≡ Some kept → KeepsCall n new p kept) → AreKept m old → AreKept n new
-  aside-kept itself all q kept is =
+  pub aside-kept : ((pending : PendingCall) → pending_at new p ≡ Some pending → IsPendingCall n new p pending) → ArePending m old → ArePending n new
+  aside-kept itself all q pending is =
       elim (cases_eq q p) [
-        | inl same ↦ subst (λ (q : ℕ). KeepsCall n new q kept) (sym same) (itself kept (sym (ap (kept_at new) same) ∙ is))
-        | inr differ ↦ kept-other q differ kept (all q kept (sym (io_aside.calls q differ) ∙ is))
+        | inl same ↦ subst (λ (q : ℕ). IsPendingCall n new q pending) (sym same) (itself pending (sym (ap (pending_at new) same) ∙ is))
+        | inr differ ↦ kept-other q differ pending (all q pending (sym (io_aside.calls q differ) ∙ is))
       ]
 
   -- the call of another process that waits

@@ -16,15 +16,15 @@ use Rattle.call_rules.specs.declared.proc_call.ProcCall.TheVariants as Call
 use Rattle.call_rules.specs.Attempts.{after_attempt, attempted}
 use Rattle.call_rules.specs.CallResult.{CallResult, done, ends, refused, waits}
 use Rattle.call_rules.specs.Codes.{call_of}
-use Rattle.call_rules.specs.Inner.{Inner, cells_at, regs_at}
+use Rattle.call_rules.specs.Processes.{Processes, cells_at, regs_at}
 use Rattle.call_rules.specs.Ready.{act_of, attempts}
 use Rattle.call_rules.specs.UserBytes.{user_bytes}
 use Rattle.io_model.specs.Path.{inherited_numbers, numbers_of}
-use Rattle.io_model.specs.declared.kept.Kept.{Kept}
+use Rattle.io_model.specs.declared.pending.PendingCall.{PendingCall}
 use Rattle.io_model.specs.declared.path.Desc.{Desc}
 use Rattle.io_rules.specs.Attempts.{IoAttempts, result_by}
 use Rattle.io_rules.specs.Codes.{io_call_of}
-use Rattle.io_rules.specs.Io.{Io, kept_at}
+use Rattle.io_rules.specs.Io.{Io, pending_at}
 use Rattle.io_rules.specs.Processes.{io_ended, io_started}
 use Rattle.io_rules.specs.Waiting.{io_interrupted}
 use Rattle.io_rules.specs.Step.{IoEffect, IoEnd, answers, fails, keeps}
@@ -66,7 +66,7 @@ use Rattle.wait_laws.proofs.InCalls.{IsWaiting, in-call, in-io}
 use Rattle.wait_laws.proofs.OnTerminals.{on-attempt, on-ended, on-interrupted}
 use Rattle.wait_laws.proofs.Places.{many-attempt, many-ended, many-interrupted}
 use Rattle.wait_laws.proofs.WaitsMade.{HasItsCall, attempt-has}
-use Rattle.call_laws.specs.Kept.{AreKept, KeepsCall, WaitsInCall}
+use Rattle.call_laws.specs.Pending.{ArePending, IsPendingCall, WaitsInCall}
 use Rattle.wait_laws.proofs.CallCodes.{not-both}
 use Rattle.call_laws.proofs.Codes.{attempts-code}
 use Rattle.machine_model.specs.Services.{Attempts, Serves, files_after_call, files_after_fork, loads, no_call, on_paths, on_processes, on_time, with_files}
@@ -100,10 +100,10 @@ time-no-io code call coded = by_tests (F_TIME == code) (F_STIME == code) refl re
     by_tests false false first second is = absurd (none-some call is)
 
 -- a process that attempts no call on paths waits in none
-no-kept : (m : Inner) (io : Io) (p code : ℕ) → act_of m p ≡ attempts code → io_call_of code ≡ None → AreKept m io → kept_at io p ≡ None
-no-kept m io p code next none all = by_place (kept_at io p) refl
+no-kept : (m : Processes) (io : Io) (p code : ℕ) → act_of m p ≡ attempts code → io_call_of code ≡ None → ArePending m io → pending_at io p ≡ None
+no-kept m io p code next none all = by_place (pending_at io p) refl
   where
-    by_place : (place : Option Kept) → kept_at io p ≡ place → place ≡ None
+    by_place : (place : Option PendingCall) → pending_at io p ≡ place → place ≡ None
     by_place None is = refl
     by_place (Some kept) is =
         let it = all p kept is in
@@ -167,13 +167,13 @@ module _ (records : List (Option Record)) (terms p : ℕ) (old : Io) where
 
 -- ---- what calls come to
 
-pub time-over : (m : Inner) (p : ℕ) (step : TimeStep) → Over m p (time_result m p step)
+pub time-over : (m : Processes) (p : ℕ) (step : TimeStep) → Over m p (time_result m p step)
 time-over m p (time_refused number) = over-refused m p number
 time-over m p (tells at packet) = over-done m p _ (aside-stored m p at (packet_bytes packet)) refl
 time-over m p (sets clock) = over-done m p m (aside-same m p) refl
 
 -- the clock stays one
-module _ (clock : Clock) (m : Inner) (is : IsClock clock m.tick) where
+module _ (clock : Clock) (m : Processes) (is : IsClock clock m.tick) where
   abbrev Stays : TimeStep → Type 0
   Stays step = IsClock (clock_after clock step) m.tick
 
@@ -194,139 +194,142 @@ module _ (clock : Clock) (m : Inner) (is : IsClock clock m.tick) where
       clock-told (regs_at m p).x now (is_none (user_bytes (cells_at m p) (regs_at m p).x 6))
   clock-stays Time.STime now p = clock-read (user_bytes (cells_at m p) (regs_at m p).x 6)
 
-answered-over : (m : Inner) (p : ℕ) (result : CallResult) → IsAnswered m p result → Over m p result
+answered-over : (m : Processes) (p : ℕ) (result : CallResult) → IsAnswered m p result → Over m p result
 answered-over m p result (inl it) =
     subst (Over m p) (sym it.is) (over-done m p _ (aside-regs m p it.at it.bytes it.regs) refl)
 answered-over m p result (inr (number, is)) = subst (Over m p) (sym is) (over-refused m p number)
 
 -- an attempt of a call on paths leaves the tick
-path-tick : (m : Inner) (p : ℕ) (effect : IoEffect) (end : IoEnd) → (after_attempt m p (result_by end m p effect)).tick ≡ m.tick
+path-tick : (m : Processes) (p : ℕ) (effect : IoEffect) (end : IoEnd) → (after_attempt m p (result_by end m p effect)).tick ≡ m.tick
 path-tick m p effect (answers regs) = refl
 path-tick m p effect (fails number) = refl
-path-tick m p effect (keeps kept) = refl
+path-tick m p effect (keeps pending) = refl
 
 -- ---- the next state
 
 -- the others go on, and this holds of the process itself
-pub next-running : (s : State) (p : ℕ) (t : State) → IsRunning s → Aside s.inner t.inner p → IoAside s.inner.records
-    (length s.terms) p s.files.io t.files.io → ((kept : Kept) → kept_at t.files.io p ≡ Some kept → KeepsCall t.inner
-    t.files.io p kept) → (IsWaiting t.inner.records p → WaitsInCall t.inner t.files.io p) → length t.terms ≡ length
+pub next-running : (s : State) (p : ℕ) (t : State) → IsRunning s → Aside s.processes t.processes p → IoAside s.processes.records
+    (length s.terms) p s.files.io t.files.io → ((pending : PendingCall) → pending_at t.files.io p ≡ Some pending → IsPendingCall t.processes
+    t.files.io p pending) → (IsWaiting t.processes.records p → WaitsInCall t.processes t.files.io p) → length t.terms ≡ length
     s.terms → AreRequested t.files → RequestsStay p s.files.records t.files.records
-    → ((kept : Kept) → kept_at t.files.io p ≡ Some kept → WaitsOnPath t.files p kept) → AreKinds t.files
-    → IsClock t.clock t.inner.tick → IsRunning t
-next-running s p t running aside io kept in_calls long requested stay own kinds clock =
+    → ((pending : PendingCall) → pending_at t.files.io p ≡ Some pending → WaitsOnPath t.files p pending) → AreKinds t.files
+    → IsClock t.clock t.processes.tick → IsRunning t
+next-running s p t running aside io pending in_calls long requested stay own kinds clock =
     running-then s t running
-    (aside-kept s.inner t.inner (length s.terms) p s.files.io t.files.io aside io kept running.kept)
-    (aside-in s.inner t.inner (length s.terms) p s.files.io t.files.io aside io in_calls running.in_calls)
-    (aside-places s.inner t.inner (length s.terms) p s.files.io t.files.io aside io running.places)
+    (aside-kept s.processes t.processes (length s.terms) p s.files.io t.files.io aside io pending running.kept)
+    (aside-in s.processes t.processes (length s.terms) p s.files.io t.files.io aside io in_calls running.in_calls)
+    (aside-places s.processes t.processes (length s.terms) p s.files.io t.files.io aside io running.places)
     (io.on running.on) long requested
-    (all-wait s.inner (length s.terms) p s.files t.files running.kept io stay running.waits own)
+    (all-wait s.processes (length s.terms) p s.files t.files running.kept io stay running.waits own)
     (let records = aside.places in let requests = stay.places in let rooms = running.rooms in omega (arith, records, requests, rooms)) kinds clock
 
 -- ---- an attempt
 
-module _ (s : State) (p code : ℕ) (running : IsRunning s) (lives : IsLiving s.inner.records p) (next : act_of s.inner p ≡ attempts code) where
+module _ (s : State) (p code : ℕ) (running : IsRunning s) (lives : IsLiving s.processes.records p) (next : act_of s.processes p ≡ attempts code) where
   abbrev after : CallResult → Rest → State
-  after result rest = with_rest s (after_attempt s.inner p result) rest
+  after result rest = with_rest s (after_attempt s.processes p result) rest
 
   abbrev Runs : CallResult → Rest → Type 0
   Runs result rest = IsRunning (after result rest)
 
   -- the process waits in no call on paths then
   abbrev BesideIo : Io → Type 0
-  BesideIo new = IoAside s.inner.records (length s.terms) p s.files.io new × (kept_at new p ≡ None)
+  BesideIo new = IoAside s.processes.records (length s.terms) p s.files.io new × (pending_at new p ≡ None)
 
   -- and in no request
   abbrev EndsRequest : Files → Type 0
   EndsRequest new =
-      (NoneRequested p s.files new × RequestsStay p s.files.records new.records) ⊎ ((kept_at s.files.io p ≡ None) × (new.records ≡ s.files.records))
+      (NoneRequested p s.files new × RequestsStay p s.files.records new.records) ⊎ ((pending_at s.files.io p ≡ None) × (new.records ≡ s.files.records))
 
   stays-then : (new : Files) → EndsRequest new → RequestsStay p s.files.records new.records
   stays-then new (inl (none, stay)) = stay
   stays-then new (inr (none, same)) = same-stay p s.files.records new.records same
 
-  requested-then : (new : Files) → IoAside s.inner.records (length s.terms) p s.files.io new.io → EndsRequest new → AreRequested new
+  requested-then : (new : Files) → IoAside s.processes.records (length s.terms) p s.files.io new.io → EndsRequest new → AreRequested new
   requested-then new io (inl (none, stay)) = none-then p s.files new io.calls running.requested none
   requested-then new io (inr (none, same)) = same-then p s.files new io.calls running.requested none same
 
-  over-runs : (result : CallResult) (rest : Rest) → Over s.inner p result → BesideIo rest.files.io
-      → EndsRequest rest.files → rest.terms ≡ s.terms → AreKinds rest.files → IsClock rest.clock s.inner.tick
+  over-runs : (result : CallResult) (rest : Rest) → Over s.processes p result → BesideIo rest.files.io
+      → EndsRequest rest.files → rest.terms ≡ s.terms → AreKinds rest.files → IsClock rest.clock s.processes.tick
       → Runs result rest
   over-runs result rest over io gone terms kinds clock =
       next-running s p (after result rest) running over.aside io.0
-      (λ kept is. absurd (none-some kept (sym io.1 ∙ is))) (λ waiting. absurd (over.runs waiting))
+      (λ pending is. absurd (none-some pending (sym io.1 ∙ is))) (λ waiting. absurd (over.runs waiting))
       (ap (λ (terms : List TerminalState). length terms) terms) (requested-then rest.files io.0 gone) (stays-then rest.files gone)
-      (λ kept is. absurd (none-some kept (sym io.1 ∙ is))) kinds
+      (λ pending is. absurd (none-some pending (sym io.1 ∙ is))) kinds
       (subst (IsClock rest.clock) (sym over.tick) clock)
 
-  none-kept : io_call_of code ≡ None → kept_at s.files.io p ≡ None
-  none-kept none = no-kept s.inner s.files.io p code next none running.kept
+  none-kept : io_call_of code ≡ None → pending_at s.files.io p ≡ None
+  none-kept none = no-kept s.processes s.files.io p code next none running.kept
 
   beside : (new : Io) → io_call_of code ≡ None → new ≡ s.files.io → BesideIo new
   beside new none is =
-      subst BesideIo (sym is) (io-same s.inner.records (length s.terms) p s.files.io, none-kept none)
+      subst BesideIo (sym is) (io-same s.processes.records (length s.terms) p s.files.io, none-kept none)
 
   -- ---- files that are loaded
 
   module _ (now : TimePacket) (result : CallResult) (rest : Rest) (long : length rest.terms ≡ length s.terms) where
     load-runs : (code == F_LOAD) ≡ true → Serves loads s now p result rest → Runs result rest
     load-runs is (files, it, rest_is) =
-        subst (Runs result) (sym rest_is) (over-runs result (with_files s files) (load-over s.inner (asker_of s.inner p now) s.files (length s.terms) p result files it)
-        (beside files.io (ap io_call_of (eqb-true code F_LOAD is)) (load-leaves s.inner (asker_of s.inner p now) s.files (length s.terms) p result files it).io)
-        (inr (none-kept (ap io_call_of (eqb-true code F_LOAD is)), (load-leaves s.inner (asker_of s.inner p now) s.files (length s.terms) p result files it).records)) refl
-        (load-kinds s.inner (asker_of s.inner p now) s.files (length s.terms) p result files it running.kinds) running.clock)
+        subst (Runs result) (sym rest_is) (over-runs result (with_files s files) (load-over s.processes (asker_of s.processes p now) s.files (length s.terms) p result files it)
+        (beside files.io (ap io_call_of (eqb-true code F_LOAD is)) (load-leaves s.processes (asker_of s.processes p now) s.files (length s.terms) p result files it).io)
+        (inr (none-kept (ap io_call_of (eqb-true code F_LOAD is)), (load-leaves s.processes (asker_of s.processes p now) s.files (length s.terms) p result files it).records)) refl
+        (load-kinds s.processes (asker_of s.processes p now) s.files (length s.terms) p result files it running.kinds) running.clock)
 
     chain-runs : call_of code ≡ Some Call.Chain → Serves (on_processes Call.Chain) s now p result rest → Runs result rest
     chain-runs coded (files, it, rest_is) =
-        subst (Runs result) (sym rest_is) (over-runs result (with_files s files) (chain-over s.inner (asker_of s.inner p now) s.files (length s.terms) p result files it)
-        (beside files.io (proc-no-io code Call.Chain coded) (chain-leaves s.inner (asker_of s.inner p now) s.files (length s.terms) p result files it).io)
-        (inr (none-kept (proc-no-io code Call.Chain coded), (chain-leaves s.inner (asker_of s.inner p now) s.files (length s.terms) p result files it).records)) refl
-        (chain-kinds s.inner (asker_of s.inner p now) s.files (length s.terms) p result files it running.kinds) running.clock)
+        subst (Runs result) (sym rest_is) (over-runs result (with_files s files) (chain-over s.processes (asker_of s.processes p now) s.files (length s.terms) p result files it)
+        (beside files.io (proc-no-io code Call.Chain coded) (chain-leaves s.processes (asker_of s.processes p now) s.files (length s.terms) p result files it).io)
+        (inr (none-kept (proc-no-io code Call.Chain coded), (chain-leaves s.processes (asker_of s.processes p now) s.files (length s.terms) p result files it).records)) refl
+        (chain-kinds s.processes (asker_of s.processes p now) s.files (length s.terms) p result files it running.kinds) running.clock)
 
     time-runs : (call : TimeCall) → time_call_of code ≡ Some call → Serves (on_time call) s now p result rest → Runs result rest
     time-runs call coded (clock, it, rest_is) =
-        subst (Runs result) (sym rest_is) (over-runs result (record (rest_of s) { clock = clock }) (subst (Over s.inner p) (sym it.result_is) (time-over s.inner p (time_step call s.inner now p)))
+        subst (Runs result) (sym rest_is) (over-runs result (record (rest_of s) { clock = clock })
+            (subst (Over s.processes p) (sym it.result_is) (time-over s.processes p (time_step call s.processes now p)))
         (beside s.files.io (time-no-io code call coded) refl) (inr (none-kept (time-no-io code call coded), refl)) refl running.kinds
-        (subst (λ (clock : Clock). IsClock clock s.inner.tick) (sym it.clock_is) (clock-stays s.clock s.inner running.clock call now p)))
+        (subst (λ (clock : Clock). IsClock clock s.processes.tick) (sym it.clock_is) (clock-stays s.clock s.processes running.clock call now p)))
 
     none-runs : io_call_of code ≡ None → Serves no_call s now p result rest → Runs result rest
     none-runs none (is, rest_is) =
-        subst (Runs result) (sym rest_is) (over-runs result (rest_of s) (subst (Over s.inner p) (sym is) (over-refused s.inner p E_UNKSVC))
+        subst (Runs result) (sym rest_is) (over-runs result (rest_of s) (subst (Over s.processes p) (sym is) (over-refused s.processes p E_UNKSVC))
         (beside s.files.io none refl) (inr (none-kept none, refl)) refl running.kinds running.clock)
 
     -- ---- paths
 
     -- a call on a terminal or a pipe
-    io-runs : (device : IoCall) → io_call_of code ≡ Some device → IoAttempts device s.inner s.files.io
+    io-runs : (device : IoCall) → io_call_of code ≡ Some device → IoAttempts device s.processes s.files.io
         (length s.files.drives) p result rest.files.io s.terms rest.terms
         → NoneRequested p s.files rest.files × RequestsStay p s.files.records rest.files.records
-        → ((kept : Kept) → kept_at rest.files.io p ≡ Some kept → WaitsOnPath rest.files p kept) → AreKinds rest.files → IsClock rest.clock (after_attempt s.inner p result).tick → Runs result rest
+        → ((pending : PendingCall) → pending_at rest.files.io p ≡ Some pending → WaitsOnPath rest.files p pending) → AreKinds rest.files → IsClock rest.clock (after_attempt s.processes p result).tick
+        → Runs result rest
     io-runs device is it none own kinds clock =
         let drives = length s.files.drives in
-        let many : length rest.files.io.calls ≡ length s.files.io.calls = many-attempt s.files.io p device s.inner drives result rest.files.io s.terms rest.terms it in
-        let io : IoAside s.inner.records (length s.terms) p s.files.io rest.files.io = leaves-aside s.inner.records
-        (length s.terms) p s.files.io rest.files.io (attempt-leaves device s.inner s.files.io rest.files.io drives
-        p result s.terms rest.terms it) many (on-attempt device s.inner s.files.io p drives result rest.files.io
+        let many : length rest.files.io.calls ≡ length s.files.io.calls = many-attempt s.files.io p device s.processes drives result rest.files.io s.terms rest.terms it in
+        let io : IoAside s.processes.records (length s.terms) p s.files.io rest.files.io = leaves-aside s.processes.records
+        (length s.terms) p s.files.io rest.files.io (attempt-leaves device s.processes s.files.io rest.files.io drives
+        p result s.terms rest.terms it) many (on-attempt device s.processes s.files.io p drives result rest.files.io
         s.terms rest.terms it) in
         next-running s p (after result rest) running
-        (left-aside s.inner p (call_event_end result) (after_attempt s.inner p result) (subst (AttemptLeft s.inner p) (sym it.result_is) (by-end s.inner p it.effect it.effect.end)))
+        (left-aside s.processes p (call_event_end result) (after_attempt s.processes p result) (subst (AttemptLeft s.processes p) (sym it.result_is) (by-end s.processes p it.effect it.effect.end)))
         io
-        (io-keeps s.inner s.files.io p running.kept lives code device drives result rest.files.io s.terms rest.terms next is it)
-        (in-io s.inner s.files.io p running.in_calls lives running.places code device drives result rest.files.io s.terms rest.terms next many it)
+        (io-keeps s.processes s.files.io p running.kept lives code device drives result rest.files.io s.terms rest.terms next is it)
+        (in-io s.processes s.files.io p running.in_calls lives running.places code device drives result rest.files.io s.terms rest.terms next many it)
         long (requested-then rest.files io (inl none)) none.1 own kinds clock
 
     -- a call that waits for a record of a file
-    record-runs : (call : PathCall) → path_call_of code ≡ Some call → WaitsForRecord call s.inner s.files now p result
+    record-runs : (call : PathCall) → path_call_of code ≡ Some call → WaitsForRecord call s.processes s.files now p result
         rest.files s.terms rest.terms → RequestsStay p s.files.records rest.files.records → AreKinds rest.files
-        → IsClock rest.clock (after_attempt s.inner p result).tick → Runs result rest
+        → IsClock rest.clock (after_attempt s.processes p result).tick → Runs result rest
     record-runs call coded it stay kinds clock =
         let then_is = is-waiting s p code running lives next now call coded result rest.files s.terms rest.terms it in
         next-running s p (after result rest) running
-        (left-aside s.inner p (call_event_end result) (after_attempt s.inner p result) (waits-left s p code running lives next now call coded result rest.files s.terms rest.terms it))
+        (left-aside s.processes p (call_event_end result) (after_attempt s.processes p result) (waits-left s p code running lives next now call coded result rest.files s.terms rest.terms it))
         (waits-aside s p code running lives next now call coded result rest.files s.terms rest.terms it)
-        (λ kept is. subst (λ (n : Inner). KeepsCall n rest.files.io p kept) (sym then_is) (waits-keep s p code running lives next now call coded result rest.files s.terms rest.terms it kept is))
-        (subst (λ (n : Inner). IsWaiting n.records p → WaitsInCall n rest.files.io p) (sym then_is) (waits-in s p code running lives next now call coded result rest.files s.terms rest.terms it))
-        long (waits-requested call s.inner s.files now p result rest.files s.terms rest.terms running.requested it
+        (λ pending is. subst (λ (n : Processes). IsPendingCall n rest.files.io p pending) (sym then_is)
+            (waits-keep s p code running lives next now call coded result rest.files s.terms rest.terms it pending is))
+        (subst (λ (n : Processes). IsWaiting n.records p → WaitsInCall n rest.files.io p) (sym then_is) (waits-in s p code running lives next now call coded result rest.files s.terms rest.terms it))
+        long (waits-requested call s.processes s.files now p result rest.files s.terms rest.terms running.requested it
         (waits-within s p code running lives next now call coded result rest.files s.terms rest.terms it)) stay
         (waits-on s p code running lives next now call coded result rest.files s.terms rest.terms it) kinds clock
 
@@ -336,7 +339,7 @@ module _ (s : State) (p code : ℕ) (running : IsRunning s) (lives : IsLiving s.
         attempt : Attempt
         attempt = record {
           call = call;
-          inner = s.inner;
+          processes = s.processes;
           files = s.files;
           now = now;
           process = p;
@@ -348,56 +351,56 @@ module _ (s : State) (p code : ℕ) (running : IsRunning s) (lives : IsLiving s.
         }
 
         kinds : AreKinds rest.files
-        kinds = (attempt-stands call s.inner s.files now p result rest.files s.terms rest.terms it running.kinds).kinds
+        kinds = (attempt-stands call s.processes s.files now p result rest.files s.terms rest.terms it running.kinds).kinds
 
-        clock : IsClock rest.clock s.inner.tick
-        clock = subst (λ (clock : Clock). IsClock clock s.inner.tick) (sym clock_is) running.clock
+        clock : IsClock rest.clock s.processes.tick
+        clock = subst (λ (clock : Clock). IsClock clock s.processes.tick) (sym clock_is) running.clock
 
-        tick : (after_attempt s.inner p result).tick ≡ s.inner.tick
+        tick : (after_attempt s.processes p result).tick ≡ s.processes.tick
         tick =
-            ap (λ (result : CallResult). (after_attempt s.inner p result).tick) it.result_is ∙ path-tick s.inner p _ it.effect.end
+            ap (λ (result : CallResult). (after_attempt s.processes p result).tick) it.result_is ∙ path-tick s.processes p _ it.effect.end
 
         -- a call that waits then
-        own : OnDevice attempt → (kept : Kept) → kept_at rest.files.io p ≡ Some kept → WaitsOnPath rest.files p kept
-        own on kept is = by_wait (waits-of attempt (ap is_some is))
+        own : OnDevice attempt → (pending : PendingCall) → pending_at rest.files.io p ≡ Some pending → WaitsOnPath rest.files p pending
+        own on pending is = by_wait (waits-of attempt (ap is_some is))
           where
-            by_wait : Waits attempt ⊎ WaitsOnRecord attempt → WaitsOnPath rest.files p kept
+            by_wait : Waits attempt ⊎ WaitsOnRecord attempt → WaitsOnPath rest.files p pending
             by_wait (inl waiting) =
-                device-waits call on.0.device s.inner s.files rest.files p on.0.device_is waiting kept
-                (io-path s.inner s.files.io p running.kept lives code on.0.device (length s.files.drives) result rest.files.io s.terms rest.terms next
-                (code-there code call coded ∙ on.0.device_is) on.0.attempted kept is)
-            by_wait (inr waiting) = waits-on s p code running lives next now call coded result rest.files s.terms rest.terms waiting kept is
+                device-waits call on.0.device s.processes s.files rest.files p on.0.device_is waiting pending
+                (io-path s.processes s.files.io p running.kept lives code on.0.device (length s.files.drives) result rest.files.io s.terms rest.terms next
+                (code-there code call coded ∙ on.0.device_is) on.0.attempted pending is)
+            by_wait (inr waiting) = waits-on s p code running lives next now call coded result rest.files s.terms rest.terms waiting pending is
 
         by_touch : OnDevice attempt ⊎ TouchesNone attempt ⊎ WaitsOnRecord attempt → Runs result rest
         by_touch (inr (inr waiting)) =
-            record-runs call coded waiting (attempt-stay attempt (waits-others call s.inner s.files now p result rest.files s.terms rest.terms running.requested waiting))
+            record-runs call coded waiting (attempt-stay attempt (waits-others call s.processes s.files now p result rest.files s.terms rest.terms running.requested waiting))
             kinds (subst (IsClock rest.clock) (sym tick) clock)
         by_touch (inl on) =
             io-runs on.0.device (code-there code call coded ∙ on.0.device_is)
             on.0.attempted (on.0.requests, attempt-stay attempt on.0.requests.others) (own on) kinds (subst (IsClock rest.clock) (sym tick) clock)
         by_touch (inr (inl none)) =
-            over-runs result rest (answered-over s.inner p result none.over)
-            (let io = io-kept s.inner s.files p result rest.files s.terms rest.terms none in (io-touched s.inner.records (length s.terms) p s.files.io rest.files.io io, io.calls.none))
+            over-runs result rest (answered-over s.processes p result none.over)
+            (let io = io-kept s.processes s.files p result rest.files s.terms rest.terms none in (io-touched s.processes.records (length s.terms) p s.files.io rest.files.io io, io.calls.none))
             (inl (none.requests, attempt-stay attempt none.requests.others)) none.terminals kinds clock
 
     -- ---- processes
 
     fork-by : (files : Files) → files.io ≡ s.files.io → files.records ≡ s.files.records → AreKinds files
-        → call_of code ≡ Some Call.Fork → (result : CallResult) → IsOver (Child s.inner p) result
+        → call_of code ≡ Some Call.Fork → (result : CallResult) → IsOver (Child s.processes p) result
         → Runs result (with_files s (files_after_fork files p result))
     fork-by files io same kinds coded (done t) child =
-        over-runs (done t) (with_files s (files_started_by t)) (over-done s.inner p t child.aside child.tick)
+        over-runs (done t) (with_files s (files_started_by t)) (over-done s.processes p t child.aside child.tick)
         (subst (λ (io : Io). BesideIo (io_started io p (regs_at t p).a)) (sym io) (
-          io-begun s.inner.records (length s.terms) p s.files.io (regs_at t p).a
-              (free-is s.inner.records (regs_at t p).a child.number).none,
+          io-begun s.processes.records (length s.terms) p s.files.io (regs_at t p).a
+              (free-is s.processes.records (regs_at t p).a child.number).none,
           none-kept (proc-no-io code Call.Fork coded),
         ))
         (inr (none-kept (proc-no-io code Call.Fork coded), same)) refl (kinds-started files kinds p (regs_at t p).a) running.clock
       where
-        files_started_by : Inner → Files
+        files_started_by : Processes → Files
         files_started_by t = files_after_fork files p (done t)
     fork-by files io same kinds coded (refused number) over =
-        over-runs (refused number) (with_files s files) (over-refused s.inner p number)
+        over-runs (refused number) (with_files s files) (over-refused s.processes p number)
         (beside files.io (proc-no-io code Call.Fork coded) io)
         (inr (none-kept (proc-no-io code Call.Fork coded), same)) refl kinds running.clock
     fork-by files io same kinds coded (waits t) over = absurd over
@@ -405,18 +408,18 @@ module _ (s : State) (p code : ℕ) (running : IsRunning s) (lives : IsLiving s.
 
     fork-runs : call_of code ≡ Some Call.Fork → Serves (on_processes Call.Fork) s now p result rest → Runs result rest
     fork-runs coded (files, it, rest_is) =
-        subst (Runs result) (sym rest_is) (fork-by files (fork-leaves s.inner (asker_of s.inner p now) s.files
-        (length s.terms) p result files it).io (fork-leaves s.inner (asker_of s.inner p now) s.files
+        subst (Runs result) (sym rest_is) (fork-by files (fork-leaves s.processes (asker_of s.processes p now) s.files
+        (length s.terms) p result files it).io (fork-leaves s.processes (asker_of s.processes p now) s.files
         (length s.terms) p result files it).records
-        (fork-kinds s.inner (asker_of s.inner p now) s.files (length s.terms) p result files it running.kinds) coded result
-        (fork-over s.inner (asker_of s.inner p now) s.files (length s.terms) p result files lives it))
+        (fork-kinds s.processes (asker_of s.processes p now) s.files (length s.terms) p result files it running.kinds) coded result
+        (fork-over s.processes (asker_of s.processes p now) s.files (length s.terms) p result files lives it))
 
     -- a call that starts no program of a file
     call-beside : io_call_of code ≡ None → (result : CallResult) → BesideIo (files_after_call s.files p result).io
     call-beside none (done t) = beside s.files.io none refl
     call-beside none (refused number) = beside s.files.io none refl
     call-beside none (waits t) = beside s.files.io none refl
-    call-beside none (ends status) = (io-closed s.inner.records (length s.terms) p s.files.io, ended-none s.files.io p)
+    call-beside none (ends status) = (io-closed s.processes.records (length s.terms) p s.files.io, ended-none s.files.io p)
 
     call-ends : io_call_of code ≡ None → (result : CallResult) → EndsRequest (files_after_call s.files p result)
     call-ends none (done t) = inr (none-kept none, refl)
@@ -430,17 +433,18 @@ module _ (s : State) (p code : ℕ) (running : IsRunning s) (lives : IsLiving s.
     call-kinds (waits t) = running.kinds
     call-kinds (ends status) = kinds-ended s.files running.kinds p
 
-    call-runs : (call : ProcCall) → call_of code ≡ Some call → (result ≡ attempted call s.inner p) × (rest ≡ with_files s (files_after_call s.files p result)) → Runs result rest
+    call-runs : (call : ProcCall) → call_of code ≡ Some call → (result ≡ attempted call s.processes p) × (rest ≡ with_files s (files_after_call s.files p result)) → Runs result rest
     call-runs call coded (is, rest_is) =
         let io = call-beside (proc-no-io code call coded) result in
         subst (Runs result) (sym rest_is) (next-running s p (after result (with_files s (files_after_call s.files p result))) running
-        (left-aside s.inner p (call_event_end result) (after_attempt s.inner p result) (subst (AttemptLeft s.inner p) (sym is) (attempt-left s.inner p call lives (code, next, coded))))
-        io.0 (λ kept there. absurd (none-some kept (sym io.1 ∙ there)))
-        (in-call s.inner s.files.io p running.in_calls lives running.places code call result _ next coded (subst (HasItsCall s.inner p) (sym is) (attempt-has s.inner p call)))
+        (left-aside s.processes p (call_event_end result) (after_attempt s.processes p result)
+            (subst (AttemptLeft s.processes p) (sym is) (attempt-left s.processes p call lives (code, next, coded))))
+        io.0 (λ pending there. absurd (none-some pending (sym io.1 ∙ there)))
+        (in-call s.processes s.files.io p running.in_calls lives running.places code call result _ next coded (subst (HasItsCall s.processes p) (sym is) (attempt-has s.processes p call)))
         refl (requested-then (files_after_call s.files p result) io.0 (call-ends (proc-no-io code call coded) result))
         (stays-then (files_after_call s.files p result) (call-ends (proc-no-io code call coded) result))
-        (λ kept there. absurd (none-some kept (sym io.1 ∙ there))) (call-kinds result)
-        (subst (IsClock s.clock) (sym (ap (λ (result : CallResult). (after_attempt s.inner p result).tick) is ∙ attempt-tick s.inner p call)) running.clock))
+        (λ pending there. absurd (none-some pending (sym io.1 ∙ there))) (call-kinds result)
+        (subst (IsClock s.clock) (sym (ap (λ (result : CallResult). (after_attempt s.processes p result).tick) is ∙ attempt-tick s.processes p call)) running.clock))
 
     process-runs : (call : ProcCall) → call_of code ≡ Some call → Serves (on_processes call) s now p result rest → Runs result rest
     process-runs Call.Fork coded it = fork-runs coded it

@@ -8,7 +8,7 @@ use Rattle.proc_rules.specs.Records.{IsLiving, is_waiting, record_at}
 use Rattle.proc_rules.specs.Signals.{with_signal}
 use Rattle.call_rules.specs.Attempts.{goes_on}
 use Rattle.call_rules.specs.Delivery.{after_delivery, delivered, has_no_room, interrupted, interrupted_regs, routine_begun, stack_top, with_frame}
-use Rattle.call_rules.specs.Inner.{Inner, regs_at, with_records}
+use Rattle.call_rules.specs.Processes.{Processes, regs_at, with_records}
 use Rattle.call_rules.specs.Ready.{Act, act_of, attempts, delivers, executes}
 use Rattle.io_rules.specs.Io.{Io}
 use Rattle.io_rules.specs.Waiting.{interrupted_count}
@@ -28,7 +28,7 @@ use Rattle.event_rules.specs.Event.{after_instruction, broken_off, delivery_end,
 use Rattle.std.specs.Prelude.{length}
 use Rattle.std.proofs.lemmas.Option.{none-some}
 use Rattle.io_rules.specs.Processes.{io_ended}
-use Rattle.io_rules.specs.Io.{kept_at}
+use Rattle.io_rules.specs.Io.{pending_at}
 use Rattle.call_laws.proofs.EventsKept.{broken-left, instruction-left}
 use Rattle.machine_model.proofs.Gains.{event-gains}
 use Rattle.wait_laws.proofs.Aside.{IoAside, left-aside}
@@ -39,21 +39,21 @@ use Rattle.wait_laws.proofs.RunningLaws.{zip-length}
 
 -- ---- the tick
 
-broken-tick : (m : Inner) (p : ℕ) (count : Option ℕ) → (broken_off m p count).tick ≡ m.tick
+broken-tick : (m : Processes) (p : ℕ) (count : Option ℕ) → (broken_off m p count).tick ≡ m.tick
 broken-tick m p None = refl
 broken-tick m p (Some count) = refl
 
-interrupted-tick : (m : Inner) (p signal : ℕ) → (interrupted m p signal).tick ≡ m.tick
+interrupted-tick : (m : Processes) (p signal : ℕ) → (interrupted m p signal).tick ≡ m.tick
 interrupted-tick m p signal = by_waits (is_waiting (record_at m.records p).life)
   where
     by_waits : (waits : Bool) → (if waits then goes_on (with_records m (with_signal m.records p None)) p (interrupted_regs m p signal) else with_records m (with_signal m.records p None)).tick ≡ m.tick
     by_waits true = refl
     by_waits false = refl
 
-delivery-tick : (m : Inner) (p signal : ℕ) → (after_delivery m p (delivered m p signal)).tick ≡ m.tick
+delivery-tick : (m : Processes) (p signal : ℕ) → (after_delivery m p (delivered m p signal)).tick ≡ m.tick
 delivery-tick m p signal = by_intercept (record_at m.records p).intercept
   where
-    begun : Intercept → Inner
+    begun : Intercept → Processes
     begun intercept =
         with_frame (interrupted m p signal) p intercept signal (interrupted_regs m p signal) (stack_top (regs_at m p).s - 12)
 
@@ -65,7 +65,7 @@ delivery-tick m p signal = by_intercept (record_at m.records p).intercept
     by_zero intercept true = ended-tick m p signal
     by_zero intercept false = by_room intercept (has_no_room m p (stack_top (regs_at m p).s))
 
-    of_intercept : Option Intercept → Result Inner ℕ
+    of_intercept : Option Intercept → Result Processes ℕ
     of_intercept None = Err signal
     of_intercept (Some intercept) = if signal == 0 then Err signal else routine_begun m p intercept signal
 
@@ -73,7 +73,7 @@ delivery-tick m p signal = by_intercept (record_at m.records p).intercept
     by_intercept None = ended-tick m p signal
     by_intercept (Some intercept) = by_zero intercept (signal == 0)
 
-instruction-tick : (m : Inner) (p : ℕ) (outcome : Outcome) → (after_instruction m p outcome).tick ≡ m.tick
+instruction-tick : (m : Processes) (p : ℕ) (outcome : Outcome) → (after_instruction m p outcome).tick ≡ m.tick
 instruction-tick m p (Done effect) = refl
 instruction-tick m p (Calls code regs) = refl
 instruction-tick m p (Aborts status) = ended-tick m p status
@@ -85,7 +85,7 @@ instruction-stay files p (Done effect) = same-stay p files.records files.records
 instruction-stay files p (Calls code regs) = same-stay p files.records files.records refl
 instruction-stay files p (Aborts status) = ended-stay files p
 
-delivery-stay : (files : Files) (p : ℕ) (result : Result Inner ℕ) → RequestsStay p files.records (files_after_delivery files p result).records
+delivery-stay : (files : Files) (p : ℕ) (result : Result Processes ℕ) → RequestsStay p files.records (files_after_delivery files p result).records
 delivery-stay files p (Ok t) = interrupted-stay files p
 delivery-stay files p (Err status) = ended-stay files p
 
@@ -95,63 +95,63 @@ module _ (files : Files) (p : ℕ) (kinds : AreKinds files) where
   instruction-kinds (Calls code regs) = kinds
   instruction-kinds (Aborts status) = kinds-ended files kinds p
 
-  delivery-kinds : (result : Result Inner ℕ) → AreKinds (files_after_delivery files p result)
+  delivery-kinds : (result : Result Processes ℕ) → AreKinds (files_after_delivery files p result)
   delivery-kinds (Ok t) = kinds-interrupted files p kinds
   delivery-kinds (Err status) = kinds-ended files kinds p
 
 -- ---- one event
 
-module _ (s : State) (p : ℕ) (running : IsRunning s) (lives : IsLiving s.inner.records p) where
+module _ (s : State) (p : ℕ) (running : IsRunning s) (lives : IsLiving s.processes.records p) where
   -- the others keep their input and output, and the process waits in no call on paths
   abbrev Beside : Io → Type 0
-  Beside new = IoAside s.inner.records (length s.terms) p s.files.io new × (kept_at new p ≡ None)
+  Beside new = IoAside s.processes.records (length s.terms) p s.files.io new × (pending_at new p ≡ None)
 
   ended : Beside (io_ended s.files.io p)
-  ended = (io-closed s.inner.records (length s.terms) p s.files.io, ended-none s.files.io p)
+  ended = (io-closed s.processes.records (length s.terms) p s.files.io, ended-none s.files.io p)
 
-  instruction-beside : kept_at s.files.io p ≡ None → (outcome : Outcome) → Beside (files_after_instruction s.files p outcome).io
-  instruction-beside none (Done effect) = (io-same s.inner.records (length s.terms) p s.files.io, none)
-  instruction-beside none (Calls code regs) = (io-same s.inner.records (length s.terms) p s.files.io, none)
+  instruction-beside : pending_at s.files.io p ≡ None → (outcome : Outcome) → Beside (files_after_instruction s.files p outcome).io
+  instruction-beside none (Done effect) = (io-same s.processes.records (length s.terms) p s.files.io, none)
+  instruction-beside none (Calls code regs) = (io-same s.processes.records (length s.terms) p s.files.io, none)
   instruction-beside none (Aborts status) = ended
 
-  delivery-beside : (result : Result Inner ℕ) → Beside (files_after_delivery s.files p result).io
-  delivery-beside (Ok t) = (io-broken s.inner.records (length s.terms) p s.files.io, interrupted-none s.files.io p)
+  delivery-beside : (result : Result Processes ℕ) → Beside (files_after_delivery s.files p result).io
+  delivery-beside (Ok t) = (io-broken s.processes.records (length s.terms) p s.files.io, interrupted-none s.files.io p)
   delivery-beside (Err status) = ended
 
-  instruction-requested : (outcome : Outcome) → IoAside s.inner.records (length s.terms) p s.files.io
+  instruction-requested : (outcome : Outcome) → IoAside s.processes.records (length s.terms) p s.files.io
       (files_after_instruction s.files p outcome).io → AreRequested (files_after_instruction s.files p outcome)
   instruction-requested (Done effect) io = running.requested
   instruction-requested (Calls code regs) io = running.requested
   instruction-requested (Aborts status) io =
       none-then p s.files (files_ended s.files p) io.calls running.requested (none-ended s.files p)
 
-  delivery-requested : (result : Result Inner ℕ) → IoAside s.inner.records (length s.terms) p s.files.io
+  delivery-requested : (result : Result Processes ℕ) → IoAside s.processes.records (length s.terms) p s.files.io
       (files_after_delivery s.files p result).io → AreRequested (files_after_delivery s.files p result)
   delivery-requested (Ok t) io =
       none-then p s.files (files_interrupted s.files p) io.calls running.requested (none-interrupted s.files p)
   delivery-requested (Err status) io =
       none-then p s.files (files_ended s.files p) io.calls running.requested (none-ended s.files p)
 
-  acts-run : (act : Act) (end : EventEnd) (t : State) → act_of s.inner p ≡ act → length t.terms ≡ length s.terms → Acts act s p end t → IsRunning t
+  acts-run : (act : Act) (end : EventEnd) (t : State) → act_of s.processes p ≡ act → length t.terms ≡ length s.terms → Acts act s p end t → IsRunning t
   acts-run executes end t next long (over, is) =
-      let outcome = next_instruction s.inner p in
-      let io = instruction-beside (no-call s.inner s.files.io p running.kept lives (executes-none s.inner s.files.io p running.kept lives next)) outcome in
-      subst IsRunning (sym is) (next-running s p (record s { inner = after_instruction s.inner p outcome; files = files_after_instruction s.files p outcome }) running
-      (left-aside s.inner p (instruction_end outcome) (after_instruction s.inner p outcome) (instruction-left s.inner p outcome))
+      let outcome = next_instruction s.processes p in
+      let io = instruction-beside (no-call s.processes s.files.io p running.kept lives (executes-none s.processes s.files.io p running.kept lives next)) outcome in
+      subst IsRunning (sym is) (next-running s p (record s { processes = after_instruction s.processes p outcome; files = files_after_instruction s.files p outcome }) running
+      (left-aside s.processes p (instruction_end outcome) (after_instruction s.processes p outcome) (instruction-left s.processes p outcome))
       io.0 (λ kept there. absurd (none-some kept (sym io.1 ∙ there)))
-      (in-instruction s.inner s.files.io p running.in_calls lives running.places next outcome _)
+      (in-instruction s.processes s.files.io p running.in_calls lives running.places next outcome _)
       refl (instruction-requested outcome io.0) (instruction-stay s.files p outcome)
       (λ kept there. absurd (none-some kept (sym io.1 ∙ there)))
-      (instruction-kinds s.files p running.kinds outcome) (subst (IsClock s.clock) (sym (instruction-tick s.inner p outcome)) running.clock))
+      (instruction-kinds s.files p running.kinds outcome) (subst (IsClock s.clock) (sym (instruction-tick s.processes p outcome)) running.clock))
   acts-run (delivers signal) end t next long (over, is) =
       let found = before_delivery s p in
       let result = delivered found p signal in
       let io = delivery-beside result in
-      let tick : (after_delivery found p result).tick ≡ s.inner.tick = delivery-tick found p signal ∙ broken-tick s.inner p (interrupted_count s.files.io p) in
-      subst IsRunning (sym is) (next-running s p (record s { inner = after_delivery found p result; files = files_after_delivery s.files p result }) running
-      (left-aside s.inner p (delivery_end result) (after_delivery found p result) (broken-left s.inner p signal (interrupted_count s.files.io p)))
+      let tick : (after_delivery found p result).tick ≡ s.processes.tick = delivery-tick found p signal ∙ broken-tick s.processes p (interrupted_count s.files.io p) in
+      subst IsRunning (sym is) (next-running s p (record s { processes = after_delivery found p result; files = files_after_delivery s.files p result }) running
+      (left-aside s.processes p (delivery_end result) (after_delivery found p result) (broken-left s.processes p signal (interrupted_count s.files.io p)))
       io.0 (λ kept there. absurd (none-some kept (sym io.1 ∙ there)))
-      (in-delivery s.inner s.files.io p running.in_calls lives running.places signal (interrupted_count s.files.io p) _)
+      (in-delivery s.processes s.files.io p running.in_calls lives running.places signal (interrupted_count s.files.io p) _)
       refl (delivery-requested result io.0) (delivery-stay s.files p result)
       (λ kept there. absurd (none-some kept (sym io.1 ∙ there))) (delivery-kinds s.files p running.kinds result) (subst (IsClock s.clock) (sym tick) running.clock))
   acts-run (attempts code) end t next long (result, rest, attempted, over, is) =
@@ -159,4 +159,4 @@ module _ (s : State) (p : ℕ) (running : IsRunning s) (lives : IsLiving s.inner
 
 pub event-running : (s t : State) (end : EventEnd) → Event s end t → IsRunning s → IsRunning t
 event-running s t end (p, chosen, lives, acts) running =
-    acts-run s p running lives (act_of s.inner p) end t refl (zip-length s.terms t.terms (event-gains s t end (p, chosen, lives, acts)).terminals) acts
+    acts-run s p running lives (act_of s.processes p) end t refl (zip-length s.terms t.terms (event-gains s t end (p, chosen, lives, acts)).terminals) acts

@@ -22,18 +22,18 @@ use Rattle.call_rules.specs.CallResult.{CallResult, done, refused, waits, ends}
 use Rattle.call_rules.specs.Codes.{call_of}
 use Rattle.call_rules.specs.Delivery.{after_delivery, delivered, has_no_room, interrupted_regs, routine_begun, stack_top, with_frame}
 use Rattle.call_rules.specs.End.{ended, without_process}
-use Rattle.call_rules.specs.Inner.{Inner, own_at, regs_at, with_regs_of}
+use Rattle.call_rules.specs.Processes.{Processes, own_at, regs_at, with_regs_of}
 use Rattle.call_rules.specs.ModuleLinks.{without_module_link}
 use Rattle.call_rules.specs.Ready.{attempts, executes, act_of, next_act}
-use Rattle.io_model.specs.declared.kept.Kept.{Kept}
-use Rattle.io_rules.specs.Attempts.{IoAttempts, kept_in, result_by, with_stored}
+use Rattle.io_model.specs.declared.pending.PendingCall.{PendingCall}
+use Rattle.io_rules.specs.Attempts.{IoAttempts, pending_in, result_by, with_stored}
 use Rattle.io_rules.specs.Codes.{io_call_of}
-use Rattle.io_rules.specs.Io.{Io, kept_at, with_call}
+use Rattle.io_rules.specs.Io.{Io, pending_at, with_call}
 use Rattle.io_rules.specs.Step.{IoEffect, IoEnd, answers, fails, keeps}
 use Rattle.io_rules.specs.declared.io_call.IoCall.{IoCall}
 use Rattle.event_rules.specs.Event.{after_instruction, broken_off}
 use Rattle.call_laws.proofs.OthersKept.{living-within, record-put}
-use Rattle.call_laws.specs.Kept.{AreInCalls, WaitsInCall}
+use Rattle.call_laws.specs.Pending.{AreInCalls, WaitsInCall}
 use Rattle.wait_laws.proofs.CallCodes.{not-both}
 use Rattle.call_laws.proofs.Codes.{attempts-code}
 use Rattle.wait_laws.proofs.WaitsMade.{HasItsCall}
@@ -62,7 +62,7 @@ going-waits : (records : List (Option Record)) (p : ℕ) → IsWaiting (with_wai
 going-waits records p waiting = waits-runs (put-waits records p (record (record_at records p) { life = Running }) waiting)
 
 -- a process that goes on does not wait
-pub on-waits : (m : Inner) (p : ℕ) (regs : Regs) → IsWaiting (goes_on m p regs).records p → ⊥
+pub on-waits : (m : Processes) (p : ℕ) (regs : Regs) → IsWaiting (goes_on m p regs).records p → ⊥
 on-waits m p regs waiting = going-waits (with_regs m.records p regs) p waiting
 
 -- a process that ends does not live
@@ -80,7 +80,7 @@ exit-waits records p status lives =
     by_parent false is = false≢true is
 
 -- nor where it gives up its primary module first
-ended-waits : (m : Inner) (p status : ℕ) → IsLiving (ended m p status).records p → ⊥
+ended-waits : (m : Processes) (p status : ℕ) → IsLiving (ended m p status).records p → ⊥
 ended-waits m p status = by_primary (own_at m p).primary
   where
     by_primary : (primary : Option ModId) → IsLiving (without_process (option_map_or (λ (id : ModId). without_module_link m id.0) primary m) p status).records p → ⊥
@@ -89,9 +89,9 @@ ended-waits m p status = by_primary (own_at m p).primary
 
 -- ---- the process itself
 
-module _ (m : Inner) (old : Io) (p : ℕ) (in_calls : AreInCalls m old) (lives : IsLiving m.records p) (places : length m.records ≤ length old.calls) where
+module _ (m : Processes) (old : Io) (p : ℕ) (in_calls : AreInCalls m old) (lives : IsLiving m.records p) (places : length m.records ≤ length old.calls) where
   -- where it waits then, it waits in a call
-  abbrev pub In : Inner → Io → Type 0
+  abbrev pub In : Processes → Io → Type 0
   In n io = IsWaiting n.records p → WaitsInCall n io p
 
   -- ---- an instruction
@@ -120,10 +120,10 @@ module _ (m : Inner) (old : Io) (p : ℕ) (in_calls : AreInCalls m old) (lives :
 
   -- where the process has other records of its own
   module _ (signal : ℕ) (records : List (Option Record)) where
-    abbrev found : Inner
+    abbrev found : Processes
     found = record m { records = records }
 
-    abbrev taken : Inner
+    abbrev taken : Processes
     taken = record found { records = with_signal records p None }
 
     frame-waits : (intercept : Intercept) (regs interrupted : Regs) (frame : ℕ) (held : Bool)
@@ -140,7 +140,7 @@ module _ (m : Inner) (old : Io) (p : ℕ) (in_calls : AreInCalls m old) (lives :
         let before : p < length records = subst (λ (n : ℕ). p < n) (length-set records p (Some (record (record_at records p) { signal = None }))) within in
         false≢true (sym held ∙ (sym (ap (λ (r : Record). is_waiting r.life) (record-put records p (record (record_at records p) { signal = None }) before)) ∙ put-waits taken.records p _ waiting))
 
-    abbrev Quiet : Result Inner ℕ → Type 0
+    abbrev Quiet : Result Processes ℕ → Type 0
     Quiet result = IsWaiting (after_delivery found p result).records p → ⊥
 
     routine-waits : (intercept : Intercept) → Quiet (routine_begun found p intercept signal)
@@ -157,7 +157,7 @@ module _ (m : Inner) (old : Io) (p : ℕ) (in_calls : AreInCalls m old) (lives :
     delivery-waits : Quiet (delivered found p signal)
     delivery-waits = by_intercept (record_at records p).intercept
       where
-        answer : Option Intercept → Result Inner ℕ
+        answer : Option Intercept → Result Processes ℕ
         answer None = Err signal
         answer (Some intercept) = if signal == 0 then Err signal else routine_begun found p intercept signal
 
@@ -192,21 +192,21 @@ module _ (m : Inner) (old : Io) (p : ℕ) (in_calls : AreInCalls m old) (lives :
 
   -- ---- a call on paths
 
-  put-kept : (before io : Io) (kept : Kept) → io ≡ with_call before p (Some kept) → length io.calls ≡ length old.calls → IsSome (kept_at io p)
-  put-kept before io kept is long =
-      let many : length io.calls ≡ length before.calls = ap (λ (io : Io). length io.calls) is ∙ length-set before.calls p (Some kept) in
+  put-kept : (before io : Io) (pending : PendingCall) → io ≡ with_call before p (Some pending) → length io.calls ≡ length old.calls → IsSome (pending_at io p)
+  put-kept before io pending is long =
+      let many : length io.calls ≡ length before.calls = ap (λ (io : Io). length io.calls) is ∙ length-set before.calls p (Some pending) in
       let here : p < length m.records = living-within m.records p lives in
       let within : p < length before.calls = omega (arith, many, long, here, places) in
-      ap is_some (ap (λ (io : Io). kept_at io p) is ∙ get_or-set_same before.calls p (Some kept) None within)
+      ap is_some (ap (λ (io : Io). pending_at io p) is ∙ get_or-set_same before.calls p (Some pending) None within)
 
   pub in-end : (code : ℕ) (effect : IoEffect) (end : IoEnd) (io : Io) → act_of m p ≡ attempts code
-      → io ≡ with_call effect.io p (kept_in end) → length io.calls ≡ length old.calls
+      → io ≡ with_call effect.io p (pending_in end) → length io.calls ≡ length old.calls
       → In (after_attempt m p (result_by end m p effect)) io
   in-end code effect (answers regs) io next is long waiting =
       absurd (on-waits (with_regs_of (with_stored m p effect) p regs) p _ waiting)
   in-end code effect (fails number) io next is long waiting = absurd (on-waits m p _ waiting)
-  in-end code effect (keeps kept) io next is long waiting =
-      record { code = code; made = attempts-code m p code next; kept = λ some. put-kept effect.io io kept is long }
+  in-end code effect (keeps pending) io next is long waiting =
+      record { code = code; made = attempts-code m p code next; kept = λ some. put-kept effect.io io pending is long }
 
   pub in-io : (code : ℕ) (call : IoCall) (drives : ℕ) (result : CallResult) (io : Io)
       (before after : List TerminalState) → act_of m p ≡ attempts code → length io.calls ≡ length old.calls

@@ -11,11 +11,11 @@ use Rattle.os9_outer.specs.TerminalState.{TerminalState}
 use Rattle.user_names.specs.declared.name_fault.NameFault.{NameFault}
 use Rattle.user_names.specs.declared.name_fault.NameFault.TheVariants.{Unreadable, NoName}
 use Rattle.call_rules.specs.UserBytes.{user_bytes}
-use Rattle.io_model.specs.Kept.{count_left, is_complete, moved_on}
+use Rattle.io_model.specs.Pending.{count_left, is_complete, moved_on}
 use Rattle.io_model.specs.Line.{has_return, line_length}
 use Rattle.io_model.specs.Path.{desc_of, slot_of, free_number, new_number, paths_after_begin, paths_after_dup}
 use Rattle.io_model.specs.Pipe.{answer_unmoved, bytes_moved, free_pipe, pipe_room, pipes_after_begin}
-use Rattle.io_model.specs.declared.kept.Kept.{Kept}
+use Rattle.io_model.specs.declared.pending.PendingCall.{PendingCall}
 use Rattle.io_model.specs.declared.path.Desc.{Desc}
 use Rattle.io_model.specs.declared.path.SysPath.{SysPath}
 use Rattle.io_model.specs.declared.path.Target.{Target}
@@ -25,12 +25,12 @@ use Rattle.io_model.specs.declared.pipe.PipeAns.TheVariants as Ans
 use Rattle.io_model.specs.declared.terminal.Progress.{Progress}
 use Rattle.io_model.specs.declared.terminal.ReadKind.{ReadKind}
 use Rattle.io_model.specs.declared.terminal.ReadKind.TheVariants.{Bytes, WholeLine}
-use Rattle.io_rules.specs.Again.{IsKept, KeepsCount, path_number}
+use Rattle.io_rules.specs.Again.{IsPending, KeepsCount, path_number}
 use Rattle.io_rules.specs.Alone.{is_alone}
 use Rattle.io_rules.specs.Attempts.{Does, io_step}
 use Rattle.io_rules.specs.Close.{after_close}
 use Rattle.io_rules.specs.Codes.{direction_of_call, io_call_of}
-use Rattle.io_rules.specs.Io.{Io, OpenPath, kept_at, new_desc, open_path, pipe_bytes, with_paths, with_pipes}
+use Rattle.io_rules.specs.Io.{Io, OpenPath, pending_at, new_desc, open_path, pipe_bytes, with_paths, with_pipes}
 use Rattle.io_rules.specs.Lead.{Lead, to_terminal, to_pipe, nowhere, what_is_there, a_new_place, lead_of}
 use Rattle.io_rules.specs.Modes.{can_read, can_write, is_mode}
 use Rattle.io_rules.specs.Open.{begins, opened_regs, opens_lead, reads_list}
@@ -47,7 +47,7 @@ use Rattle.io_rules.specs.declared.io_call.IoCall.{IoCall}
 use Rattle.io_rules.specs.declared.io_call.IoCall.TheVariants as Call
 use Rattle.io_rules.specs.declared.modes.TheConstants.{STANDARD_ERROR}
 use Rattle.io_rules.specs.declared.status.TheConstants.{SS_OPT, SS_READY, SS_EOF, OPTION_BYTES}
-use Rattle.call_laws.specs.Kept.{StaysAllowed}
+use Rattle.call_laws.specs.Pending.{StaysAllowed}
 use Rattle.file_laws.proofs.Lengths.{LineLength, line-length, user-fits, user-length}
 
 -- a path that is open is the image of its number
@@ -69,15 +69,15 @@ open-slot io p n opened is = by_slot (slot_of io.paths p n) refl is
 -- ---- what an attempt does
 
 -- a call may wait, and this is kept of it then: it is not refused where it is attempted again
-pub record MayWait (call : IoCall) (caller : Caller) (io : Io) (kept : Kept) : Type 0 where
-  pub kept_is : IsKept call caller.regs io caller.process.0 kept
+pub record MayWait (call : IoCall) (caller : Caller) (io : Io) (pending : PendingCall) : Type 0 where
+  pub kept_is : IsPending call caller.regs io caller.process.0 pending
   pub stays : StaysAllowed call caller.cells caller.regs io caller.process.0
 
 -- where a call waits, this is kept of it, and the paths stay
 abbrev pub EndKeeps : IoCall → Caller → Io → Io → IoEnd → Type 0
 EndKeeps call caller io new (answers regs) = Unit {0}
 EndKeeps call caller io new (fails number) = Unit {0}
-EndKeeps call caller io new (keeps kept) = MayWait call caller io kept × (new.paths ≡ io.paths)
+EndKeeps call caller io new (keeps pending) = MayWait call caller io pending × (new.paths ≡ io.paths)
 
 abbrev pub StepKeeps : IoCall → Caller → Io → IoStep → Type 0
 StepKeeps call caller io (refused number) = Unit {0}
@@ -88,11 +88,11 @@ StepKeeps call caller io (writes write) = Unit {0}
 -- a call of the process that waits is this one
 abbrev pub Again : IoCall → Caller → Io → Type 0
 Again call caller io =
-    (kept : Kept) → kept_at io caller.process.0 ≡ Some kept → IsKept call caller.regs io caller.process.0 kept
+    (pending : PendingCall) → pending_at io caller.process.0 ≡ Some pending → IsPending call caller.regs io caller.process.0 pending
 
 module _ (call : IoCall) (caller : Caller) (io : Io) (again : Again call caller io) where
-  abbrev Good : Kept → Type 0
-  Good kept = IsKept call caller.regs io caller.process.0 kept
+  abbrev Good : PendingCall → Type 0
+  Good pending = IsPending call caller.regs io caller.process.0 pending
 
   -- a further attempt of it is not refused
   abbrev Stays : Type 0
@@ -108,27 +108,28 @@ module _ (call : IoCall) (caller : Caller) (io : Io) (again : Again call caller 
 
   -- its first attempt
   abbrev First : ℕ → Type 0
-  First count = kept_at io caller.process.0 ≡ None → KeepsCount call caller.regs count × (0 < count)
+  First count = pending_at io caller.process.0 ≡ None → KeepsCount call caller.regs count × (0 < count)
 
   found-now : (code count : ℕ) (opened : OpenPath) → io_call_of code ≡ Some call → slot_of io.paths caller.process.0
       (path_number call caller.regs) ≡ Some opened.path → First count → Good (call_now caller io code opened count)
-  found-now code count opened coded named first = by_kept (kept_at io caller.process.0) refl
+  found-now code count opened coded named first = by_kept (pending_at io caller.process.0) refl
     where
-      by_kept : (place : Option Kept) → kept_at io caller.process.0 ≡ place → Good (unwrap_or place (first_call code opened count))
-      by_kept (Some kept) is = again kept is
+      by_kept : (place : Option PendingCall) → pending_at io caller.process.0 ≡ place → Good (unwrap_or place (first_call code opened count))
+      by_kept (Some pending) is = again pending is
       by_kept None is = record { code = coded; path = named; count = (first is).0; unfinished = (first is).1 }
 
   -- its count
-  found-count : (code count : ℕ) (opened : OpenPath) → ((kept : Kept) → kept_at io caller.process.0 ≡ Some kept → count ≡ kept.count) → count ≡ (call_now caller io code opened count).count
-  found-count code count opened same = by_kept (kept_at io caller.process.0) refl
+  found-count : (code count : ℕ) (opened : OpenPath) → ((pending : PendingCall) → pending_at io caller.process.0 ≡ Some pending → count ≡ pending.count) → count
+      ≡ (call_now caller io code opened count).count
+  found-count code count opened same = by_kept (pending_at io caller.process.0) refl
     where
-      by_kept : (place : Option Kept) → kept_at io caller.process.0 ≡ place → count ≡ (unwrap_or place (first_call code opened count)).count
-      by_kept (Some kept) is = same kept is
+      by_kept : (place : Option PendingCall) → pending_at io caller.process.0 ≡ place → count ≡ (unwrap_or place (first_call code opened count)).count
+      by_kept (Some pending) is = same pending is
       by_kept None is = refl
 
   -- ---- attempts on a pipe
 
-  moves-on : (now : Kept) (count : ℕ) → Good now → now.moved + count ≤ now.count → is_complete (moved_on now count) ≡ false → Good (moved_on now count)
+  moves-on : (now : PendingCall) (count : ℕ) → Good now → now.moved + count ≤ now.count → is_complete (moved_on now count) ≡ false → Good (moved_on now count)
   moves-on now count good few unfinished =
       let differ : now.moved + count ≢ now.count = eqb-false (now.moved + count) now.count unfinished in
       record {
@@ -141,18 +142,18 @@ module _ (call : IoCall) (caller : Caller) (io : Io) (again : Again call caller 
       below : (a b : ℕ) → a ≤ b → a ≢ b → a < b
       below a b few differ = omega arith
 
-  read-ends : (pipe : ℕ) (now : Kept) (answer : PipeAns) → Good now → Stays → Ends (after_taking io pipe answer) (read_end caller now answer)
+  read-ends : (pipe : ℕ) (now : PendingCall) (answer : PipeAns) → Good now → Stays → Ends (after_taking io pipe answer) (read_end caller now answer)
   read-ends pipe now (Ans.Done count) good stays = tt
   read-ends pipe now Ans.Wait good stays = (record { kept_is = good; stays = stays }, refl)
   read-ends pipe now Ans.End good stays = tt
   read-ends pipe now Ans.NoReader good stays = tt
 
   -- the answer of a line read
-  abbrev line_answer : Bool → Bool → Kept → List ℕ → PipeAns
+  abbrev line_answer : Bool → Bool → PendingCall → List ℕ → PipeAns
   line_answer empty alone now held =
       if empty then answer_unmoved alone Ans.End else Ans.Done (min (count_left now) (line_length held))
 
-  line-ends : (pipe : ℕ) (now : Kept) (held : List ℕ) (empty alone : Bool) → Good now → Stays
+  line-ends : (pipe : ℕ) (now : PendingCall) (held : List ℕ) (empty alone : Bool) → Good now → Stays
       → Ends (after_taking io pipe (line_answer empty alone now held)) (read_line_end caller alone now
       (bytes_moved (line_answer empty alone now held) (pipe_bytes io pipe)) (line_answer empty alone now held))
   line-ends pipe now held true true good stays = by_moved (now.moved == 0)
@@ -185,7 +186,7 @@ module _ (call : IoCall) (caller : Caller) (io : Io) (again : Again call caller 
   write_answered full alone held rest =
       if full then answer_unmoved alone Ans.NoReader else Ans.Done (min (length rest) (pipe_room held))
 
-  write-ends : (pipe : ℕ) (now : Kept) (held rest : List ℕ) (regs : Regs) (full alone : Bool) → Good now → Stays
+  write-ends : (pipe : ℕ) (now : PendingCall) (held rest : List ℕ) (regs : Regs) (full alone : Bool) → Good now → Stays
       → length rest ≡ now.count - now.moved → Ends (after_adding io pipe (write_answered full alone held rest) rest)
       (write_end alone now regs (write_answered full alone held rest))
   write-ends pipe now held rest regs true true good stays left = tt
@@ -205,7 +206,7 @@ module _ (call : IoCall) (caller : Caller) (io : Io) (again : Again call caller 
 
   -- ---- on what the path was opened on
 
-  read-target : (kind : ReadKind) (now : Kept) (target : Target) → Good now → Stays → Keeps (reads_target kind caller io now target)
+  read-target : (kind : ReadKind) (now : PendingCall) (target : Target) → Good now → Stays → Keeps (reads_target kind caller io now target)
   read-target kind now (File drive sector) good stays = tt
   read-target kind now (Folder drive sector) good stays = tt
   read-target kind now (Term terminal) good stays = record { kept_is = good; stays = stays }
@@ -213,7 +214,7 @@ module _ (call : IoCall) (caller : Caller) (io : Io) (again : Again call caller 
   read-target WholeLine now (Pipe pipe) good stays =
       line-ends pipe now (pipe_bytes io pipe) (length (pipe_bytes io pipe) == 0) (is_alone io caller.process.0 now.path.0 Reading) good stays
 
-  write-target : (sending : Sending) (now : Kept) (target : Target) → Good now → Stays → length sending.bytes ≡ now.count → Keeps (writes_target sending caller io now target)
+  write-target : (sending : Sending) (now : PendingCall) (target : Target) → Good now → Stays → length sending.bytes ≡ now.count → Keeps (writes_target sending caller io now target)
   write-target sending now (File drive sector) good stays counted = tt
   write-target sending now (Folder drive sector) good stays counted = tt
   write-target sending now (Term terminal) good stays counted = tt
@@ -276,8 +277,8 @@ module _ (call : IoCall) (caller : Caller) (io : Io) (again : Again call caller 
 
   -- what is known of bytes that are sent
   record Sent (bytes : List ℕ) : Type 0 where
-    pub first : kept_at io caller.process.0 ≡ None → 0 < caller.regs.y → KeepsCount call caller.regs (length bytes) × (0 < length bytes)
-    pub later : (kept : Kept) → kept_at io caller.process.0 ≡ Some kept → length bytes ≡ kept.count
+    pub first : pending_at io caller.process.0 ≡ None → 0 < caller.regs.y → KeepsCount call caller.regs (length bytes) × (0 < length bytes)
+    pub later : (pending : PendingCall) → pending_at io caller.process.0 ≡ Some pending → length bytes ≡ pending.count
 
   send-keeps : (sending : List ℕ → Sending) (code : ℕ) → direction_of_call call ≡ Some Writing → io_call_of code ≡
       Some call → path_number call caller.regs ≡ caller.regs.a → ((bytes : List ℕ) → (sending bytes).bytes ≡ bytes)
@@ -292,11 +293,11 @@ module _ (call : IoCall) (caller : Caller) (io : Io) (again : Again call caller 
       (found-now code (length (sending bytes).bytes) opened coded (ap (slot_of io.paths caller.process.0) at ∙ open-slot io caller.process.0 caller.regs.a opened is)
       (λ first. subst (λ (bytes : List ℕ). KeepsCount call caller.regs (length bytes) × (0 < length bytes)) (sym (same bytes)) ((sent bytes refl).first first some)))
       (stays-write way)
-      (found-count code (length (sending bytes).bytes) opened (λ kept there. ap (length {A = ℕ}) (same bytes) ∙ (sent bytes refl).later kept there))))
+      (found-count code (length (sending bytes).bytes) opened (λ pending there. ap (length {A = ℕ}) (same bytes) ∙ (sent bytes refl).later pending there))))
 
   error-keeps : direction_of_call call ≡ Some Writing → path_number call caller.regs ≡ STANDARD_ERROR
-      → io_call_of F_PERR ≡ Some call → ((kept : Kept) → kept_at io caller.process.0 ≡ Some kept
-      → length (error_line caller.regs.b) ≡ kept.count) → KeepsCount call caller.regs
+      → io_call_of F_PERR ≡ Some call → ((pending : PendingCall) → pending_at io caller.process.0 ≡ Some pending
+      → length (error_line caller.regs.b) ≡ pending.count) → KeepsCount call caller.regs
       (length (error_line caller.regs.b)) → Keeps (f_perr caller io)
   error-keeps way at coded later first =
       path-keeps STANDARD_ERROR can_write (λ opened. sends_on (sent_error caller) F_PERR caller io opened)
@@ -375,7 +376,7 @@ bytes-sent caller io again bytes is =
     let all : length bytes ≡ caller.regs.y = user-length caller.cells caller.regs.x caller.regs.y bytes is in
     record { first = λ none some. (all, omega (arith, all, some)); later = λ kept there. all ∙ sym (again kept there).count }
 
-line-sent : (caller : Caller) (io : Io) (again : Again Call.WritLn caller io) (line : List ℕ) → line_bytes caller (kept_at io caller.process.0) ≡ Some line → Sent Call.WritLn caller io again line
+line-sent : (caller : Caller) (io : Io) (again : Again Call.WritLn caller io) (line : List ℕ) → line_bytes caller (pending_at io caller.process.0) ≡ Some line → Sent Call.WritLn caller io again line
 line-sent caller io again line is = record {
   first = λ none some.
       let it : LineLength caller.regs.y line = line-length caller.cells caller.regs.x caller.regs.y line (sym (ap (line_bytes caller) none) ∙ is) in
@@ -401,7 +402,7 @@ step-keeps Call.ReadLn caller io drives terms again =
 step-keeps Call.Write caller io drives terms again =
     send-keeps Call.Write caller io again (sent_bytes caller) I_WRITE refl refl refl (λ bytes. refl) (user_bytes caller.cells caller.regs.x caller.regs.y) (bytes-sent caller io again)
 step-keeps Call.WritLn caller io drives terms again =
-    send-keeps Call.WritLn caller io again (sent_line caller) I_WRITLN refl refl refl (λ bytes. refl) (line_bytes caller (kept_at io caller.process.0)) (line-sent caller io again)
+    send-keeps Call.WritLn caller io again (sent_line caller) I_WRITLN refl refl refl (λ bytes. refl) (line_bytes caller (pending_at io caller.process.0)) (line-sent caller io again)
 step-keeps Call.GetStt caller io drives terms again =
     get-keeps Call.GetStt caller io again (open_path io caller.process.0 caller.regs.a)
 step-keeps Call.SetStt caller io drives terms again =
@@ -412,46 +413,47 @@ step-keeps Call.PErr caller io drives terms again =
 -- ---- what it leaves
 
 module _ (call : IoCall) (caller : Caller) (io : Io) (before after : List TerminalState) where
-  abbrev Kept_then : IoEffect → Kept → Type 0
-  Kept_then effect kept = MayWait call caller io kept × (effect.io.paths ≡ io.paths)
+  abbrev Kept_then : IoEffect → PendingCall → Type 0
+  Kept_then effect pending = MayWait call caller io pending × (effect.io.paths ≡ io.paths)
 
   -- a read of a terminal
-  read-waits : (read : TerminalRead) (effect : IoEffect) (kept : Kept) → MayWait call caller io read.call
-      → ReadsTerminal caller io read effect before after → effect.end ≡ keeps kept → Kept_then effect kept
-  read-waits read effect kept good it waits =
+  read-waits : (read : TerminalRead) (effect : IoEffect) (pending : PendingCall) → MayWait call caller io read.call
+      → ReadsTerminal caller io read effect before after → effect.end ≡ keeps pending → Kept_then effect pending
+  read-waits read effect pending good it waits =
       (by_answer it.answer it.ends, ap (λ (effect : IoEffect). effect.io.paths) it.effect_is)
     where
-      end_is : it.end ≡ keeps kept
+      end_is : it.end ≡ keeps pending
       end_is = sym (ap (λ (effect : IoEffect). effect.end) it.effect_is) ∙ waits
 
-      by_answer : (answer : Progress) → read_ends caller read answer ≡ Some it.end → MayWait call caller io kept
-      by_answer (Progress.Done count) ends = absurd (let e : answers (count_regs caller count) ≡ keeps kept = same_Some (answers (count_regs caller count)) it.end ends ∙ end_is in cc)
+      by_answer : (answer : Progress) → read_ends caller read answer ≡ Some it.end → MayWait call caller io pending
+      by_answer (Progress.Done count) ends = absurd (let e : answers (count_regs caller count) ≡ keeps pending = same_Some (answers (count_regs caller count)) it.end ends ∙ end_is in cc)
       by_answer Progress.Wait ends =
-          let e : keeps read.call ≡ keeps kept = same_Some (keeps read.call) it.end ends ∙ end_is in
-          let same : read.call ≡ kept = cc in
+          let e : keeps read.call ≡ keeps pending = same_Some (keeps read.call) it.end ends ∙ end_is in
+          let same : read.call ≡ pending = cc in
           subst (MayWait call caller io) same good
-      by_answer Progress.End ends = absurd (let e : fails E_EOF ≡ keeps kept = same_Some (fails E_EOF) it.end ends ∙ end_is in cc)
-      by_answer Progress.Fault ends = absurd (let e : fails E_WRITE ≡ keeps kept = same_Some (fails E_WRITE) it.end ends ∙ end_is in cc)
+      by_answer Progress.End ends = absurd (let e : fails E_EOF ≡ keeps pending = same_Some (fails E_EOF) it.end ends ∙ end_is in cc)
+      by_answer Progress.Fault ends = absurd (let e : fails E_WRITE ≡ keeps pending = same_Some (fails E_WRITE) it.end ends ∙ end_is in cc)
       by_answer Progress.NoMemory ends = absurd (none-some it.end ends)
 
   -- a write never waits
-  write-ends-at-once : (write : TerminalWrite) (effect : IoEffect) (kept : Kept) → WritesTerminal caller io write effect before after → effect.end ≡ keeps kept → ⊥
-  write-ends-at-once write effect kept it waits = by_answer it.answer it.ends
+  write-ends-at-once : (write : TerminalWrite) (effect : IoEffect) (pending : PendingCall) → WritesTerminal caller io write effect before after → effect.end ≡ keeps pending → ⊥
+  write-ends-at-once write effect pending it waits = by_answer it.answer it.ends
     where
-      end_is : it.end ≡ keeps kept
+      end_is : it.end ≡ keeps pending
       end_is = sym (ap (λ (effect : IoEffect). effect.end) it.effect_is) ∙ waits
 
       by_answer : (answer : Progress) → write_ends write answer ≡ Some it.end → ⊥
-      by_answer (Progress.Done count) ends = let e : answers write.regs ≡ keeps kept = same_Some (answers write.regs) it.end ends ∙ end_is in cc
+      by_answer (Progress.Done count) ends = let e : answers write.regs ≡ keeps pending = same_Some (answers write.regs) it.end ends ∙ end_is in cc
       by_answer Progress.Wait ends = none-some it.end ends
       by_answer Progress.End ends = none-some it.end ends
-      by_answer Progress.Fault ends = let e : fails E_WRITE ≡ keeps kept = same_Some (fails E_WRITE) it.end ends ∙ end_is in cc
+      by_answer Progress.Fault ends = let e : fails E_WRITE ≡ keeps pending = same_Some (fails E_WRITE) it.end ends ∙ end_is in cc
       by_answer Progress.NoMemory ends = none-some it.end ends
 
-  pub does-keep : (step : IoStep) (effect : IoEffect) (kept : Kept) → StepKeeps call caller io step → Does step caller io effect before after → effect.end ≡ keeps kept → Kept_then effect kept
-  does-keep (refused number) effect kept good (is, same) waits =
-      absurd (let e : fails number ≡ keeps kept = sym (ap (λ (effect : IoEffect). effect.end) is) ∙ waits in cc)
-  does-keep (comes it) effect kept good (is, same) waits =
+  pub does-keep : (step : IoStep) (effect : IoEffect) (pending : PendingCall) → StepKeeps call caller io step → Does step caller io effect before after → effect.end ≡ keeps pending
+      → Kept_then effect pending
+  does-keep (refused number) effect pending good (is, same) waits =
+      absurd (let e : fails number ≡ keeps pending = sym (ap (λ (effect : IoEffect). effect.end) is) ∙ waits in cc)
+  does-keep (comes it) effect pending good (is, same) waits =
       subst (EndKeeps call caller io effect.io) waits (subst (λ (effect : IoEffect). EndKeeps call caller io effect.io effect.end) (sym is) good)
-  does-keep (reads read) effect kept good does waits = read-waits read effect kept good does waits
-  does-keep (writes write) effect kept good does waits = absurd (write-ends-at-once write effect kept does waits)
+  does-keep (reads read) effect pending good does waits = read-waits read effect pending good does waits
+  does-keep (writes write) effect pending good does waits = absurd (write-ends-at-once write effect pending does waits)

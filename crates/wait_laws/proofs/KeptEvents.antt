@@ -13,15 +13,15 @@ use Rattle.proc_rules.specs.declared.record.Record.{Record}
 use Rattle.proc_rules.specs.Records.{IsLiving, has_ended, is_waiting, new_record, record_at, record_of, record_passes, with_record}
 use Rattle.call_rules.specs.Attempts.{after_attempt}
 use Rattle.call_rules.specs.CallResult.{CallResult}
-use Rattle.call_rules.specs.Inner.{Inner, own_at, regs_at, cells_at}
+use Rattle.call_rules.specs.Processes.{Processes, own_at, regs_at, cells_at}
 use Rattle.call_rules.specs.Ready.{attempts, executes, act_of, next_act}
 use Rattle.io_model.specs.Path.{numbers_of, slot_of}
-use Rattle.io_model.specs.declared.kept.Kept.{Kept}
+use Rattle.io_model.specs.declared.pending.PendingCall.{PendingCall}
 use Rattle.io_model.specs.declared.path.SysPath.{SysPath}
-use Rattle.io_rules.specs.Again.{IsKept, path_number}
-use Rattle.io_rules.specs.Attempts.{IoAttempts, caller_of, kept_in, result_by, step_of, with_stored}
+use Rattle.io_rules.specs.Again.{IsPending, path_number}
+use Rattle.io_rules.specs.Attempts.{IoAttempts, caller_of, pending_in, result_by, step_of, with_stored}
 use Rattle.io_rules.specs.Codes.{io_call_of}
-use Rattle.io_rules.specs.Io.{Io, OpenPath, kept_at, open_path, with_call}
+use Rattle.io_rules.specs.Io.{Io, OpenPath, pending_at, open_path, with_call}
 use Rattle.io_rules.specs.Modes.{can_read}
 use Rattle.io_rules.specs.Processes.{closed_below, io_ended, without_user}
 use Rattle.io_rules.specs.Waiting.{io_interrupted, wait_target, without_unfinished}
@@ -31,7 +31,7 @@ use Rattle.io_rules.specs.declared.io_call.IoCall.{IoCall}
 use Rattle.call_laws.specs.Objects.{KeepsSizes}
 use Rattle.call_laws.proofs.MemoryKept.{kept-written}
 use Rattle.call_laws.proofs.OthersKept.{living-record, living-within}
-use Rattle.call_laws.specs.Kept.{AreKept, KeepsCall, StaysAllowed, StaysRead}
+use Rattle.call_laws.specs.Pending.{ArePending, IsPendingCall, StaysAllowed, StaysRead}
 use Rattle.call_laws.proofs.Codes.{attempts-code}
 use Rattle.wait_laws.proofs.CallCodes.{code-is}
 use Rattle.wait_laws.proofs.Keeping.{Again, MayWait, does-keep, step-keeps}
@@ -84,17 +84,17 @@ stays-on call cells later regs now io new p same fits paths stays reads =
     })
 
 -- what is kept of a call stays, where its process, what is named and its paths do
-pub keeps-on : (m n : Inner) (io new : Io) (p : ℕ) (kept : Kept) → IsLiving n.records p → (record_at n.records p).life
+pub keeps-on : (m n : Processes) (io new : Io) (p : ℕ) (pending : PendingCall) → IsLiving n.records p → (record_at n.records p).life
     ≡ (record_at m.records p).life → regs_at n p ≡ regs_at m p → (own_at n p).call ≡ (own_at m p).call
     → numbers_of new.paths p ≡ numbers_of io.paths p → ((at count : ℕ) → FitsIn (cells_at m p) at count
     → FitsIn (cells_at n p) at count) → ((number : ℕ) (opened : OpenPath) → open_path io p number ≡ Some opened
-    → open_path new p number ≡ Some opened) → KeepsCall m io p kept → KeepsCall n new p kept
-keeps-on m n io new p kept lives life regs own numbers fits paths it = record {
+    → open_path new p number ≡ Some opened) → IsPendingCall m io p pending → IsPendingCall n new p pending
+keeps-on m n io new p pending lives life regs own numbers fits paths it = record {
   lives = lives;
   waits = ap is_waiting life ∙ it.waits;
   made = own ∙ it.made;
   call = it.call;
-  again = subst (λ (regs : Regs). IsKept it.call regs new p kept) (sym regs) (record {
+  again = subst (λ (regs : Regs). IsPending it.call regs new p pending) (sym regs) (record {
     code = it.again.code;
     path =
         ap (λ (numbers : List (Option SysPath)). slice_index_or numbers (path_number it.call (regs_at m p)) None) numbers ∙ it.again.path;
@@ -108,7 +108,7 @@ keeps-on m n io new p kept lives life regs own numbers fits paths it = record {
 
 -- no call of a process waits
 abbrev pub None_waits : Io → ℕ → Type 0
-None_waits io p = kept_at io p ≡ None
+None_waits io p = pending_at io p ≡ None
 
 call-none : (io : Io) (p : ℕ) → None_waits (with_call io p None) p
 call-none io p =
@@ -124,24 +124,24 @@ pub interrupted-none : (io : Io) (p : ℕ) → None_waits (io_interrupted io p) 
 interrupted-none io p = call-none (without_unfinished io p (wait_target io p)) p
 
 -- what is kept is what was put there
-call-put : (io : Io) (p : ℕ) (place : Option Kept) (kept : Kept) → kept_at (with_call io p place) p ≡ Some kept → place ≡ Some kept
-call-put io p place kept is =
+call-put : (io : Io) (p : ℕ) (place : Option PendingCall) (pending : PendingCall) → pending_at (with_call io p place) p ≡ Some pending → place ≡ Some pending
+call-put io p place pending is =
     elim (cases_lt p (length io.calls)) [
       | inl within ↦ sym (get_or-set_same io.calls p place None within) ∙ is
-      | inr past ↦ absurd (none-some kept (sym (get_or_past (with_call io p place).calls p None (rw length-set past)) ∙ is))
+      | inr past ↦ absurd (none-some pending (sym (get_or_past (with_call io p place).calls p None (rw length-set past)) ∙ is))
     ]
 
-module _ (m : Inner) (old : Io) (p : ℕ) (kept_all : AreKept m old) (lives : IsLiving m.records p) where
+module _ (m : Processes) (old : Io) (p : ℕ) (kept_all : ArePending m old) (lives : IsLiving m.records p) where
   within : p < length m.records
   within = living-within m.records p lives
 
   -- a process without a call waits in none
   pub no-call : (own_at m p).call ≡ None → None_waits old p
-  no-call none = by_place (kept_at old p) refl
+  no-call none = by_place (pending_at old p) refl
     where
-      by_place : (place : Option Kept) → kept_at old p ≡ place → place ≡ None
+      by_place : (place : Option PendingCall) → pending_at old p ≡ place → place ≡ None
       by_place None is = refl
-      by_place (Some kept) is = absurd (none-some kept.code (sym none ∙ (kept_all p kept is).made))
+      by_place (Some pending) is = absurd (none-some pending.code (sym none ∙ (kept_all p pending is).made))
 
   pub executes-none : act_of m p ≡ executes → (own_at m p).call ≡ None
   executes-none next = by_call (own_at m p).call (is_waiting (record_at m.records p).life) (record_at m.records p).signal next
@@ -158,67 +158,67 @@ module _ (m : Inner) (old : Io) (p : ℕ) (kept_all : AreKept m old) (lives : Is
       (next : act_of m p ≡ attempts code) (coded : io_call_of code ≡ Some call) (attempt : IoAttempts call m old
       drives p result io before after) where
     again : Again call (caller_of m p) old
-    again kept is =
-        let it = kept_all p kept is in
-        let same : code ≡ kept.code = same_Some code kept.code (sym (attempts-code m p code next) ∙ it.made) in
+    again pending is =
+        let it = kept_all p pending is in
+        let same : code ≡ pending.code = same_Some code pending.code (sym (attempts-code m p code next) ∙ it.made) in
         let one : it.call ≡ call = same_Some it.call call (sym it.again.code ∙ sym (ap io_call_of same) ∙ coded) in
-        subst (λ (call : IoCall). IsKept call (regs_at m p) old p kept) one it.again
+        subst (λ (call : IoCall). IsPending call (regs_at m p) old p pending) one it.again
 
-    kept-end : (end : IoEnd) (kept : Kept) → kept_in end ≡ Some kept → end ≡ keeps kept
-    kept-end (answers regs) kept is = absurd (none-some kept is)
-    kept-end (fails number) kept is = absurd (none-some kept is)
-    kept-end (keeps other) kept is = ap keeps (same_Some other kept is)
+    kept-end : (end : IoEnd) (pending : PendingCall) → pending_in end ≡ Some pending → end ≡ keeps pending
+    kept-end (answers regs) pending is = absurd (none-some pending is)
+    kept-end (fails number) pending is = absurd (none-some pending is)
+    kept-end (keeps other) pending is = ap keeps (same_Some other pending is)
 
     -- what is kept is of the path that the number of the call names
-    pub io-path : (kept : Kept) → kept_at io p ≡ Some kept → slot_of old.paths p (path_number call (regs_at m p)) ≡ Some kept.path
-    io-path kept is =
-        let put : kept_in attempt.effect.end ≡ Some kept = call-put attempt.effect.io p (kept_in attempt.effect.end) kept (sym (ap (λ (io : Io). kept_at io p) attempt.state) ∙ is) in
+    pub io-path : (pending : PendingCall) → pending_at io p ≡ Some pending → slot_of old.paths p (path_number call (regs_at m p)) ≡ Some pending.path
+    io-path pending is =
+        let put : pending_in attempt.effect.end ≡ Some pending = call-put attempt.effect.io p (pending_in attempt.effect.end) pending (sym (ap (λ (io : Io). pending_at io p) attempt.state) ∙ is) in
         let good = does-keep call (caller_of m p) old before after (step_of call m p old drives before) attempt.effect
-        kept (step-keeps call (caller_of m p) old drives (length before) again) attempt.does
-        (kept-end attempt.effect.end kept put) in
+        pending (step-keeps call (caller_of m p) old drives (length before) again) attempt.does
+        (kept-end attempt.effect.end pending put) in
         good.0.kept_is.path
 
     -- the process then
     waiting-record : Record
     waiting-record = record (record_at m.records p) { life = Waiting }
 
-    waits-then : (kept : Kept) → attempt.effect.end ≡ keeps kept → after_attempt m p result ≡ record
+    waits-then : (pending : PendingCall) → attempt.effect.end ≡ keeps pending → after_attempt m p result ≡ record
         (with_stored m p attempt.effect) {
           records = with_record m.records p (record (record_at m.records p)
               { life = Waiting });
         }
-    waits-then kept is =
+    waits-then pending is =
         ap (after_attempt m p) (attempt.result_is ∙ ap (λ (end : IoEnd). result_by end m p attempt.effect) is)
 
-    pub io-keeps : (kept : Kept) → kept_at io p ≡ Some kept → KeepsCall (after_attempt m p result) io p kept
-    io-keeps kept is =
-        let put : kept_in attempt.effect.end ≡ Some kept = call-put attempt.effect.io p (kept_in attempt.effect.end) kept (sym (ap (λ (io : Io). kept_at io p) attempt.state) ∙ is) in
-        let waits_so : attempt.effect.end ≡ keeps kept = kept-end attempt.effect.end kept put in
+    pub io-keeps : (pending : PendingCall) → pending_at io p ≡ Some pending → IsPendingCall (after_attempt m p result) io p pending
+    io-keeps pending is =
+        let put : pending_in attempt.effect.end ≡ Some pending = call-put attempt.effect.io p (pending_in attempt.effect.end) pending (sym (ap (λ (io : Io). pending_at io p) attempt.state) ∙ is) in
+        let waits_so : attempt.effect.end ≡ keeps pending = kept-end attempt.effect.end pending put in
         let good = does-keep call (caller_of m p) old before after (step_of call m p old drives before) attempt.effect
-        kept (step-keeps call (caller_of m p) old drives (length before) again) attempt.does waits_so in
-        subst (λ (n : Inner). KeepsCall n io p kept) (sym (waits-then kept waits_so)) (by_record good.0 good.1)
+        pending (step-keeps call (caller_of m p) old drives (length before) again) attempt.does waits_so in
+        subst (λ (n : Processes). IsPendingCall n io p pending) (sym (waits-then pending waits_so)) (by_record good.0 good.1)
       where
         written-sizes : KeepsSizes m.memory (with_stored m p attempt.effect).memory
         written-sizes = (kept-written {Given = λ byte. Unit {0}} m.memory p (writes_from attempt.effect.at attempt.effect.bytes)).sizes
 
-        by_record : MayWait call (caller_of m p) old kept → attempt.effect.io.paths ≡ old.paths
-            → KeepsCall (record (with_stored m p attempt.effect) {
+        by_record : MayWait call (caller_of m p) old pending → attempt.effect.io.paths ≡ old.paths
+            → IsPendingCall (record (with_stored m p attempt.effect) {
               records = with_record m.records p
                   (record (record_at m.records p) { life = Waiting });
-            }) io p kept
+            }) io p pending
         by_record good paths =
             let at : record_of (with_record m.records p (record (record_at m.records p) { life = Waiting })) p ≡ Some
             (record (record_at m.records p) { life = Waiting }) = get_or-set_same m.records p
             (Some (record (record_at m.records p) { life = Waiting })) None within in
             let here = there-at (with_record m.records p (record (record_at m.records p) { life = Waiting })) p (record (record_at m.records p) { life = Waiting }) at in
-            let same : code ≡ kept.code = code-is code call coded ∙ sym (code-is kept.code call good.kept_is.code) in
+            let same : code ≡ pending.code = code-is code call coded ∙ sym (code-is pending.code call good.kept_is.code) in
             record {
               lives =
                   there-lives (with_record m.records p (record (record_at m.records p) { life = Waiting })) p (record (record_at m.records p) { life = Waiting }) at refl;
               waits = ap (λ (r : Record). is_waiting r.life) here;
               made = attempts-code m p code next ∙ ap Some same;
               call = call;
-              again = subst (λ (regs : Regs). IsKept call regs io p kept) (sym (ap (λ (r : Record). r.regs) here)) (record {
+              again = subst (λ (regs : Regs). IsPending call regs io p pending) (sym (ap (λ (r : Record). r.regs) here)) (record {
                 code = good.kept_is.code;
                 path =
                     ap (λ (io : Io). slot_of io.paths p (path_number call (regs_at m p))) attempt.state ∙ ap (λ paths. slot_of paths p (path_number call (regs_at m p))) paths ∙ good.kept_is.path;

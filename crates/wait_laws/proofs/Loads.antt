@@ -20,7 +20,7 @@ use Rattle.proc_rules.specs.Records.{IsLiving, after_make, free_process, has_end
 use Rattle.call_rules.specs.CallResult.{CallResult, changes, done, needs, refuses}
 use Rattle.call_rules.specs.Chain.{begun_anew, f_chain, with_program}
 use Rattle.call_rules.specs.Fork.{f_fork, forked_regs, with_child, with_child_record}
-use Rattle.call_rules.specs.Inner.{Inner, cells_at, no_own, own_at, regs_at, with_memory, with_regs_of}
+use Rattle.call_rules.specs.Processes.{Processes, cells_at, no_own, own_at, regs_at, with_memory, with_regs_of}
 use Rattle.call_rules.specs.Link.{Mapped, after_link, links_at, mapped_group}
 use Rattle.call_rules.specs.ModuleLinks.{Entered, found_entry, still_primary, without_module_link, without_primary_link}
 use Rattle.call_rules.specs.Program.{Program, area_pages, asks_for_program, blocks_of_pages, most_pages, parameters_at, program_kind, is_unreadable, module_name, name_at_x, reads_program, start_own, start_regs, with_parameters}
@@ -77,7 +77,7 @@ sizes-then : (a b c : MemoryState) → length a.objects ≤ length b.objects →
 sizes-then a b c long first next object there = next object (omega (arith, long, there)) ∙ first object there
 
 -- what leaves the others in the memory that has the file leaves them in the one before
-module _ (m t : Inner) (p : ℕ) (n : MemoryState) (maps : (q : ℕ) → map_at n q ≡ map_at m.memory q) where
+module _ (m t : Processes) (p : ℕ) (n : MemoryState) (maps : (q : ℕ) → map_at n q ≡ map_at m.memory q) where
   so-before : (q : ℕ) (old new : Option Record) → ComesSo (with_memory m n) t q old new → ComesSo m t q old new
   so-before q (Some old) (Some new) it =
       record { life = it.life; regs = it.regs; map = it.map ∙ maps q; call = it.call }
@@ -92,13 +92,13 @@ module _ (m t : Inner) (p : ℕ) (n : MemoryState) (maps : (q : ℕ) → map_at 
     others = λ q differ. so-before q (record_of m.records q) (record_of t.records q) (it.others q differ);
   }
 
-aside-loaded : (m t : Inner) (p : ℕ) (file : List ℕ) (loaded : Loaded) → Enters m.memory file loaded → Aside (with_memory m loaded.memory) t p → Aside m t p
+aside-loaded : (m t : Processes) (p : ℕ) (file : List ℕ) (loaded : Loaded) → Enters m.memory file loaded → Aside (with_memory m loaded.memory) t p → Aside m t p
 aside-loaded m t p file loaded enters it =
     aside-before m t p loaded.memory (loaded-maps m.memory file loaded enters) (loaded-long m.memory file loaded enters) (loaded-sizes m.memory file loaded enters) it
 
 -- a call that goes on with the file in memory is refused, or done so
-goes-over : (m : Inner) (reading : Result ProgramFile ℕ) (next : ProgramFile → Loaded → CallResult)
-    (result : CallResult) (So : Inner → Type 0) → ((file : ProgramFile) (loaded : Loaded) → Enters m.memory file.bytes
+goes-over : (m : Processes) (reading : Result ProgramFile ℕ) (next : ProgramFile → Loaded → CallResult)
+    (result : CallResult) (So : Processes → Type 0) → ((file : ProgramFile) (loaded : Loaded) → Enters m.memory file.bytes
     loaded → IsOver So (next file loaded)) → GoesOnLoaded m reading next result → IsOver So result
 goes-over m (Err number) next result So over is = subst (IsOver So) (sym is) tt
 goes-over m (Ok file) next result So over (Err number, loads, is) = subst (IsOver So) (sym is) tt
@@ -106,7 +106,7 @@ goes-over m (Ok file) next result So over (Ok loaded, loads, is) =
     subst (IsOver So) (sym is) (over file loaded (loaded-enters m.memory file.bytes loads.entries loaded loads.is))
 
 -- the others stay, and the tick
-abbrev Leaves : Inner → ℕ → Inner → Type 0
+abbrev Leaves : Processes → ℕ → Processes → Type 0
 Leaves m p t = Aside m t p × (t.tick ≡ m.tick)
 
 -- ---- F$Load
@@ -135,7 +135,7 @@ mapped-left m p group mapped is =
         })
     by_slot None None is = cc
 
-link-leaves : (m : Inner) (p : ℕ) (file : ProgramFile) (loaded : Loaded) (mapped : Mapped) (count : ℕ)
+link-leaves : (m : Processes) (p : ℕ) (file : ProgramFile) (loaded : Loaded) (mapped : Mapped) (count : ℕ)
     → Enters m.memory file.bytes loaded → mapped_group loaded.memory p loaded.first.entry.group ≡ Some mapped
     → Leaves m p (after_link m p loaded.first mapped count)
 link-leaves m p file loaded mapped count enters is =
@@ -148,7 +148,7 @@ link-leaves m p file loaded mapped count enters is =
       refl,
     )
 
-pub load-over : (m : Inner) (asker : Asker) (old : Files) (terms p : ℕ) (result : CallResult) (new : Files) → LoadAttempts m asker old terms p result new → Over m p result
+pub load-over : (m : Processes) (asker : Asker) (old : Files) (terms p : ℕ) (result : CallResult) (new : Files) → LoadAttempts m asker old terms p result new → Over m p result
 load-over m asker old terms p result new it = over-by m p (Leaves m p) result (goes-over m it.reading (links_first m p) result (Leaves m p) linked-first it.comes) (λ t so. so)
   where
     linked-first : (file : ProgramFile) (loaded : Loaded) → Enters m.memory file.bytes loaded → IsOver (Leaves m p) (links_first m p file loaded)
@@ -171,7 +171,7 @@ within-area pages count room = omega arith
 abbrev Fits : Program → Type 0
 Fits program = length program.parameters ≤ 256 * program.pages
 
-loaded-fits : (m : Inner) (p : ℕ) (file : ProgramFile) (first : Entered) → Fits (loaded_program m p file first)
+loaded-fits : (m : Processes) (p : ℕ) (file : ProgramFile) (first : Entered) → Fits (loaded_program m p file first)
 loaded-fits m p file first = by_read (parameters_of m p) refl
   where
     by_read : (read : Option (List ℕ)) → parameters_of m p ≡ read → length (unwrap_or read []) ≤ 256 * area_pages first.entry (regs_at m p).b (regs_at m p).y
@@ -182,7 +182,7 @@ loaded-fits m p file first = by_read (parameters_of m p) refl
         (room-of first.entry (regs_at m p).b (regs_at m p).y)
 
 -- an entered module that the registers name
-module _ (m : Inner) (p : ℕ) (So : Inner → Type 0) (next : Program → CallResult) (over : (program : Program) → Fits program → IsOver So (next program)) where
+module _ (m : Processes) (p : ℕ) (So : Processes → Type 0) (next : Program → CallResult) (over : (program : Program) → Fits program → IsOver So (next program)) where
   abbrev program-of : Entered → List ℕ → ℕ → Program
   program-of found parameters count = record {
     entered = found;
@@ -216,16 +216,16 @@ module _ (m : Inner) (p : ℕ) (So : Inner → Type 0) (next : Program → CallR
 -- ---- F$Fork
 
 -- a child begins, and its number is answered
-pub record Child (m : Inner) (p : ℕ) (t : Inner) : Type 0 where
+pub record Child (m : Processes) (p : ℕ) (t : Processes) : Type 0 where
   pub aside : Aside m t p
   pub tick : t.tick ≡ m.tick
   pub number : free_process m.records ≡ Some (regs_at t p).a
   pub living : IsLiving t.records (regs_at t p).a  -- the child
 
-module _ (m : Inner) (p : ℕ) (lives : IsLiving m.records p) (program : Program) (fits : Fits program) (child : ℕ)
+module _ (m : Processes) (p : ℕ) (lives : IsLiving m.records p) (program : Program) (fits : Fits program) (child : ℕ)
     (free : free_process m.records ≡ Some child) (memory : MemoryState) (begins : started m.memory child
     program.entered.number (blocks_of_pages program.pages) ≡ Ok memory) where
-  abbrev made : Inner
+  abbrev made : Processes
   made = with_regs_of (with_child m p child program memory) p (forked_regs (regs_at m p) child program)
 
   begun : Begun m.memory (λ byte. Unit {0}) p child (with_parameters (linked memory program.entered.number) child program)
@@ -321,7 +321,7 @@ module _ (m : Inner) (p : ℕ) (lives : IsLiving m.records p) (program : Program
     living = subst (IsLiving made.records) child-is child-lives;
   }
 
-forks-over : (m : Inner) (p : ℕ) → IsLiving m.records p → (So : Inner → Type 0) → ((t : Inner) → Child m p t → So t) → (program : Program) → Fits program → IsOver So (forks m p program)
+forks-over : (m : Processes) (p : ℕ) → IsLiving m.records p → (So : Processes → Type 0) → ((t : Processes) → Child m p t → So t) → (program : Program) → Fits program → IsOver So (forks m p program)
 forks-over m p lives So so program fits =
     of-needs So (free_process m.records) E_PRCFUL (λ child. refuses (nat_lt most_pages program.pages) E_MEMFUL (making child))
     (λ child free. of-refuses So (nat_lt most_pages program.pages) E_MEMFUL (making child)
@@ -334,11 +334,11 @@ forks-over m p lives So so program fits =
     making : ℕ → CallResult
     making child = changes (started m.memory child program.entered.number (blocks_of_pages program.pages)) (forked child)
 
-child-loaded : (m t : Inner) (p : ℕ) (file : List ℕ) (loaded : Loaded) → Enters m.memory file loaded → Child (with_memory m loaded.memory) p t → Child m p t
+child-loaded : (m t : Processes) (p : ℕ) (file : List ℕ) (loaded : Loaded) → Enters m.memory file loaded → Child (with_memory m loaded.memory) p t → Child m p t
 child-loaded m t p file loaded enters it =
     record { aside = aside-loaded m t p file loaded enters it.aside; tick = it.tick; number = it.number; living = it.living }
 
-pub fork-over : (m : Inner) (asker : Asker) (old : Files) (terms p : ℕ) (result : CallResult) (new : Files)
+pub fork-over : (m : Processes) (asker : Asker) (old : Files) (terms p : ℕ) (result : CallResult) (new : Files)
     → IsLiving m.records p → ForkAttempts m asker old terms p result new → IsOver (Child m p) result
 fork-over m asker old terms p result new lives it = by_name (named_program m p) it
   where
@@ -361,8 +361,9 @@ still-call entries own q =
       | inr past ↦ ap (λ (own : Own). own.call) (get_or_past (map (still_primary entries) own) q no_own (rw length-map past) ∙ sym (get_or_past own q no_own past))
     ]
 
-module _ (m : Inner) (p : ℕ) (program : Program) (fits : Fits program) (memory : MemoryState) (begins : started m.memory p program.entered.number (blocks_of_pages program.pages) ≡ Ok memory) where
-  abbrev anew : Inner
+module _ (m : Processes) (p : ℕ) (program : Program) (fits : Fits program) (memory : MemoryState)
+    (begins : started m.memory p program.entered.number (blocks_of_pages program.pages) ≡ Ok memory) where
+  abbrev anew : Processes
   anew = begun_anew (with_program m p program memory) p program
 
   anew-begun : Begun m.memory (λ byte. Unit {0}) p p (with_parameters (linked memory program.entered.number) p program)
@@ -387,7 +388,7 @@ module _ (m : Inner) (p : ℕ) (program : Program) (fits : Fits program) (memory
     refl,
   )
 
-chains-over : (m : Inner) (p : ℕ) (So : Inner → Type 0) → ((t : Inner) → Leaves m p t → So t) → (program : Program) → Fits program → IsOver So (chains m p program)
+chains-over : (m : Processes) (p : ℕ) (So : Processes → Type 0) → ((t : Processes) → Leaves m p t → So t) → (program : Program) → Fits program → IsOver So (chains m p program)
 chains-over m p So so program fits =
     of-refuses So (nat_lt most_pages program.pages) E_MEMFUL (changes (started m.memory p program.entered.number (blocks_of_pages program.pages)) chained)
     (of-changes So (started m.memory p program.entered.number (blocks_of_pages program.pages)) chained
@@ -397,7 +398,7 @@ chains-over m p So so program fits =
     chained memory =
         done (without_primary_link (begun_anew (with_program m p program memory) p program) (own_at m p))
 
-pub chain-over : (m : Inner) (asker : Asker) (old : Files) (terms p : ℕ) (result : CallResult) (new : Files) → ChainAttempts m asker old terms p result new → Over m p result
+pub chain-over : (m : Processes) (asker : Asker) (old : Files) (terms p : ℕ) (result : CallResult) (new : Files) → ChainAttempts m asker old terms p result new → Over m p result
 chain-over m asker old terms p result new it = over-by m p (Leaves m p) result (by_name (named_program m p) it) (λ t so. so)
   where
     by_name : (named : Option Entered) → MatchOption named (StartsFile chains m asker old terms p result new) (λ named. (result ≡ f_chain m p) × (new ≡ old)) → IsOver (Leaves m p) result

@@ -3,19 +3,19 @@ use Rattle.std.proofs.Common.{◌≡◌, ◌≢◌, ◌⊎◌, ℕ, Option, Some
 use Rattle.std.specs.Prelude.{option_and_then, option_map}
 use Rattle.std.proofs.lemmas.Bool.{cases_eq}
 use Rattle.std.proofs.lemmas.Option.{same_Some}
-use Rattle.call_rules.specs.Inner.{Inner, regs_at}
+use Rattle.call_rules.specs.Processes.{Processes, regs_at}
 use Rattle.io_model.specs.Path.{PathTable, desc_of, slot_of}
-use Rattle.io_model.specs.declared.kept.Kept.{Kept}
+use Rattle.io_model.specs.declared.pending.PendingCall.{PendingCall}
 use Rattle.io_model.specs.declared.path.Desc.{Desc}
 use Rattle.io_model.specs.declared.path.SysPath.{SysPath}
 use Rattle.io_rules.specs.Again.{path_number}
-use Rattle.io_rules.specs.Io.{Io, OpenPath, kept_at, open_path}
+use Rattle.io_rules.specs.Io.{Io, OpenPath, pending_at, open_path}
 use Rattle.io_rules.specs.declared.io_call.IoCall.{IoCall}
 use Rattle.lock_model.specs.Locks.{request_of}
 use Rattle.file_rules.specs.Files.{Files, place_of_target}
 use Rattle.file_rules.specs.declared.path_call.PathCall.{PathCall}
 use Rattle.file_laws.proofs.Named.{path-desc}
-use Rattle.call_laws.specs.Kept.{AreKept}
+use Rattle.call_laws.specs.Pending.{ArePending}
 use Rattle.file_laws.specs.Devices.{IsDevice, WaitsOnDevice, device_call}
 use Rattle.wait_laws.specs.Running.{AreOnPaths, WaitsOnPath}
 use Rattle.wait_laws.proofs.Aside.{IoAside, StaysNamed}
@@ -32,60 +32,60 @@ opens io q n path desc named there =
 
 -- ---- the other processes
 
-module _ (m : Inner) (terms p : ℕ) (old new : Files) (kept_all : AreKept m old.io) (io : IoAside m.records terms p old.io new.io)
+module _ (m : Processes) (terms p : ℕ) (old new : Files) (kept_all : ArePending m old.io) (io : IoAside m.records terms p old.io new.io)
     (stay : RequestsStay p old.records new.records) (all : AreOnPaths old) where
-  other-waits : (q : ℕ) → q ≢ p → (kept : Kept) → kept_at new.io q ≡ Some kept → WaitsOnPath new q kept
-  other-waits q differ kept is = record {
+  other-waits : (q : ℕ) → q ≢ p → (pending : PendingCall) → pending_at new.io q ≡ Some pending → WaitsOnPath new q pending
+  other-waits q differ pending is = record {
     desc = named.now.desc;
     there = ap (λ (path : SysPath). desc_of new.io.paths path.0) (sym named.path) ∙ path-desc new.io q number named.now named.is;
     on = by_on it.on;
   }
     where
-      was : kept_at old.io q ≡ Some kept
+      was : pending_at old.io q ≡ Some pending
       was = sym (io.calls q differ) ∙ is
 
-      it : WaitsOnPath old q kept
-      it = all q kept was
+      it : WaitsOnPath old q pending
+      it = all q pending was
 
       number : ℕ
-      number = path_number (kept_all q kept was).call (regs_at m q)
+      number = path_number (kept_all q pending was).call (regs_at m q)
 
-      named : StaysNamed new.io q number (record { path = kept.path; desc = it.desc })
+      named : StaysNamed new.io q number (record { path = pending.path; desc = it.desc })
       named =
-          io.paths q number (record { path = kept.path; desc = it.desc }) differ (kept_all q kept was).lives
-          (opens old.io q number kept.path it.desc (kept_all q kept was).again.path it.there)
+          io.paths q number (record { path = pending.path; desc = it.desc }) differ (kept_all q pending was).lives
+          (opens old.io q number pending.path it.desc (kept_all q pending was).again.path it.there)
 
       by_on : IsDevice it.desc.target ⊎ IsSome (request_of old.records.locks q) → IsDevice named.now.desc.target ⊎ IsSome (request_of new.records.locks q)
       by_on (inl device) = inl (ap place_of_target named.target ∙ device)
       by_on (inr some) = inr (ap is_some (stay.others q differ) ∙ some)
 
-  pub all-wait : ((kept : Kept) → kept_at new.io p ≡ Some kept → WaitsOnPath new p kept) → AreOnPaths new
-  all-wait own q kept is =
+  pub all-wait : ((pending : PendingCall) → pending_at new.io p ≡ Some pending → WaitsOnPath new p pending) → AreOnPaths new
+  all-wait own q pending is =
       elim (cases_eq q p) [
-        | inl same ↦ subst (λ (q : ℕ). WaitsOnPath new q kept) (sym same) (own kept (sym (ap (kept_at new.io) same) ∙ is))
-        | inr differ ↦ other-waits q differ kept is
+        | inl same ↦ subst (λ (q : ℕ). WaitsOnPath new q pending) (sym same) (own pending (sym (ap (pending_at new.io) same) ∙ is))
+        | inr differ ↦ other-waits q differ pending is
       ]
 
 -- ---- the process itself
 
 -- a call that waits on a terminal or a pipe
-pub device-waits : (call : PathCall) (device : IoCall) (inner : Inner) (old new : Files) (p : ℕ) → device_call call ≡ Some device
-    → WaitsOnDevice call inner old.io p new.io → (kept : Kept) → slot_of old.io.paths p (path_number device (regs_at inner p)) ≡ Some kept.path → WaitsOnPath new p kept
-device-waits call device inner old new p device_is it kept named = record {
+pub device-waits : (call : PathCall) (device : IoCall) (processes : Processes) (old new : Files) (p : ℕ) → device_call call ≡ Some device
+    → WaitsOnDevice call processes old.io p new.io → (pending : PendingCall) → slot_of old.io.paths p (path_number device (regs_at processes p)) ≡ Some pending.path → WaitsOnPath new p pending
+device-waits call device processes old new p device_is it pending named = record {
   desc = it.opened.desc;
   there =
-      ap (λ (paths : PathTable). desc_of paths kept.path.0) it.paths
+      ap (λ (paths : PathTable). desc_of paths pending.path.0) it.paths
       ∙ ap (λ (path : SysPath). desc_of old.io.paths path.0) same ∙ path-desc old.io p number it.opened it.is;
   on = inl it.on;
 }
   where
     number : ℕ
-    number = path_number it.device (regs_at inner p)
+    number = path_number it.device (regs_at processes p)
 
     one : device ≡ it.device
     one = same_Some device it.device (sym device_is ∙ it.device_is)
 
-    same : kept.path ≡ it.opened.path
+    same : pending.path ≡ it.opened.path
     same =
-        same_Some kept.path it.opened.path
-        (sym named ∙ ap (λ (device : IoCall). slot_of old.io.paths p (path_number device (regs_at inner p))) one ∙ open-slot old.io p number it.opened it.is)
+        same_Some pending.path it.opened.path
+        (sym named ∙ ap (λ (device : IoCall). slot_of old.io.paths p (path_number device (regs_at processes p))) one ∙ open-slot old.io p number it.opened it.is)

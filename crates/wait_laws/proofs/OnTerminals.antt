@@ -7,7 +7,7 @@ use Rattle.std.proofs.lemmas.List.{get_or-set_same, get_or-set_other, get_or_pas
 use Rattle.std.proofs.lemmas.Option.{none-some, same_Some}
 use Rattle.os9_outer.specs.TerminalState.{TerminalState}
 use Rattle.call_rules.specs.CallResult.{CallResult}
-use Rattle.call_rules.specs.Inner.{Inner}
+use Rattle.call_rules.specs.Processes.{Processes}
 use Rattle.io_model.specs.Path.{PathTable, closed_desc, desc_of, free_number, free_path, is_held, path_at, paths_after_begin, paths_after_close, paths_after_dup, slot_of, with_desc, with_path, with_slot}
 use Rattle.io_model.specs.declared.path.Desc.{Desc}
 use Rattle.io_model.specs.declared.path.SysPath.{SysPath}
@@ -140,7 +140,7 @@ module _ (terms : ℕ) where
 
 -- ---- an attempt of a process
 
-pub on-attempt : (call : IoCall) (m : Inner) (io : Io) (p drives : ℕ) (result : CallResult) (new : Io)
+pub on-attempt : (call : IoCall) (m : Processes) (io : Io) (p drives : ℕ) (result : CallResult) (new : Io)
     (before after : List TerminalState) → IoAttempts call m io drives p result new before after
     → AreOnTerminals (length before) io.paths → AreOnTerminals (length before) new.paths
 on-attempt call m io p drives result new before after attempt on =

@@ -3,15 +3,15 @@ use Rattle.std.proofs.Common.{◌≡◌, ℕ, zero, suc, Option, Some, None, Lis
 use Rattle.std.proofs.lemmas.List.{length-set}
 use Rattle.os9_outer.specs.TerminalState.{TerminalState}
 use Rattle.call_rules.specs.CallResult.{CallResult}
-use Rattle.call_rules.specs.Inner.{Inner}
+use Rattle.call_rules.specs.Processes.{Processes}
 use Rattle.io_model.specs.Path.{closed_desc, paths_after_close, slot_of}
-use Rattle.io_model.specs.declared.kept.Kept.{Kept}
+use Rattle.io_model.specs.declared.pending.PendingCall.{PendingCall}
 use Rattle.io_model.specs.declared.path.Desc.{Desc}
 use Rattle.io_model.specs.declared.path.SysPath.{SysPath}
 use Rattle.io_model.specs.declared.path.Target.{Target}
 use Rattle.io_model.specs.declared.path.Target.TheVariants.{File, Folder, Term, Pipe}
 use Rattle.io_model.specs.declared.path.TheConstants.{PROCESS_PATHS}
-use Rattle.io_rules.specs.Attempts.{Does, IoAttempts, caller_of, kept_in, step_of}
+use Rattle.io_rules.specs.Attempts.{Does, IoAttempts, caller_of, pending_in, step_of}
 use Rattle.io_rules.specs.Close.{after_close, without_path, without_target}
 use Rattle.io_rules.specs.Io.{Io, with_call, with_paths}
 use Rattle.io_rules.specs.Processes.{closed_below, closed_if_open, io_ended, without_user}
@@ -25,8 +25,8 @@ module _ (count : ℕ) where
   abbrev Has : Io → Type 0
   Has io = length io.calls ≡ count
 
-  has-call : (io : Io) (p : ℕ) (kept : Option Kept) → Has io → Has (with_call io p kept)
-  has-call io p kept has = length-set io.calls p kept ∙ has
+  has-call : (io : Io) (p : ℕ) (pending : Option PendingCall) → Has io → Has (with_call io p pending)
+  has-call io p pending has = length-set io.calls p pending ∙ has
 
   -- ---- what a process closes
 
@@ -105,9 +105,10 @@ module _ (io : Io) (p : ℕ) where
   pub many-interrupted : As_many (io_interrupted io p)
   many-interrupted = has-interrupted (length io.calls) io p refl
 
-  pub many-attempt : (call : IoCall) (m : Inner) (drives : ℕ) (result : CallResult) (new : Io) (before after : List TerminalState) → IoAttempts call m io drives p result new before after → As_many new
+  pub many-attempt : (call : IoCall) (m : Processes) (drives : ℕ) (result : CallResult) (new : Io) (before after : List TerminalState) → IoAttempts call m io drives p result new before after
+      → As_many new
   many-attempt call m drives result new before after attempt =
       subst As_many (sym attempt.state)
-      (has-call (length io.calls) attempt.effect.io p (kept_in attempt.effect.end)
+      (has-call (length io.calls) attempt.effect.io p (pending_in attempt.effect.end)
       (has-does (length io.calls) call (caller_of m p) io (step_of call m p io drives before) attempt.effect before after refl
       (step-gives call (Has (length io.calls)) (caller_of m p) io drives (length before) (has-walk (length io.calls) (caller_of m p) io (length before) refl)) attempt.does))

@@ -13,16 +13,16 @@ use Rattle.proc_rules.specs.declared.record.Record.{Record}
 use Rattle.proc_rules.specs.Records.{IsLiving, is_waiting, record_at, record_of, with_record}
 use Rattle.call_rules.specs.Attempts.{after_attempt}
 use Rattle.call_rules.specs.CallResult.{CallResult}
-use Rattle.call_rules.specs.Inner.{Inner, cells_at, own_at, regs_at}
+use Rattle.call_rules.specs.Processes.{Processes, cells_at, own_at, regs_at}
 use Rattle.call_rules.specs.Ready.{act_of, attempts}
 use Rattle.call_rules.specs.UserBytes.{user_bytes}
 use Rattle.lock_model.specs.declared.lock.Request.{Request}
 use Rattle.io_model.specs.Path.{desc_of, slot_of}
 use Rattle.io_model.specs.declared.path.Desc.{Desc}
-use Rattle.io_model.specs.declared.kept.Kept.{Kept}
-use Rattle.io_rules.specs.Again.{IsKept, path_number}
+use Rattle.io_model.specs.declared.pending.PendingCall.{PendingCall}
+use Rattle.io_rules.specs.Again.{IsPending, path_number}
 use Rattle.io_rules.specs.Codes.{io_call_of}
-use Rattle.io_rules.specs.Io.{Io, OpenPath, kept_at, open_path}
+use Rattle.io_rules.specs.Io.{Io, OpenPath, pending_at, open_path}
 use Rattle.io_rules.specs.Modes.{can_read}
 use Rattle.io_rules.specs.Step.{IoEffect, keeps}
 use Rattle.io_rules.specs.declared.io_call.Direction.TheVariants.{Reading}
@@ -30,7 +30,7 @@ use Rattle.io_rules.specs.declared.io_call.IoCall.{IoCall}
 use Rattle.file_rules.specs.Attempts.{asker_of}
 use Rattle.file_rules.specs.Codes.{path_call_of}
 use Rattle.file_rules.specs.Files.{Asker, Files, OpenFile}
-use Rattle.file_rules.specs.Locking.{call_of, first_request, request_kept}
+use Rattle.file_rules.specs.Locking.{call_of, first_request, pending_request}
 use Rattle.file_rules.specs.declared.path_call.PathCall.{PathCall}
 use Rattle.file_rules.specs.declared.path_call.PathCall.TheVariants as Call
 use Rattle.file_laws.proofs.Named.{opened-desc}
@@ -43,7 +43,7 @@ use Rattle.file_laws.proofs.Keeps.{file-opened, file-slot}
 use Rattle.file_laws.proofs.Lengths.{user-fits}
 use Rattle.call_laws.proofs.CallsKept.{AttemptLeft}
 use Rattle.call_laws.proofs.OthersKept.{living-within}
-use Rattle.call_laws.specs.Kept.{KeepsCall, StaysAllowed, StaysRead, WaitsInCall}
+use Rattle.call_laws.specs.Pending.{IsPendingCall, StaysAllowed, StaysRead, WaitsInCall}
 use Rattle.call_laws.proofs.Codes.{attempts-code}
 use Rattle.call_laws.proofs.EndsKept.{by-end}
 use Rattle.call_laws.proofs.OthersLeft.{left-leaves}
@@ -124,28 +124,28 @@ module _ (asker : Asker) (io : Io) (p : ℕ) (found : OpenFile) where
 
 -- ---- the call that is kept
 
-module _ (s : State) (p code : ℕ) (running : IsRunning s) (lives : IsLiving s.inner.records p)
-    (next : act_of s.inner p ≡ attempts code) (now : TimePacket) (call : PathCall) (coded : path_call_of code ≡ Some
-    call) (result : CallResult) (new : Files) (before after : List TerminalState) (it : WaitsForRecord call s.inner
+module _ (s : State) (p code : ℕ) (running : IsRunning s) (lives : IsLiving s.processes.records p)
+    (next : act_of s.processes p ≡ attempts code) (now : TimePacket) (call : PathCall) (coded : path_call_of code ≡ Some
+    call) (result : CallResult) (new : Files) (before after : List TerminalState) (it : WaitsForRecord call s.processes
     s.files now p result new before after) where
   abbrev asker : Asker
-  asker = asker_of s.inner p now
+  asker = asker_of s.processes p now
 
   -- what is kept is kept of the call that the process made, which is not refused
-  record IsOfCall (kept : Kept) : Type 0 where
-    pub made : (own_at s.inner p).call ≡ Some kept.code
+  record IsOfCall (pending : PendingCall) : Type 0 where
+    pub made : (own_at s.processes p).call ≡ Some pending.code
     pub device : IoCall
-    pub again : IsKept device (regs_at s.inner p) s.files.io p kept
-    pub stays : StaysAllowed device (cells_at s.inner p) (regs_at s.inner p) s.files.io p
+    pub again : IsPending device (regs_at s.processes p) s.files.io p pending
+    pub stays : StaysAllowed device (cells_at s.processes p) (regs_at s.processes p) s.files.io p
 
   -- at its first attempt
   claimed : ClaimsAs call asker it.requests.claim → IsOfCall (call_of (first_request asker it.requests.found it.requests.claim))
   claimed claims =
       let attempted : io_call_of code ≡ Some claims.device = code-there code call coded ∙ claims.device_is in
       let same : code ≡ it.requests.claim.code = code-is code claims.device attempted ∙ sym (code-is it.requests.claim.code claims.device claims.code) in
-      let number : number_in call asker ≡ path_number claims.device (regs_at s.inner p) = number-same call claims.device asker claims.device_is in
+      let number : number_in call asker ≡ path_number claims.device (regs_at s.processes p) = number-same call claims.device asker claims.device_is in
       record {
-        made = attempts-code s.inner p code next ∙ ap Some same;
+        made = attempts-code s.processes p code next ∙ ap Some same;
         device = claims.device;
         again = record {
           code = claims.code;
@@ -161,58 +161,59 @@ module _ (s : State) (p code : ℕ) (running : IsRunning s) (lives : IsLiving s.
       }
 
   of-call : IsOfCall (call_of it.request)
-  of-call = by_kept (request_kept asker s.files) refl it.requests.is
+  of-call = by_kept (pending_request asker s.files) refl it.requests.is
     where
-      by_kept : (kept : Option Request) → request_kept asker s.files ≡ kept → it.request ≡ unwrap_or kept (first_request asker it.requests.found it.requests.claim) → IsOfCall (call_of it.request)
+      by_kept : (pending : Option Request) → pending_request asker s.files ≡ pending → it.request ≡ unwrap_or pending (first_request asker it.requests.found it.requests.claim)
+          → IsOfCall (call_of it.request)
       by_kept None none is =
           subst (λ (request : Request). IsOfCall (call_of request)) (sym is) (claimed (claims-as asker s.files it.requests.found call it.requests.claim none it.requests.claims))
       by_kept (Some request) there is =
-          let kept = running.kept p (call_of request) (running.requested p request there).kept in
-          subst (λ (request : Request). IsOfCall (call_of request)) (sym is) (record { made = kept.made; device = kept.call; again = kept.again; stays = kept.stays })
+          let pending = running.kept p (call_of request) (running.requested p request there).kept in
+          subst (λ (request : Request). IsOfCall (call_of request)) (sym is) (record { made = pending.made; device = pending.call; again = pending.again; stays = pending.stays })
 
   -- ---- the process then
 
   abbrev waiting_record : Record
-  waiting_record = record (record_at s.inner.records p) { life = Waiting }
+  waiting_record = record (record_at s.processes.records p) { life = Waiting }
 
-  abbrev pub waiting_then : Inner
-  waiting_then = record s.inner { records = with_record s.inner.records p waiting_record }
+  abbrev pub waiting_then : Processes
+  waiting_then = record s.processes { records = with_record s.processes.records p waiting_record }
 
-  pub is-waiting : after_attempt s.inner p result ≡ waiting_then
-  is-waiting = ap (after_attempt s.inner p) it.result_is
+  pub is-waiting : after_attempt s.processes p result ≡ waiting_then
+  is-waiting = ap (after_attempt s.processes p) it.result_is
 
   pub waits-within : p < length s.files.io.calls
   waits-within =
-      let here : p < length s.inner.records = living-within s.inner.records p lives in
+      let here : p < length s.processes.records = living-within s.processes.records p lives in
       let places = running.places in
       omega (arith, here, places)
 
-  keeps-waiting : KeepsCall waiting_then new.io p (call_of it.request)
+  keeps-waiting : IsPendingCall waiting_then new.io p (call_of it.request)
   keeps-waiting =
-      let at : record_of waiting_then.records p ≡ Some waiting_record = get_or-set_same s.inner.records p (Some waiting_record) None (living-within s.inner.records p lives) in
+      let at : record_of waiting_then.records p ≡ Some waiting_record = get_or-set_same s.processes.records p (Some waiting_record) None (living-within s.processes.records p lives) in
       let here = there-at waiting_then.records p waiting_record at in
       record {
         lives = there-lives waiting_then.records p waiting_record at refl;
         waits = ap (λ (r : Record). is_waiting r.life) here;
         made = of-call.made;
         call = of-call.device;
-        again = subst (λ (regs : Regs). IsKept of-call.device regs new.io p (call_of it.request)) (sym (ap (λ (r : Record). r.regs) here)) (record {
+        again = subst (λ (regs : Regs). IsPending of-call.device regs new.io p (call_of it.request)) (sym (ap (λ (r : Record). r.regs) here)) (record {
           code = of-call.again.code;
           path =
-              ap (λ (io : Io). slot_of io.paths p (path_number of-call.device (regs_at s.inner p))) it.io ∙ of-call.again.path;
+              ap (λ (io : Io). slot_of io.paths p (path_number of-call.device (regs_at s.processes p))) it.io ∙ of-call.again.path;
           count = of-call.again.count;
           unfinished = of-call.again.unfinished;
         });
-        stays = stays-on of-call.device (cells_at s.inner p) (cells_at waiting_then p) (regs_at s.inner p) _ s.files.io new.io p (ap (λ (r : Record). r.regs) here)
+        stays = stays-on of-call.device (cells_at s.processes p) (cells_at waiting_then p) (regs_at s.processes p) _ s.files.io new.io p (ap (λ (r : Record). r.regs) here)
             (λ at count fits. fits)
             (λ number opened is. ap (λ (io : Io). open_path io p number) it.io ∙ is) of-call.stays;
       }
 
   -- what is kept then
-  pub waits-keep : (kept : Kept) → kept_at new.io p ≡ Some kept → KeepsCall waiting_then new.io p kept
-  waits-keep kept is =
-      subst (λ (o : Option Kept). MatchOption o (Unit {0}) (KeepsCall waiting_then new.io p))
-      (sym (waits-kept call s.inner s.files now p result new before after running.requested it waits-within) ∙ is)
+  pub waits-keep : (pending : PendingCall) → pending_at new.io p ≡ Some pending → IsPendingCall waiting_then new.io p pending
+  waits-keep pending is =
+      subst (λ (o : Option PendingCall). MatchOption o (Unit {0}) (IsPendingCall waiting_then new.io p))
+      (sym (waits-kept call s.processes s.files now p result new before after running.requested it waits-within) ∙ is)
       keeps-waiting
 
   -- it waits in this call
@@ -225,13 +226,13 @@ module _ (s : State) (p code : ℕ) (running : IsRunning s) (lives : IsLiving s.
 
   pub waits-in : IsWaiting waiting_then.records p → WaitsInCall waiting_then new.io p
   waits-in =
-      in-end s.inner s.files.io p running.in_calls lives running.places code effect (keeps (call_of it.request)) new.io next it.io many
+      in-end s.processes s.files.io p running.in_calls lives running.places code effect (keeps (call_of it.request)) new.io next it.io many
 
   -- its path is open
   open-request : (desc : Desc) × (desc_of s.files.io.paths it.request.path ≡ Some desc)
-  open-request = by_kept (request_kept asker s.files) refl it.requests.is
+  open-request = by_kept (pending_request asker s.files) refl it.requests.is
     where
-      by_kept : (kept : Option Request) → request_kept asker s.files ≡ kept → it.request ≡ unwrap_or kept (first_request asker it.requests.found it.requests.claim)
+      by_kept : (pending : Option Request) → pending_request asker s.files ≡ pending → it.request ≡ unwrap_or pending (first_request asker it.requests.found it.requests.claim)
           → (desc : Desc) × (desc_of s.files.io.paths it.request.path ≡ Some desc)
       by_kept None none is = (
         it.requests.found.opened.desc,
@@ -241,23 +242,24 @@ module _ (s : State) (p code : ℕ) (running : IsRunning s) (lives : IsLiving s.
           let was = running.waits p (call_of request) (running.requested p request there).kept in
           (was.desc, ap (λ (request : Request). desc_of s.files.io.paths request.path) is ∙ was.there)
 
-  pub waits-on : (kept : Kept) → kept_at new.io p ≡ Some kept → WaitsOnPath new p kept
-  waits-on kept is =
-      let same : call_of it.request ≡ kept = same_Some (call_of it.request) kept (sym (waits-kept call s.inner s.files now p result new before after running.requested it waits-within) ∙ is) in
-      let here : p < length s.inner.records = living-within s.inner.records p lives in
+  pub waits-on : (pending : PendingCall) → pending_at new.io p ≡ Some pending → WaitsOnPath new p pending
+  waits-on pending is =
+      let same : call_of it.request ≡ pending = same_Some (call_of it.request) pending (sym (waits-kept call s.processes s.files now p result new before after running.requested it waits-within) ∙ is)
+          in
+      let here : p < length s.processes.records = living-within s.processes.records p lives in
       let rooms = running.rooms in
       subst (WaitsOnPath new p) same (record {
         desc = open-request.0;
         there = ap (λ (io : Io). desc_of io.paths it.request.path) it.io ∙ open-request.1;
-        on = inr (ap is_some (waits-there call s.inner s.files now p result new before after running.requested it (omega (arith, here, rooms))));
+        on = inr (ap is_some (waits-there call s.processes s.files now p result new before after running.requested it (omega (arith, here, rooms))));
       })
 
-  pub waits-left : AttemptLeft s.inner p result
+  pub waits-left : AttemptLeft s.processes p result
   waits-left =
-      subst (AttemptLeft s.inner p) (sym it.result_is) (by-end s.inner p effect (keeps (call_of it.request)))
+      subst (AttemptLeft s.processes p) (sym it.result_is) (by-end s.processes p effect (keeps (call_of it.request)))
 
-  pub waits-aside : IoAside s.inner.records (length s.terms) p s.files.io new.io
+  pub waits-aside : IoAside s.processes.records (length s.terms) p s.files.io new.io
   waits-aside =
-      leaves-aside s.inner.records (length s.terms) p s.files.io new.io
+      leaves-aside s.processes.records (length s.terms) p s.files.io new.io
       (left-leaves p s.files.io new.io (subst (λ (io : Io). IoLeft p s.files.io io) (sym it.io) (io-call p s.files.io (Some (call_of it.request)))))
       many (subst (λ (io : Io). AreOnTerminals (length s.terms) s.files.io.paths → AreOnTerminals (length s.terms) io.paths) (sym it.io) (λ on. on))

@@ -7,18 +7,18 @@ use Rattle.std.proofs.lemmas.Option.{none-some, same_Some}
 use Rattle.os9_base.specs.declared.registers.TimePacket.{TimePacket}
 use Rattle.os9_outer.specs.TerminalState.{TerminalState}
 use Rattle.call_rules.specs.CallResult.{CallResult}
-use Rattle.call_rules.specs.Inner.{Inner}
+use Rattle.call_rules.specs.Processes.{Processes}
 use Rattle.lock_model.specs.Laws.{Covers}
 use Rattle.lock_model.specs.Locks.{request_of}
 use Rattle.lock_model.specs.Records.{Records, ends_locks_below, with_waiting}
 use Rattle.lock_model.specs.declared.lock.Request.{Request}
 use Rattle.lock_model.specs.declared.lock.TheConstants.{PATH_PLACES}
-use Rattle.io_model.specs.declared.kept.Kept.{Kept}
+use Rattle.io_model.specs.declared.pending.PendingCall.{PendingCall}
 use Rattle.io_model.specs.Path.{PathTable, desc_of}
-use Rattle.io_rules.specs.Io.{Io, kept_at}
+use Rattle.io_rules.specs.Io.{Io, pending_at}
 use Rattle.file_rules.specs.Attempts.{asker_of}
 use Rattle.file_rules.specs.Files.{Files}
-use Rattle.file_rules.specs.Locking.{call_of, files_interrupted, first_request, lock_ends, request_kept}
+use Rattle.file_rules.specs.Locking.{call_of, files_interrupted, first_request, lock_ends, pending_request}
 use Rattle.file_rules.specs.Processes.{files_ended, io_left}
 use Rattle.file_rules.specs.declared.path_call.PathCall.{PathCall}
 use Rattle.file_laws.specs.Attempt.{Attempt, made_in}
@@ -33,7 +33,7 @@ use Rattle.wait_laws.specs.Running.{AreOnPaths, AreRequested, IsRequested}
 
 -- ---- one process goes on
 
-module _ (p : ℕ) (old new : Files) (calls : (q : ℕ) → q ≢ p → kept_at new.io q ≡ kept_at old.io q) (all : AreRequested old) where
+module _ (p : ℕ) (old new : Files) (calls : (q : ℕ) → q ≢ p → pending_at new.io q ≡ pending_at old.io q) (all : AreRequested old) where
   others-requested : KeepsOthers p old.records new.records → ((request : Request) → request_of new.records.locks p ≡ Some request → IsRequested new p request) → AreRequested new
   others-requested others itself q request is =
       elim (cases_eq q p) [
@@ -46,7 +46,7 @@ module _ (p : ℕ) (old new : Files) (calls : (q : ℕ) → q ≢ p → kept_at 
   none-then it = others-requested it.others (λ request is. absurd (none-some request (sym it.none ∙ is)))
 
   -- no call of it waited, and the records are as they were
-  pub same-then : kept_at old.io p ≡ None → new.records ≡ old.records → AreRequested new
+  pub same-then : pending_at old.io p ≡ None → new.records ≡ old.records → AreRequested new
   same-then none same =
       others-requested (λ q differ. ap (λ (records : Records). request_of records.locks q) same)
       (λ request is. absurd (none-some (call_of request) (sym none ∙ (all p request (sym (ap (λ (records : Records). request_of records.locks p) same) ∙ is)).kept)))
@@ -56,12 +56,12 @@ module _ (p : ℕ) (old new : Files) (calls : (q : ℕ) → q ≢ p → kept_at 
 pub calls-then : (old new : Files) → new.records ≡ old.records → new.io.calls ≡ old.io.calls → AreRequested old → AreRequested new
 calls-then old new same calls all q request is =
     let it = all q request (sym (ap (λ (records : Records). request_of records.locks q) same) ∙ is) in
-    record { kept = ap (λ (calls : List (Option Kept)). slice_index_or calls q None) calls ∙ it.kept; owner = it.owner; covers = it.covers }
+    record { kept = ap (λ (calls : List (Option PendingCall)). slice_index_or calls q None) calls ∙ it.kept; owner = it.owner; covers = it.covers }
 
 -- and so are the paths
 pub paths-then : (old new : Files) → new.records ≡ old.records → new.io.calls ≡ old.io.calls → new.io.paths ≡ old.io.paths → AreOnPaths old → AreOnPaths new
 paths-then old new same calls paths all q kept is =
-    let it = all q kept (sym (ap (λ (calls : List (Option Kept)). slice_index_or calls q None) calls) ∙ is) in
+    let it = all q kept (sym (ap (λ (calls : List (Option PendingCall)). slice_index_or calls q None) calls) ∙ is) in
     record {
       desc = it.desc;
       there = ap (λ (paths : PathTable). desc_of paths kept.path.0) paths ∙ it.there;
@@ -138,28 +138,28 @@ put-is requests p request other is =
       | inr past ↦ absurd (none-some other (sym (get_or_past (slice_set requests p (Some request)) p None (rw length-set past)) ∙ is))
     ]
 
-module _ (call : PathCall) (inner : Inner) (files : Files) (now : TimePacket) (p : ℕ) (result : CallResult)
-    (new : Files) (before after : List TerminalState) (all : AreRequested files) (it : WaitsForRecord call inner files
+module _ (call : PathCall) (processes : Processes) (files : Files) (now : TimePacket) (p : ℕ) (result : CallResult)
+    (new : Files) (before after : List TerminalState) (all : AreRequested files) (it : WaitsForRecord call processes files
     now p result new before after) where
   pub waits-owner : it.request.lock.owner.0 ≡ p
-  waits-owner = by_kept (request_kept (asker_of inner p now) files) refl it.requests.is
+  waits-owner = by_kept (pending_request (asker_of processes p now) files) refl it.requests.is
     where
-      by_kept : (kept : Option Request) → request_kept (asker_of inner p now) files ≡ kept → it.request ≡ unwrap_or
-          kept (first_request (asker_of inner p now) it.requests.found it.requests.claim) → it.request.lock.owner.0 ≡
+      by_kept : (kept : Option Request) → pending_request (asker_of processes p now) files ≡ kept → it.request ≡ unwrap_or
+          kept (first_request (asker_of processes p now) it.requests.found it.requests.claim) → it.request.lock.owner.0 ≡
           p
       by_kept None none is = ap (λ (request : Request). request.lock.owner.0) is
       by_kept (Some request) there is =
           ap (λ (request : Request). request.lock.owner.0) is ∙ (all p request there).owner
 
   waits-covers : Covers it.request.lock.range it.request.count
-  waits-covers = by_kept (request_kept (asker_of inner p now) files) refl it.requests.is
+  waits-covers = by_kept (pending_request (asker_of processes p now) files) refl it.requests.is
     where
-      by_kept : (kept : Option Request) → request_kept (asker_of inner p now) files ≡ kept → it.request ≡ unwrap_or
-          kept (first_request (asker_of inner p now) it.requests.found it.requests.claim)
+      by_kept : (kept : Option Request) → pending_request (asker_of processes p now) files ≡ kept → it.request ≡ unwrap_or
+          kept (first_request (asker_of processes p now) it.requests.found it.requests.claim)
           → Covers it.request.lock.range it.request.count
       by_kept None none is =
           subst (λ (request : Request). Covers request.lock.range request.count) (sym is)
-          (claims-as (asker_of inner p now) files it.requests.found call it.requests.claim none
+          (claims-as (asker_of processes p now) files it.requests.found call it.requests.claim none
           it.requests.claims).covers
       by_kept (Some request) there is =
           subst (λ (request : Request). Covers request.lock.range request.count) (sym is) (all p request there).covers
@@ -167,13 +167,13 @@ module _ (call : PathCall) (inner : Inner) (files : Files) (now : TimePacket) (p
   waits-records : new.records ≡ with_waiting files.records p (Some it.request)
   waits-records = it.records ∙ ap (λ (n : ℕ). with_waiting files.records n (Some it.request)) waits-owner
 
-  pub waits-calls : (q : ℕ) → q ≢ p → kept_at new.io q ≡ kept_at files.io q
+  pub waits-calls : (q : ℕ) → q ≢ p → pending_at new.io q ≡ pending_at files.io q
   waits-calls q differ =
-      ap (λ (io : Io). kept_at io q) it.io ∙ get_or-set_other files.io.calls p q (Some (call_of it.request)) None differ
+      ap (λ (io : Io). pending_at io q) it.io ∙ get_or-set_other files.io.calls p q (Some (call_of it.request)) None differ
 
-  pub waits-kept : p < length files.io.calls → kept_at new.io p ≡ Some (call_of it.request)
+  pub waits-kept : p < length files.io.calls → pending_at new.io p ≡ Some (call_of it.request)
   waits-kept within =
-      ap (λ (io : Io). kept_at io p) it.io ∙ get_or-set_same files.io.calls p (Some (call_of it.request)) None within
+      ap (λ (io : Io). pending_at io p) it.io ∙ get_or-set_same files.io.calls p (Some (call_of it.request)) None within
 
   pub waits-others : KeepsOthers p files.records new.records
   waits-others q differ =

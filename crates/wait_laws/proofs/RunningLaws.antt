@@ -15,12 +15,12 @@ use Rattle.proc_rules.specs.declared.record.Record.{Record}
 use Rattle.proc_rules.specs.declared.record.SendFault.TheVariants.{NoProcess, Pending}
 use Rattle.proc_rules.specs.Records.{IsLiving, after_make, has_ended, is_living, is_waiting, new_record, record_at, record_of, record_passes, with_regs}
 use Rattle.proc_rules.specs.Signals.{after_send, is_reached, send_fault, wake_signal, with_sent, with_signal}
-use Rattle.call_rules.specs.Inner.{Inner, no_own, own_at, regs_at}
+use Rattle.call_rules.specs.Processes.{Processes, no_own, own_at, regs_at}
 use Rattle.call_rules.specs.Program.{start_regs}
 use Rattle.io_model.specs.Path.{numbers_of}
-use Rattle.io_model.specs.declared.kept.Kept.{Kept}
+use Rattle.io_model.specs.declared.pending.PendingCall.{PendingCall}
 use Rattle.io_rules.specs.Arrivals.{ArrivesAt, ArrivesFrom, Desk, after_key_signal, every_user}
-use Rattle.io_rules.specs.Io.{Io, first_io, kept_at, open_path}
+use Rattle.io_rules.specs.Io.{Io, first_io, pending_at, open_path}
 use Rattle.event_rules.specs.Terminals.{TerminalsOnlyGain}
 use Rattle.civil_time.specs.CivilTime.{is_time_packet}
 use Rattle.file_rules.specs.Files.{Files, with_io}
@@ -40,7 +40,7 @@ use Rattle.wait_laws.proofs.Requested.{calls-then, paths-then}
 use Rattle.lock_model.specs.Locks.{request_of}
 use Rattle.lock_model.proofs.Ranks.{first-quiet}
 use Rattle.call_laws.proofs.OthersKept.{living-record, living-within}
-use Rattle.call_laws.specs.Kept.{AreInCalls, AreKept, WaitsInCall}
+use Rattle.call_laws.specs.Pending.{AreInCalls, ArePending, WaitsInCall}
 use Rattle.call_laws.specs.Terminals.{AreOnTerminals}
 use Rattle.wait_laws.proofs.InCalls.{IsWaiting, put-waits, waits-runs}
 use Rattle.wait_laws.proofs.KeptEvents.{keeps-on, lives-runs, there-at, there-lives}
@@ -57,10 +57,10 @@ zip-length (x ∷ before) (y ∷ now) gains =
     let rest : length now ≡ length before = zip-length before now gains.1 in omega (arith, rest)
 
 -- what holds, by its parts
-pub running-then : (s t : State) → IsRunning s → AreKept t.inner t.files.io → AreInCalls t.inner t.files.io
-    → length t.inner.records ≤ length t.files.io.calls → AreOnTerminals (length s.terms) t.files.io.paths
+pub running-then : (s t : State) → IsRunning s → ArePending t.processes t.files.io → AreInCalls t.processes t.files.io
+    → length t.processes.records ≤ length t.files.io.calls → AreOnTerminals (length s.terms) t.files.io.paths
     → length t.terms ≡ length s.terms → AreRequested t.files → AreOnPaths t.files
-    → length t.inner.records ≤ length t.files.records.locks.requests → AreKinds t.files → IsClock t.clock t.inner.tick
+    → length t.processes.records ≤ length t.files.records.locks.requests → AreKinds t.files → IsClock t.clock t.processes.tick
     → IsRunning t
 running-then s t running kept in_calls places on long requested waits rooms kinds clock = record {
   kept = kept;
@@ -132,15 +132,15 @@ goes-sent records user to signal q lives = by_fault (is_some (send_fault records
     by_fault true is = goes-same records q lives
     by_fault false is = by_wake (sent-lives records user to signal is) (signal == wake_signal)
 
-goes-key : (inner : Inner) (user : Option Pid) (signal : Option ℕ) (q : ℕ) → IsLiving inner.records q → GoesOn inner.records (after_key_signal inner user signal).records q
-goes-key inner None signal q lives = goes-same inner.records q lives
-goes-key inner (Some process) None q lives = goes-same inner.records q lives
-goes-key inner (Some process) (Some signal) q lives = goes-sent inner.records every_user process.0 signal q lives
+goes-key : (processes : Processes) (user : Option Pid) (signal : Option ℕ) (q : ℕ) → IsLiving processes.records q → GoesOn processes.records (after_key_signal processes user signal).records q
+goes-key processes None signal q lives = goes-same processes.records q lives
+goes-key processes (Some process) None q lives = goes-same processes.records q lives
+goes-key processes (Some process) (Some signal) q lives = goes-sent processes.records every_user process.0 signal q lives
 
-own-key : (inner : Inner) (user : Option Pid) (signal : Option ℕ) (q : ℕ) → own_at (after_key_signal inner user signal) q ≡ own_at inner q
-own-key inner None signal q = refl
-own-key inner (Some process) None q = refl
-own-key inner (Some process) (Some signal) q = refl
+own-key : (processes : Processes) (user : Option Pid) (signal : Option ℕ) (q : ℕ) → own_at (after_key_signal processes user signal) q ≡ own_at processes q
+own-key processes None signal q = refl
+own-key processes (Some process) None q = refl
+own-key processes (Some process) (Some signal) q = refl
 
 -- a process that lives then lived
 lived-signalled : (records : List (Option Record)) (to : ℕ) (signal : Option ℕ) → IsLiving records to → (q : ℕ) → IsLiving (with_signal records to signal) q → IsLiving records q
@@ -161,10 +161,10 @@ lived-sent records user to signal q = by_fault (is_some (send_fault records user
     by_fault true wrong lives = lives
     by_fault false wrong lives = by_wake (sent-lives records user to signal wrong) (signal == wake_signal) lives
 
-lived-key : (inner : Inner) (user : Option Pid) (signal : Option ℕ) (q : ℕ) → IsLiving (after_key_signal inner user signal).records q → IsLiving inner.records q
-lived-key inner None signal q lives = lives
-lived-key inner (Some process) None q lives = lives
-lived-key inner (Some process) (Some signal) q lives = lived-sent inner.records every_user process.0 signal q lives
+lived-key : (processes : Processes) (user : Option Pid) (signal : Option ℕ) (q : ℕ) → IsLiving (after_key_signal processes user signal).records q → IsLiving processes.records q
+lived-key processes None signal q lives = lives
+lived-key processes (Some process) None q lives = lives
+lived-key processes (Some process) (Some signal) q lives = lived-sent processes.records every_user process.0 signal q lives
 
 -- no place comes or goes
 long-sent : (records : List (Option Record)) (user to signal : ℕ) → length (after_send records user to signal) ≡ length records
@@ -175,13 +175,13 @@ long-sent records user to signal = by_tests (is_some (send_fault records user to
     by_tests false true = refl
     by_tests false false = length-set records to _
 
-long-key : (inner : Inner) (user : Option Pid) (signal : Option ℕ) → length (after_key_signal inner user signal).records ≡ length inner.records
-long-key inner None signal = refl
-long-key inner (Some process) None = refl
-long-key inner (Some process) (Some signal) = long-sent inner.records every_user process.0 signal
+long-key : (processes : Processes) (user : Option Pid) (signal : Option ℕ) → length (after_key_signal processes user signal).records ≡ length processes.records
+long-key processes None signal = refl
+long-key processes (Some process) None = refl
+long-key processes (Some process) (Some signal) = long-sent processes.records every_user process.0 signal
 
 -- what the signals of keys leave of the processes
-pub record SignalsLeave (m n : Inner) : Type 0 where
+pub record SignalsLeave (m n : Processes) : Type 0 where
   pub memory : n.memory ≡ m.memory
   pub lives : (q : ℕ) → IsLiving m.records q → IsLiving n.records q
   pub had : (q : ℕ) (r : Record) → record_of n.records q ≡ Some r → (old : Record) × (record_of m.records q ≡ Some old)
@@ -208,23 +208,23 @@ had-sent records user to signal q r = by_fault (is_some (send_fault records user
     by_fault true wrong is = (r, is)
     by_fault false wrong is = by_wake (sent-lives records user to signal wrong) (signal == wake_signal) is
 
-key-leaves : (inner : Inner) (user : Option Pid) (signal : Option ℕ) → SignalsLeave inner (after_key_signal inner user signal)
-key-leaves inner None signal = record { memory = refl; lives = λ q lives. lives; had = λ q r is. (r, is) }
-key-leaves inner (Some process) None = record { memory = refl; lives = λ q lives. lives; had = λ q r is. (r, is) }
-key-leaves inner (Some process) (Some signal) = record {
+key-leaves : (processes : Processes) (user : Option Pid) (signal : Option ℕ) → SignalsLeave processes (after_key_signal processes user signal)
+key-leaves processes None signal = record { memory = refl; lives = λ q lives. lives; had = λ q r is. (r, is) }
+key-leaves processes (Some process) None = record { memory = refl; lives = λ q lives. lives; had = λ q r is. (r, is) }
+key-leaves processes (Some process) (Some signal) = record {
   memory = refl;
   lives = λ q lives.
-      let goes = goes-sent inner.records every_user process.0 signal q lives in
-      there-lives (after_send inner.records every_user process.0 signal) q goes.new goes.is (ap has_ended goes.life ∙ lives-runs inner.records q lives);
-  had = had-sent inner.records every_user process.0 signal;
+      let goes = goes-sent processes.records every_user process.0 signal q lives in
+      there-lives (after_send processes.records every_user process.0 signal) q goes.new goes.is (ap has_ended goes.life ∙ lives-runs processes.records q lives);
+  had = had-sent processes.records every_user process.0 signal;
 }
 
-signals-leave : (tick n count : ℕ) (old new : Desk) → ArrivesFrom tick n count old new → SignalsLeave old.inner new.inner
+signals-leave : (tick n count : ℕ) (old new : Desk) → ArrivesFrom tick n count old new → SignalsLeave old.processes new.processes
 signals-leave tick n zero old new is =
-    subst (λ (desk : Desk). SignalsLeave old.inner desk.inner) (sym is) (record { memory = refl; lives = λ q lives. lives; had = λ q r is. (r, is) })
+    subst (λ (desk : Desk). SignalsLeave old.processes desk.processes) (sym is) (record { memory = refl; lives = λ q lives. lives; had = λ q r is. (r, is) })
 signals-leave tick n (suc count) old new (between, here, later) =
-    let first : SignalsLeave old.inner between.inner = subst (SignalsLeave old.inner) (sym here.signal) (key-leaves old.inner here.terminal.user here.answer.signal) in
-    let rest : SignalsLeave between.inner new.inner = signals-leave tick (n + 1) count between new later in
+    let first : SignalsLeave old.processes between.processes = subst (SignalsLeave old.processes) (sym here.signal) (key-leaves old.processes here.terminal.user here.answer.signal) in
+    let rest : SignalsLeave between.processes new.processes = signals-leave tick (n + 1) count between new later in
     record {
       memory = rest.memory ∙ first.memory;
       lives = λ q lives. rest.lives q (first.lives q lives);
@@ -232,37 +232,37 @@ signals-leave tick n (suc count) old new (between, here, later) =
     }
 
 -- a tick leaves memory, and who has a record and lives
-pub tick-leaves : (s t : State) → Tick s t → SignalsLeave s.inner t.inner
+pub tick-leaves : (s t : State) → Tick s t → SignalsLeave s.processes t.processes
 tick-leaves s t (desk, arrives, is) =
-    let left = signals-leave (s.inner.tick + 1) 0 (length s.terms) (desk_of s) desk arrives in
-    subst (λ (t : State). SignalsLeave s.inner t.inner) (sym is) (record { memory = left.memory; lives = left.lives; had = left.had })
+    let left = signals-leave (s.processes.tick + 1) 0 (length s.terms) (desk_of s) desk arrives in
+    subst (λ (t : State). SignalsLeave s.processes t.processes) (sym is) (record { memory = left.memory; lives = left.lives; had = left.had })
 
 -- and the registers of a process that lives
-key-regs : (inner : Inner) (user : Option Pid) (signal : Option ℕ) (q : ℕ) → IsLiving inner.records q → regs_at (after_key_signal inner user signal) q ≡ regs_at inner q
-key-regs inner user signal q lives =
-    let goes = goes-key inner user signal q lives in
-    ap (λ (r : Record). r.regs) (there-at (after_key_signal inner user signal).records q goes.new goes.is) ∙ goes.regs
+key-regs : (processes : Processes) (user : Option Pid) (signal : Option ℕ) (q : ℕ) → IsLiving processes.records q → regs_at (after_key_signal processes user signal) q ≡ regs_at processes q
+key-regs processes user signal q lives =
+    let goes = goes-key processes user signal q lives in
+    ap (λ (r : Record). r.regs) (there-at (after_key_signal processes user signal).records q goes.new goes.is) ∙ goes.regs
 
-signals-regs : (tick n count : ℕ) (old new : Desk) → ArrivesFrom tick n count old new → (q : ℕ) → IsLiving old.inner.records q → regs_at new.inner q ≡ regs_at old.inner q
-signals-regs tick n zero old new is q lives = ap (λ (desk : Desk). regs_at desk.inner q) is
+signals-regs : (tick n count : ℕ) (old new : Desk) → ArrivesFrom tick n count old new → (q : ℕ) → IsLiving old.processes.records q → regs_at new.processes q ≡ regs_at old.processes q
+signals-regs tick n zero old new is q lives = ap (λ (desk : Desk). regs_at desk.processes q) is
 signals-regs tick n (suc count) old new (between, here, later) q lives =
-    let first : SignalsLeave old.inner between.inner = subst (SignalsLeave old.inner) (sym here.signal) (key-leaves old.inner here.terminal.user here.answer.signal) in
+    let first : SignalsLeave old.processes between.processes = subst (SignalsLeave old.processes) (sym here.signal) (key-leaves old.processes here.terminal.user here.answer.signal) in
     signals-regs tick (n + 1) count between new later q (first.lives q lives)
-    ∙ ap (λ (inner : Inner). regs_at inner q) here.signal
-    ∙ key-regs old.inner here.terminal.user here.answer.signal q lives
+    ∙ ap (λ (processes : Processes). regs_at processes q) here.signal
+    ∙ key-regs old.processes here.terminal.user here.answer.signal q lives
 
-pub tick-regs : (s t : State) → Tick s t → (q : ℕ) → IsLiving s.inner.records q → regs_at t.inner q ≡ regs_at s.inner q
+pub tick-regs : (s t : State) → Tick s t → (q : ℕ) → IsLiving s.processes.records q → regs_at t.processes q ≡ regs_at s.processes q
 tick-regs s t (desk, arrives, is) q lives =
-    ap (λ (t : State). regs_at t.inner q) is
-    ∙ signals-regs (s.inner.tick + 1) 0 (length s.terms) (desk_of s) desk arrives q lives
+    ap (λ (t : State). regs_at t.processes q) is
+    ∙ signals-regs (s.processes.tick + 1) 0 (length s.terms) (desk_of s) desk arrives q lives
 
 -- ---- a tick
 
 -- calls that wait, and paths, are left
 pub record DeskLeft (old new : Desk) : Type 0 where
-  pub kept : AreKept old.inner old.io → AreKept new.inner new.io
-  pub in_calls : AreInCalls old.inner old.io → AreInCalls new.inner new.io
-  pub long : length new.inner.records ≡ length old.inner.records
+  pub kept : ArePending old.processes old.io → ArePending new.processes new.io
+  pub in_calls : AreInCalls old.processes old.io → AreInCalls new.processes new.io
+  pub long : length new.processes.records ≡ length old.processes.records
   pub calls : new.io.calls ≡ old.io.calls
   pub paths : new.io.paths ≡ old.io.paths
 
@@ -270,47 +270,48 @@ arrival-left : (tick n : ℕ) (old new : Desk) → ArrivesAt tick n old new → 
 arrival-left tick n old new arrives = record {
   kept = kept;
   in_calls = in_calls;
-  long = ap (λ (inner : Inner). length inner.records) arrives.signal ∙ long-key old.inner arrives.terminal.user arrives.answer.signal;
+  long = ap (λ (processes : Processes). length processes.records) arrives.signal ∙ long-key old.processes arrives.terminal.user arrives.answer.signal;
   calls = ap (λ (io : Io). io.calls) arrives.io;
   paths = ap (λ (io : Io). io.paths) arrives.io;
 }
   where
-    in_calls : AreInCalls old.inner old.io → AreInCalls new.inner new.io
+    in_calls : AreInCalls old.processes old.io → AreInCalls new.processes new.io
     in_calls all q lives waits =
-        let lived : IsLiving old.inner.records q = lived-key old.inner arrives.terminal.user arrives.answer.signal q (subst (λ (inner : Inner). IsLiving inner.records q) arrives.signal lives) in
-        let goes = goes-key old.inner arrives.terminal.user arrives.answer.signal q lived in
-        let at : record_of new.inner.records q ≡ Some goes.new = ap (λ (inner : Inner). record_of inner.records q) arrives.signal ∙ goes.is in
-        let life : (record_at new.inner.records q).life ≡ (record_at old.inner.records q).life = ap (λ (r : Record). r.life) (there-at new.inner.records q goes.new at) ∙ goes.life in
-        let it : WaitsInCall old.inner old.io q = all q lived (sym (ap is_waiting life) ∙ waits) in
+        let lived : IsLiving old.processes.records q =
+            lived-key old.processes arrives.terminal.user arrives.answer.signal q (subst (λ (processes : Processes). IsLiving processes.records q) arrives.signal lives) in
+        let goes = goes-key old.processes arrives.terminal.user arrives.answer.signal q lived in
+        let at : record_of new.processes.records q ≡ Some goes.new = ap (λ (processes : Processes). record_of processes.records q) arrives.signal ∙ goes.is in
+        let life : (record_at new.processes.records q).life ≡ (record_at old.processes.records q).life = ap (λ (r : Record). r.life) (there-at new.processes.records q goes.new at) ∙ goes.life in
+        let it : WaitsInCall old.processes old.io q = all q lived (sym (ap is_waiting life) ∙ waits) in
         record {
           code = it.code;
           made =
-              ap (λ (inner : Inner). (own_at inner q).call) arrives.signal ∙ ap (λ (own : Own). own.call) (own-key old.inner arrives.terminal.user arrives.answer.signal q) ∙ it.made;
-          kept = λ some. ap (λ (io : Io). is_some (kept_at io q)) arrives.io ∙ it.kept some;
+              ap (λ (processes : Processes). (own_at processes q).call) arrives.signal ∙ ap (λ (own : Own). own.call) (own-key old.processes arrives.terminal.user arrives.answer.signal q) ∙ it.made;
+          kept = λ some. ap (λ (io : Io). is_some (pending_at io q)) arrives.io ∙ it.kept some;
         }
 
-    kept : AreKept old.inner old.io → AreKept new.inner new.io
+    kept : ArePending old.processes old.io → ArePending new.processes new.io
     kept all q call is =
-        let before : kept_at old.io q ≡ Some call = sym (ap (λ (io : Io). kept_at io q) arrives.io) ∙ is in
+        let before : pending_at old.io q ≡ Some call = sym (ap (λ (io : Io). pending_at io q) arrives.io) ∙ is in
         let it = all q call before in
-        let goes = goes-key old.inner arrives.terminal.user arrives.answer.signal q it.lives in
-        let at : record_of new.inner.records q ≡ Some goes.new = ap (λ (inner : Inner). record_of inner.records q) arrives.signal ∙ goes.is in
-        let here = there-at new.inner.records q goes.new at in
-        keeps-on old.inner new.inner old.io new.io q call
-        (there-lives new.inner.records q goes.new at (ap has_ended goes.life ∙ lives-runs old.inner.records q it.lives))
+        let goes = goes-key old.processes arrives.terminal.user arrives.answer.signal q it.lives in
+        let at : record_of new.processes.records q ≡ Some goes.new = ap (λ (processes : Processes). record_of processes.records q) arrives.signal ∙ goes.is in
+        let here = there-at new.processes.records q goes.new at in
+        keeps-on old.processes new.processes old.io new.io q call
+        (there-lives new.processes.records q goes.new at (ap has_ended goes.life ∙ lives-runs old.processes.records q it.lives))
         (ap (λ (r : Record). r.life) here ∙ goes.life) (ap (λ (r : Record). r.regs) here ∙ goes.regs)
-        (ap (λ (inner : Inner). (own_at inner q).call) arrives.signal ∙ ap (λ (own : Own). own.call) (own-key old.inner arrives.terminal.user arrives.answer.signal q))
+        (ap (λ (processes : Processes). (own_at processes q).call) arrives.signal ∙ ap (λ (own : Own). own.call) (own-key old.processes arrives.terminal.user arrives.answer.signal q))
         (ap (λ (io : Io). numbers_of io.paths q) arrives.io)
         (λ at count. subst (λ (memory : MemoryState). FitsIn (seen memory q) at count)
-        (sym (ap (λ (inner : Inner). inner.memory) arrives.signal ∙ (key-leaves old.inner arrives.terminal.user
+        (sym (ap (λ (processes : Processes). processes.memory) arrives.signal ∙ (key-leaves old.processes arrives.terminal.user
         arrives.answer.signal).memory)))
         (λ number opened is. ap (λ (io : Io). open_path io q number) arrives.io ∙ is) it
 
 pub arrivals-left : (tick n count : ℕ) (old new : Desk) → ArrivesFrom tick n count old new → DeskLeft old new
 arrivals-left tick n zero old new is = record {
-  kept = λ kept. subst (λ (desk : Desk). AreKept desk.inner desk.io) (sym is) kept;
-  in_calls = λ in_calls. subst (λ (desk : Desk). AreInCalls desk.inner desk.io) (sym is) in_calls;
-  long = ap (λ (desk : Desk). length desk.inner.records) is;
+  kept = λ kept. subst (λ (desk : Desk). ArePending desk.processes desk.io) (sym is) kept;
+  in_calls = λ in_calls. subst (λ (desk : Desk). AreInCalls desk.processes desk.io) (sym is) in_calls;
+  long = ap (λ (desk : Desk). length desk.processes.records) is;
   calls = ap (λ (desk : Desk). desk.io.calls) is;
   paths = ap (λ (desk : Desk). desk.io.paths) is;
 }
@@ -326,7 +327,7 @@ arrivals-left tick n (suc count) old new (between, here, later) =
     }
 
 -- the tick and the order of choice are no part of what is kept
-kept-same : (m n : Inner) (io : Io) → n.records ≡ m.records → n.own ≡ m.own → n.memory ≡ m.memory → AreKept m io → AreKept n io
+kept-same : (m n : Processes) (io : Io) → n.records ≡ m.records → n.own ≡ m.own → n.memory ≡ m.memory → ArePending m io → ArePending n io
 kept-same m n io records own memory all q kept is =
     let it = all q kept is in
     keeps-on m n io io q kept (subst (λ (records : List (Option Record)). IsLiving records q) (sym records) it.lives)
@@ -334,7 +335,7 @@ kept-same m n io records own memory all q kept is =
     (ap (λ (owns : List Own). (slice_index_or owns q no_own).call) own) refl
     (λ at count. subst (λ (memory : MemoryState). FitsIn (seen memory q) at count) (sym memory)) (λ number opened is. is) it
 
-in_calls-same : (m n : Inner) (io : Io) → n.records ≡ m.records → n.own ≡ m.own → AreInCalls m io → AreInCalls n io
+in_calls-same : (m n : Processes) (io : Io) → n.records ≡ m.records → n.own ≡ m.own → AreInCalls m io → AreInCalls n io
 in_calls-same m n io records own all q lives waits =
     let it : WaitsInCall m io q = all q (subst (λ (records : List (Option Record)). IsLiving records q) records lives)
     (sym (ap (λ (records : List (Option Record)). is_waiting (record_at records q).life) records) ∙ waits) in
@@ -349,53 +350,53 @@ in_calls-same m n io records own all q lives waits =
 pub clock-later : (clock : Clock) (tick later : ℕ) → tick ≤ later → IsClock clock tick → IsClock clock later
 clock-later clock tick later past it = record { civil = it.civil; set = omega (arith, past, it.set) }
 
-key-tick : (inner : Inner) (user : Option Pid) (signal : Option ℕ) → (after_key_signal inner user signal).tick ≡ inner.tick
-key-tick inner None signal = refl
-key-tick inner (Some process) None = refl
-key-tick inner (Some process) (Some signal) = refl
+key-tick : (processes : Processes) (user : Option Pid) (signal : Option ℕ) → (after_key_signal processes user signal).tick ≡ processes.tick
+key-tick processes None signal = refl
+key-tick processes (Some process) None = refl
+key-tick processes (Some process) (Some signal) = refl
 
 -- keys that arrive leave the tick
-arrivals-tick : (tick n count : ℕ) (old new : Desk) → ArrivesFrom tick n count old new → new.inner.tick ≡ old.inner.tick
-arrivals-tick tick n zero old new is = ap (λ (desk : Desk). desk.inner.tick) is
+arrivals-tick : (tick n count : ℕ) (old new : Desk) → ArrivesFrom tick n count old new → new.processes.tick ≡ old.processes.tick
+arrivals-tick tick n zero old new is = ap (λ (desk : Desk). desk.processes.tick) is
 arrivals-tick tick n (suc count) old new (between, here, later) =
     arrivals-tick tick (n + 1) count between new later
-    ∙ ap (λ (inner : Inner). inner.tick) here.signal ∙ key-tick old.inner here.terminal.user here.answer.signal
+    ∙ ap (λ (processes : Processes). processes.tick) here.signal ∙ key-tick old.processes here.terminal.user here.answer.signal
 
 -- ---- a tick, a choice, the console
 
 pub tick-running : (s t : State) → Tick s t → IsRunning s → IsRunning t
 tick-running s t (desk, arrives, is) running =
-    let left = arrivals-left (s.inner.tick + 1) 0 (length s.terms) (desk_of s) desk arrives in
-    let tick : desk.inner.tick ≡ s.inner.tick + 1 = arrivals-tick (s.inner.tick + 1) 0 (length s.terms) (desk_of s) desk arrives in
+    let left = arrivals-left (s.processes.tick + 1) 0 (length s.terms) (desk_of s) desk arrives in
+    let tick : desk.processes.tick ≡ s.processes.tick + 1 = arrivals-tick (s.processes.tick + 1) 0 (length s.terms) (desk_of s) desk arrives in
     running-then s t running
-    (subst (λ (t : State). AreKept t.inner t.files.io) (sym is) (left.kept (kept-same s.inner (desk_of s).inner s.files.io refl refl refl running.kept)))
-    (subst (λ (t : State). AreInCalls t.inner t.files.io) (sym is) (left.in_calls (in_calls-same s.inner (desk_of s).inner s.files.io refl refl running.in_calls)))
-    (subst (λ (t : State). length t.inner.records ≤ length t.files.io.calls) (sym is)
+    (subst (λ (t : State). ArePending t.processes t.files.io) (sym is) (left.kept (kept-same s.processes (desk_of s).processes s.files.io refl refl refl running.kept)))
+    (subst (λ (t : State). AreInCalls t.processes t.files.io) (sym is) (left.in_calls (in_calls-same s.processes (desk_of s).processes s.files.io refl refl running.in_calls)))
+    (subst (λ (t : State). length t.processes.records ≤ length t.files.io.calls) (sym is)
     (subst (λ (n : ℕ). n ≤ length desk.io.calls) (sym left.long)
-    (subst (λ (calls : List (Option Kept)). length s.inner.records ≤ length calls) (sym left.calls)
+    (subst (λ (calls : List (Option PendingCall)). length s.processes.records ≤ length calls) (sym left.calls)
     running.places)))
     (subst (λ (t : State). AreOnTerminals (length s.terms) t.files.io.paths) (sym is) (subst (AreOnTerminals (length s.terms)) (sym left.paths) running.on))
     (zip-length s.terms t.terms (tick-gains s t (desk, arrives, is)).terminals)
     (subst (λ (t : State). AreRequested t.files) (sym is) (calls-then s.files (with_io s.files desk.io) refl left.calls running.requested))
     (subst (λ (t : State). AreOnPaths t.files) (sym is) (paths-then s.files (with_io s.files desk.io) refl left.calls left.paths running.waits))
-    (subst (λ (t : State). length t.inner.records ≤ length t.files.records.locks.requests) (sym is)
+    (subst (λ (t : State). length t.processes.records ≤ length t.files.records.locks.requests) (sym is)
     (subst (λ (n : ℕ). n ≤ length s.files.records.locks.requests) (sym left.long) running.rooms))
     (subst (λ (t : State). AreKinds t.files) (sym is) (kinds-same s.files desk.io left.paths running.kinds))
-    (subst (λ (t : State). IsClock t.clock t.inner.tick) (sym is) (clock-later s.clock s.inner.tick desk.inner.tick (omega (arith, tick)) running.clock))
+    (subst (λ (t : State). IsClock t.clock t.processes.tick) (sym is) (clock-later s.clock s.processes.tick desk.processes.tick (omega (arith, tick)) running.clock))
 
 pub choice-running : (s t : State) → Choose s t → IsRunning s → IsRunning t
 choice-running s t is running =
     running-then s t running
-    (subst (λ (t : State). AreKept t.inner t.files.io) (sym is) (kept-same s.inner _ s.files.io refl refl refl running.kept))
-    (subst (λ (t : State). AreInCalls t.inner t.files.io) (sym is) (in_calls-same s.inner _ s.files.io refl refl running.in_calls))
-    (subst (λ (t : State). length t.inner.records ≤ length t.files.io.calls) (sym is) running.places)
+    (subst (λ (t : State). ArePending t.processes t.files.io) (sym is) (kept-same s.processes _ s.files.io refl refl refl running.kept))
+    (subst (λ (t : State). AreInCalls t.processes t.files.io) (sym is) (in_calls-same s.processes _ s.files.io refl refl running.in_calls))
+    (subst (λ (t : State). length t.processes.records ≤ length t.files.io.calls) (sym is) running.places)
     (subst (λ (t : State). AreOnTerminals (length s.terms) t.files.io.paths) (sym is) running.on)
     (ap (λ (t : State). length t.terms) is)
     (subst (λ (t : State). AreRequested t.files) (sym is) running.requested)
     (subst (λ (t : State). AreOnPaths t.files) (sym is) running.waits)
-    (subst (λ (t : State). length t.inner.records ≤ length t.files.records.locks.requests) (sym is) running.rooms)
+    (subst (λ (t : State). length t.processes.records ≤ length t.files.records.locks.requests) (sym is) running.rooms)
     (subst (λ (t : State). AreKinds t.files) (sym is) running.kinds)
-    (subst (λ (t : State). IsClock t.clock t.inner.tick) (sym is) running.clock)
+    (subst (λ (t : State). IsClock t.clock t.processes.tick) (sym is) running.clock)
 
 pub emptied-running : (m : State) → IsRunning m → IsRunning (record m { terms = terminals_emptied m.terms })
 emptied-running m running =
@@ -404,11 +405,11 @@ emptied-running m running =
 
 -- ---- the start
 
-none-first : (p : ℕ) → kept_at first_io p ≡ None
+none-first : (p : ℕ) → pending_at first_io p ≡ None
 none-first p =
     elim (cases_lt p 33) [
       | inl within ↦ get_or-replicate 33 p None None within
-      | inr past ↦ get_or_past (replicate 33 (let none : Option Kept = None in none)) p None (omega (arith, length-replicate 33 (let none : Option Kept = None in none)))
+      | inr past ↦ get_or_past (replicate 33 (let none : Option PendingCall = None in none)) p None (omega (arith, length-replicate 33 (let none : Option PendingCall = None in none)))
     ]
 
 -- the only process runs
@@ -436,7 +437,7 @@ first-runs regs p waiting =
 
 pub start-running : (boot : Boot) (s : State) → Starts boot s → 0 < length boot.terms → length boot.terms ≤ 4 → is_time_packet boot.time ≡ true → IsRunning s
 start-running boot s starts some few time = subst IsRunning (sym starts.is) (record {
-  kept = λ p kept is. absurd (none-some kept (sym (ap (λ (io : Io). kept_at io p) io_is ∙ none-first p) ∙ is));
+  kept = λ p kept is. absurd (none-some kept (sym (ap (λ (io : Io). pending_at io p) io_is ∙ none-first p) ∙ is));
   in_calls = λ p lives waits. absurd (first-runs (start_regs (first_start starts.number starts.entry)) p (lives, waits));
   places = subst (λ (io : Io). PROCESS_PLACES ≤ length io.calls) (sym io_is) (omega arith);
   on = subst (λ (io : Io). AreOnTerminals (length boot.terms) io.paths) (sym io_is) (on-first (length boot.terms) some);
@@ -444,7 +445,7 @@ start-running boot s starts some few time = subst IsRunning (sym starts.is) (rec
   few = few;
   requested =
       λ p request is. absurd (none-some request (sym (ap (λ (files : Files). request_of files.records.locks p) starts.mounted.is ∙ first-quiet p) ∙ is));
-  waits = λ p kept is. absurd (none-some kept (sym (ap (λ (io : Io). kept_at io p) io_is ∙ none-first p) ∙ is));
+  waits = λ p kept is. absurd (none-some kept (sym (ap (λ (io : Io). pending_at io p) io_is ∙ none-first p) ∙ is));
   rooms = subst (λ (files : Files). PROCESS_PLACES ≤ length files.records.locks.requests) (sym starts.mounted.is) (omega arith);
   kinds = kinds-start boot.images boot.drives starts.files starts.mounted;
   clock = record { civil = time; set = omega arith };

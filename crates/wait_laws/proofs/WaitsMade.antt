@@ -28,7 +28,7 @@ use Rattle.call_rules.specs.Chain.{f_chain, begun_anew, with_program}
 use Rattle.call_rules.specs.CmpNam.{f_cmpnam, same_names}
 use Rattle.call_rules.specs.Crc.{f_crc, crc_continued}
 use Rattle.call_rules.specs.Fork.{f_fork, with_child, forked_regs}
-use Rattle.call_rules.specs.Inner.{Inner, no_own, own_at, regs_at, user_at, cells_at, with_memory, with_own, with_records, with_regs_of}
+use Rattle.call_rules.specs.Processes.{Processes, no_own, own_at, regs_at, user_at, cells_at, with_memory, with_own, with_records, with_regs_of}
 use Rattle.call_rules.specs.Link.{Mapped, f_link, mapped_group, links_at, after_link}
 use Rattle.call_rules.specs.Mem.{f_mem, sets_pages, resized, with_size, size_regs}
 use Rattle.call_rules.specs.ModuleLinks.{Entered, found_entry, module_at, without_module_link, without_primary_link}
@@ -42,7 +42,7 @@ use Rattle.call_rules.specs.UnLoad.{f_unload}
 use Rattle.call_rules.specs.UserBytes.{user_bytes, d_of}
 use Rattle.call_rules.specs.Wait.{f_wait, reaped_regs}
 
-module _ (m : Inner) (p : ℕ) where
+module _ (m : Processes) (p : ℕ) where
   -- a process that waits after an attempt has the call that it had before
   abbrev pub HasItsCall : CallResult → Type 0
   HasItsCall (done t) = Unit {0}

@@ -12,13 +12,13 @@ ghost use Rattle.wait_laws.specs.Running.{AllRunning, IsRunning};
 
 /// The saved state of a pending call belongs to the call its process is waiting in, which was made
 /// with the registers of the process. A pending read is not refused if it is attempted again: its
-/// buffer is named, and its path may be read. Something is kept of each call on a terminal or a
-/// pipe in which a process waits. The path of a call that waits is open. It is on a terminal or a
-/// pipe, or its process waits in a request for a record. Each terminal that a path was opened on
-/// exists, and so does each file and directory that a path or a process is on; the clock was set to
-/// a civil time, and not after the tick. All this holds at the start of a machine with one to four
-/// terminals, and each event, each tick and each choice keeps it. So it holds in every state of a
-/// run.
+/// buffer is named, and its path may be read. Each call on a terminal or a
+/// pipe in which a process waits is pending. The path of a call that waits is open. It is on a
+/// terminal or a pipe, or its process waits in a request for a record. Each terminal that a path
+/// was opened on exists, and so does each file and directory that a path or a process is on; the
+/// clock was set to a civil time, and not after the tick. All this holds at the start of a machine
+/// with one to four terminals, and each event, each tick and each choice keeps it. So it holds in
+/// every state of a run.
 pub fn calls_that_wait_are_kept()
     ensures start { (boot : Boot) (s : State) → Starts boot s → 0 < length boot.terms
         → length boot.terms ≤ 4 → is_time_packet boot.time ≡ true → IsRunning s }

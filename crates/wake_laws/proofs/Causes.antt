@@ -6,11 +6,11 @@ use Rattle.std.proofs.lemmas.Bool.{false≢true}
 use Rattle.std.proofs.lemmas.Option.{none-some}
 use Rattle.os9_sched.specs.declared.member.Cause.{Cause}
 use Rattle.os9_sched.specs.declared.member.Wait.{Wait as Waiting}
-use Rattle.io_model.specs.declared.kept.Kept.{Kept}
+use Rattle.io_model.specs.declared.pending.PendingCall.{PendingCall}
 use Rattle.io_model.specs.declared.path.Desc.{Desc}
 use Rattle.io_model.specs.declared.path.Target.{Target}
 use Rattle.io_model.specs.declared.path.Target.TheVariants.{File, Folder, Pipe, Term}
-use Rattle.io_rules.specs.Io.{kept_at, target_of}
+use Rattle.io_rules.specs.Io.{pending_at, target_of}
 use Rattle.io_rules.specs.Waiting.{cause_by, io_waits_for}
 use Rattle.lock_model.specs.Locks.{request_of}
 use Rattle.lock_model.specs.declared.lock.Request.{Request}
@@ -34,15 +34,15 @@ device-cause (Folder drive sector) is = absurd (no-place (record { drive = drive
 device-cause (Term terminal) is = (Cause.Term terminal, refl)
 device-cause (Pipe pipe) is = (Cause.Pipe pipe, refl)
 
-pub call-cause : (s : State) (q : ℕ) (kept : Kept) → IsRunOpen s → kept_at s.files.io q ≡ Some kept → (cause : Cause) × WaitsFor s q cause
-call-cause s q kept run is = by_request (request_of s.files.records.locks q) refl
+pub call-cause : (s : State) (q : ℕ) (pending : PendingCall) → IsRunOpen s → pending_at s.files.io q ≡ Some pending → (cause : Cause) × WaitsFor s q cause
+call-cause s q pending run is = by_request (request_of s.files.records.locks q) refl
   where
-    it : WaitsOnPath s.files q kept
-    it = run.locked.state.running.waits q kept is
+    it : WaitsOnPath s.files q pending
+    it = run.locked.state.running.waits q pending is
 
     target : (cause : Cause) → cause_by it.desc.target ≡ Some cause → io_waits_for s.files.io q ≡ Some cause
     target cause on =
-        ap (λ (kept : Option Kept). option_and_then cause_by (option_and_then (λ (kept : Kept). target_of s.files.io kept.path) kept)) is
+        ap (λ (pending : Option PendingCall). option_and_then cause_by (option_and_then (λ (pending : PendingCall). target_of s.files.io pending.path) pending)) is
         ∙ ap (λ (desc : Option Desc). option_and_then cause_by (option_map (λ (desc : Desc). desc.target) desc)) it.there ∙ on
 
     by_device : request_of s.files.records.locks q ≡ None → IsDevice it.desc.target ⊎ IsSome (request_of s.files.records.locks q) → (cause : Cause) × WaitsFor s q cause

@@ -16,12 +16,12 @@ use Rattle.os9_sched.specs.declared.member.Cause.{Cause}
 use Rattle.user_names.specs.declared.name_fault.NameFault.{NameFault}
 use Rattle.user_names.specs.declared.name_fault.NameFault.TheVariants.{NoName, Unreadable}
 use Rattle.call_rules.specs.UserBytes.{user_bytes}
-use Rattle.io_model.specs.Kept.{count_left, is_complete, moved_on}
+use Rattle.io_model.specs.Pending.{count_left, is_complete, moved_on}
 use Rattle.io_model.specs.Line.{has_return}
 use Rattle.io_model.specs.Path.{PathTable, closed_desc, desc_of, free_number, free_path, holds_path, is_held, is_image, new_number, numbers_of, path_at, paths_after_begin, paths_after_close, paths_after_dup, slot_of, with_desc, with_path, with_slot}
 use Rattle.io_model.specs.Pipe.{bytes_moved, free_pipe, held_bytes, pipe_of, pipes_after_begin, read_answer, read_line_answer, with_pipe, write_answer}
 use Rattle.io_model.specs.Terminal.{Terminal, new_terminal}
-use Rattle.io_model.specs.declared.kept.Kept.{Kept}
+use Rattle.io_model.specs.declared.pending.PendingCall.{PendingCall}
 use Rattle.io_model.specs.declared.path.Desc.{Desc}
 use Rattle.io_model.specs.declared.path.SysPath.{SysPath}
 use Rattle.io_model.specs.declared.path.Target.{Target}
@@ -33,9 +33,9 @@ use Rattle.io_model.specs.declared.terminal.ReadKind.{ReadKind}
 use Rattle.io_model.specs.declared.terminal.ReadKind.TheVariants.{Bytes, WholeLine}
 use Rattle.io_rules.specs.Alone.{is_alone}
 use Rattle.io_rules.specs.Again.{path_number}
-use Rattle.io_rules.specs.Attempts.{Does, io_step, kept_in}
+use Rattle.io_rules.specs.Attempts.{Does, io_step, pending_in}
 use Rattle.io_rules.specs.Close.{after_close, without_path, without_target}
-use Rattle.io_rules.specs.Io.{Io, OpenPath, kept_at, new_desc, open_path, pipe_bytes, terminal_at, with_paths, with_pipes, with_terminal}
+use Rattle.io_rules.specs.Io.{Io, OpenPath, pending_at, new_desc, open_path, pipe_bytes, terminal_at, with_paths, with_pipes, with_terminal}
 use Rattle.io_rules.specs.Lead.{Lead, a_new_place, lead_of, nowhere, to_pipe, to_terminal, what_is_there}
 use Rattle.io_rules.specs.Modes.{can_read, can_write, is_mode}
 use Rattle.io_rules.specs.Open.{begins, opened_regs, opens_lead, reads_list}
@@ -59,41 +59,41 @@ use Rattle.wake_laws.proofs.Looked.{IsPathFor, any-set, no-image, opens}
 
 -- an attempt keeps a call on this path, if it keeps one
 abbrev Keeps : SysPath → IoEnd → Type 0
-Keeps path end = (kept : Kept) → kept_in end ≡ Some kept → kept.path ≡ path
+Keeps path end = (pending : PendingCall) → pending_in end ≡ Some pending → pending.path ≡ path
 
-keeps-none : (path : SysPath) (end : IoEnd) → kept_in end ≡ None → Keeps path end
+keeps-none : (path : SysPath) (end : IoEnd) → pending_in end ≡ None → Keeps path end
 keeps-none path end none kept is = absurd (none-some kept (sym none ∙ is))
 
-keeps-call : (call : Kept) → Keeps call.path (keeps call)
-keeps-call call kept is = ap (λ (kept : Kept). kept.path) (sym (same_Some call kept is))
+keeps-call : (call : PendingCall) → Keeps call.path (keeps call)
+keeps-call call pending is = ap (λ (pending : PendingCall). pending.path) (sym (same_Some call pending is))
 
-read-keeps : (caller : Caller) (call : Kept) (answer : PipeAns) → Keeps call.path (read_end caller call answer)
+read-keeps : (caller : Caller) (call : PendingCall) (answer : PipeAns) → Keeps call.path (read_end caller call answer)
 read-keeps caller call (Done count) = keeps-none call.path (answers (count_regs caller count)) refl
 read-keeps caller call Wait = keeps-call call
 read-keeps caller call End = keeps-none call.path (fails E_EOF) refl
 read-keeps caller call NoReader = keeps-none call.path (fails E_WRITE) refl
 
-line-keeps : (caller : Caller) (alone : Bool) (call : Kept) (taken : List ℕ) → Keeps call.path (line_end caller alone call taken)
+line-keeps : (caller : Caller) (alone : Bool) (call : PendingCall) (taken : List ℕ) → Keeps call.path (line_end caller alone call taken)
 line-keeps caller alone call taken = by_over (has_return taken || (is_complete call || alone))
   where
     by_over : (over : Bool) → Keeps call.path (if over then answers (count_regs caller call.moved) else keeps call)
     by_over true = keeps-none call.path (answers (count_regs caller call.moved)) refl
     by_over false = keeps-call call
 
-ended-keeps : (caller : Caller) (call : Kept) → Keeps call.path (line_ended caller call)
+ended-keeps : (caller : Caller) (call : PendingCall) → Keeps call.path (line_ended caller call)
 ended-keeps caller call = by_none (call.moved == 0)
   where
     by_none : (none : Bool) → Keeps call.path (if none then fails E_EOF else answers (count_regs caller call.moved))
     by_none true = keeps-none call.path (fails E_EOF) refl
     by_none false = keeps-none call.path (answers (count_regs caller call.moved)) refl
 
-read_line-keeps : (caller : Caller) (alone : Bool) (call : Kept) (taken : List ℕ) (answer : PipeAns) → Keeps call.path (read_line_end caller alone call taken answer)
+read_line-keeps : (caller : Caller) (alone : Bool) (call : PendingCall) (taken : List ℕ) (answer : PipeAns) → Keeps call.path (read_line_end caller alone call taken answer)
 read_line-keeps caller alone call taken (Done count) = line-keeps caller alone (moved_on call count) taken
 read_line-keeps caller alone call taken Wait = keeps-call call
 read_line-keeps caller alone call taken End = ended-keeps caller call
 read_line-keeps caller alone call taken NoReader = keeps-none call.path (fails E_WRITE) refl
 
-moved-keeps : (alone : Bool) (call : Kept) (regs : Regs) → Keeps call.path (moved_end alone call regs)
+moved-keeps : (alone : Bool) (call : PendingCall) (regs : Regs) → Keeps call.path (moved_end alone call regs)
 moved-keeps alone call regs = by_over (is_complete call) alone
   where
     by_over : (over alone : Bool) → Keeps call.path (if over then answers regs else (if alone then fails E_WRITE else keeps call))
@@ -101,7 +101,7 @@ moved-keeps alone call regs = by_over (is_complete call) alone
     by_over false true = keeps-none call.path (fails E_WRITE) refl
     by_over false false = keeps-call call
 
-write-keeps : (alone : Bool) (call : Kept) (regs : Regs) (answer : PipeAns) → Keeps call.path (write_end alone call regs answer)
+write-keeps : (alone : Bool) (call : PendingCall) (regs : Regs) (answer : PipeAns) → Keeps call.path (write_end alone call regs answer)
 write-keeps alone call regs (Done count) = moved-keeps alone (moved_on call count) regs
 write-keeps alone call regs Wait = keeps-call call
 write-keeps alone call regs End = keeps-none call.path (fails E_EOF) refl
@@ -180,7 +180,7 @@ module _ (io : Io) (p : ℕ) (cause : Cause) where
 -- ---- what is left
 
 module _ (call : IoCall) (caller : Caller) (io : Io) (cause : Cause) (apart : NamesCause io caller.process.0 (path_number call caller.regs) cause → ⊥)
-    (again : (kept : Kept) → kept_at io caller.process.0 ≡ Some kept → slot_of io.paths caller.process.0 (path_number call caller.regs) ≡ Some kept.path) where
+    (again : (pending : PendingCall) → pending_at io caller.process.0 ≡ Some pending → slot_of io.paths caller.process.0 (path_number call caller.regs) ≡ Some pending.path) where
   abbrev p : ℕ
   p = caller.process.0
 
@@ -204,7 +204,7 @@ module _ (call : IoCall) (caller : Caller) (io : Io) (cause : Cause) (apart : Na
   PipesStay pipes = (k : ℕ) → cause ≡ Cause.Pipe k → held_bytes pipes k ≡ held_bytes io.pipes k
 
   abbrev KeepsNamed : IoEnd → Type 0
-  KeepsNamed end = (kept : Kept) → kept_in end ≡ Some kept → slot_of io.paths p n ≡ Some kept.path
+  KeepsNamed end = (pending : PendingCall) → pending_in end ≡ Some pending → slot_of io.paths p n ≡ Some pending.path
 
   pub record Left (it : IoEffect) : Type 0 where
     pub holds : Holds it.io.paths
@@ -223,7 +223,7 @@ module _ (call : IoCall) (caller : Caller) (io : Io) (cause : Cause) (apart : Na
     holds = holds;
     pipes = pipes;
     terminals = terminals;
-    keeps = λ kept is. absurd (none-some kept is);
+    keeps = λ pending is. absurd (none-some pending is);
   }
 
   same : (regs : Regs) → Stay (done regs io)
@@ -351,22 +351,22 @@ module _ (call : IoCall) (caller : Caller) (io : Io) (cause : Cause) (apart : Na
 
   -- a call that goes on is on the path that its number names
   call-named : (opened : OpenPath) → open_path io p n ≡ Some opened → (code count : ℕ) → slot_of io.paths p n ≡ Some (call_now caller io code opened count).path
-  call-named opened named code count = by_kept (kept_at io p) refl
+  call-named opened named code count = by_kept (pending_at io p) refl
     where
-      by_kept : (kept : Option Kept) → kept_at io p ≡ kept → slot_of io.paths p n ≡ Some (unwrap_or kept (first_call code opened count)).path
+      by_kept : (pending : Option PendingCall) → pending_at io p ≡ pending → slot_of io.paths p n ≡ Some (unwrap_or pending (first_call code opened count)).path
       by_kept None is = path-slot io p n opened named
-      by_kept (Some kept) is = again kept is
+      by_kept (Some pending) is = again pending is
 
-  pipe-left : (pipe : ℕ) → IsOnNumber (Pipe pipe) → (bytes : List ℕ) (call : Kept) → slot_of io.paths p n ≡ Some call.path → (end : IoEnd) → Keeps call.path end
+  pipe-left : (pipe : ℕ) → IsOnNumber (Pipe pipe) → (bytes : List ℕ) (call : PendingCall) → slot_of io.paths p n ≡ Some call.path → (end : IoEnd) → Keeps call.path end
       → (at : ℕ) (stored : List ℕ) → Left (record { end = end; at = at; bytes = stored; io = with_pipes io (with_pipe io.pipes pipe bytes) })
   pipe-left pipe on bytes call named end kept_so at stored = record {
     holds = λ s it. refl;
     pipes = set-pipes pipe (Some bytes) (λ is. not-on (Pipe pipe) on (ap (λ (cause : Cause). Some cause) (sym is)));
     terminals = refl;
-    keeps = λ kept is. named ∙ ap (λ (path : SysPath). Some path) (sym (kept_so kept is));
+    keeps = λ pending is. named ∙ ap (λ (path : SysPath). Some path) (sym (kept_so pending is));
   }
 
-  read-target : (kind : ReadKind) (opened : OpenPath) → open_path io p n ≡ Some opened → (now : Kept) → slot_of io.paths p n ≡ Some now.path
+  read-target : (kind : ReadKind) (opened : OpenPath) → open_path io p n ≡ Some opened → (now : PendingCall) → slot_of io.paths p n ≡ Some now.path
       → (target : Target) → opened.desc.target ≡ target → Stay (reads_target kind caller io now target)
   read-target kind opened named now call (File drive sector) on = tt
   read-target kind opened named now call (Folder drive sector) on = tt
@@ -380,7 +380,7 @@ module _ (call : IoCall) (caller : Caller) (io : Io) (cause : Cause) (apart : Na
       pipe-left pipe (opened, named, on) _ now call (read_line_end caller alone now (bytes_moved answer (pipe_bytes io pipe)) answer)
       (read_line-keeps caller alone now (bytes_moved answer (pipe_bytes io pipe)) answer) _ _
 
-  write-target : (sending : Sending) (opened : OpenPath) → open_path io p n ≡ Some opened → (now : Kept) → slot_of io.paths p n ≡ Some now.path
+  write-target : (sending : Sending) (opened : OpenPath) → open_path io p n ≡ Some opened → (now : PendingCall) → slot_of io.paths p n ≡ Some now.path
       → (target : Target) → opened.desc.target ≡ target → Stay (writes_target sending caller io now target)
   write-target sending opened named now call (File drive sector) on = tt
   write-target sending opened named now call (Folder drive sector) on = tt
@@ -396,7 +396,7 @@ module _ (call : IoCall) (caller : Caller) (io : Io) (cause : Cause) (apart : Na
       (if ready then gets_ready caller io target else (if end then gets_end caller io target else refused E_UNKSVC)))
   status-by target true ready end =
       refuses-stay (is_none (user_bytes caller.cells caller.regs.x OPTION_BYTES)) E_BPADDR (comes (stores caller.regs.x (options target) (answers caller.regs) io))
-      (record { holds = λ s it. refl; pipes = λ k is. refl; terminals = refl; keeps = λ kept is. absurd (none-some kept is) })
+      (record { holds = λ s it. refl; pipes = λ k is. refl; terminals = refl; keeps = λ pending is. absurd (none-some pending is) })
   status-by target false true end =
       refuses-stay (ready_count io target == 0) E_NOTRDY (done (record caller.regs { b = min 255 (ready_count io target) }) io) (same _)
   status-by target false false true = same _
@@ -433,7 +433,7 @@ module _ (call : IoCall) (caller : Caller) (io : Io) (cause : Cause) (apart : Na
 
 -- the step of a call leaves what calls wait for, if its number is not on it
 pub step-stay : (call : IoCall) (caller : Caller) (io : Io) (cause : Cause) (apart : NamesCause io caller.process.0 (path_number call caller.regs) cause → ⊥)
-    → (again : (kept : Kept) → kept_at io caller.process.0 ≡ Some kept → slot_of io.paths caller.process.0 (path_number call caller.regs) ≡ Some kept.path)
+    → (again : (pending : PendingCall) → pending_at io caller.process.0 ≡ Some pending → slot_of io.paths caller.process.0 (path_number call caller.regs) ≡ Some pending.path)
     → (drives terms : ℕ) → Stay call caller io cause apart again (io_step call caller io drives terms)
 step-stay Call.Dup caller io cause apart again drives terms =
     needs-stay Call.Dup caller io cause apart again (slot_of io.paths caller.process.0 caller.regs.a) E_BPNUM
@@ -458,7 +458,7 @@ step-stay Call.ReadLn caller io cause apart again drives terms =
 step-stay Call.Write caller io cause apart again drives terms =
     send-stay Call.Write caller io cause apart again (sent_bytes caller) I_WRITE (user_bytes caller.cells caller.regs.x caller.regs.y)
 step-stay Call.WritLn caller io cause apart again drives terms =
-    send-stay Call.WritLn caller io cause apart again (sent_line caller) I_WRITLN (line_bytes caller (kept_at io caller.process.0))
+    send-stay Call.WritLn caller io cause apart again (sent_line caller) I_WRITLN (line_bytes caller (pending_at io caller.process.0))
 step-stay Call.GetStt caller io cause apart again drives terms =
     needs-stay Call.GetStt caller io cause apart again (open_path io caller.process.0 caller.regs.a) E_BPNUM (λ opened. gets_status caller io opened.desc.target caller.regs.b)
     (λ opened named. status-by Call.GetStt caller io cause apart again opened.desc.target (caller.regs.b == SS_OPT) (caller.regs.b == SS_READY) (caller.regs.b == SS_EOF))
@@ -471,7 +471,7 @@ step-stay Call.PErr caller io cause apart again drives terms =
 -- ---- an attempt
 
 module _ (call : IoCall) (caller : Caller) (io : Io) (cause : Cause) (apart : NamesCause io caller.process.0 (path_number call caller.regs) cause → ⊥)
-    (again : (kept : Kept) → kept_at io caller.process.0 ≡ Some kept → slot_of io.paths caller.process.0 (path_number call caller.regs) ≡ Some kept.path) where
+    (again : (pending : PendingCall) → pending_at io caller.process.0 ≡ Some pending → slot_of io.paths caller.process.0 (path_number call caller.regs) ≡ Some pending.path) where
   -- what an attempt leaves
   pub record Leaves (it : IoEffect) : Type 0 where
     pub holds : Holds call caller io cause apart again it.io.paths
@@ -500,23 +500,23 @@ module _ (call : IoCall) (caller : Caller) (io : Io) (cause : Cause) (apart : Na
 
   read-ends : (read : TerminalRead) → slot_of io.paths caller.process.0 (path_number call caller.regs) ≡ Some read.call.path → (answer : Progress) (end : IoEnd)
       → read_ends caller read answer ≡ Some end → KeepsNamed call caller io cause apart again end
-  read-ends read named (Progress.Done count) end is kept there = absurd (none-some kept (ap kept_in (same_Some _ end is) ∙ there))
-  read-ends read named Progress.Wait end is kept there =
-      named ∙ ap (λ (kept : Kept). Some kept.path) (same_Some read.call kept (ap kept_in (same_Some (keeps read.call) end is) ∙ there))
-  read-ends read named Progress.End end is kept there = absurd (none-some kept (ap kept_in (same_Some _ end is) ∙ there))
-  read-ends read named Progress.Fault end is kept there = absurd (none-some kept (ap kept_in (same_Some _ end is) ∙ there))
-  read-ends read named Progress.NoMemory end is kept there = absurd (none-some end is)
+  read-ends read named (Progress.Done count) end is pending there = absurd (none-some pending (ap pending_in (same_Some _ end is) ∙ there))
+  read-ends read named Progress.Wait end is pending there =
+      named ∙ ap (λ (pending : PendingCall). Some pending.path) (same_Some read.call pending (ap pending_in (same_Some (keeps read.call) end is) ∙ there))
+  read-ends read named Progress.End end is pending there = absurd (none-some pending (ap pending_in (same_Some _ end is) ∙ there))
+  read-ends read named Progress.Fault end is pending there = absurd (none-some pending (ap pending_in (same_Some _ end is) ∙ there))
+  read-ends read named Progress.NoMemory end is pending there = absurd (none-some end is)
 
   write-ends : (write : TerminalWrite) (answer : Progress) (end : IoEnd) → write_ends write answer ≡ Some end → KeepsNamed call caller io cause apart again end
-  write-ends write (Progress.Done count) end is kept there = absurd (none-some kept (ap kept_in (same_Some _ end is) ∙ there))
-  write-ends write Progress.Wait end is kept there = absurd (none-some end is)
-  write-ends write Progress.End end is kept there = absurd (none-some end is)
-  write-ends write Progress.Fault end is kept there = absurd (none-some kept (ap kept_in (same_Some _ end is) ∙ there))
-  write-ends write Progress.NoMemory end is kept there = absurd (none-some end is)
+  write-ends write (Progress.Done count) end is pending there = absurd (none-some pending (ap pending_in (same_Some _ end is) ∙ there))
+  write-ends write Progress.Wait end is pending there = absurd (none-some end is)
+  write-ends write Progress.End end is pending there = absurd (none-some end is)
+  write-ends write Progress.Fault end is pending there = absurd (none-some pending (ap pending_in (same_Some _ end is) ∙ there))
+  write-ends write Progress.NoMemory end is pending there = absurd (none-some end is)
 
   does-leave : (step : IoStep) → Stay call caller io cause apart again step → (effect : IoEffect) (before after : List TerminalState) → Does step caller io effect before after → Leaves effect
   does-leave (refused number) stay effect before after (is, same_terms) =
-      subst Leaves (sym is) (record { holds = λ s it. refl; pipes = λ k is. refl; terminals = λ m is. refl; keeps = λ kept is. absurd (none-some kept is) })
+      subst Leaves (sym is) (record { holds = λ s it. refl; pipes = λ k is. refl; terminals = λ m is. refl; keeps = λ pending is. absurd (none-some pending is) })
   does-leave (comes it) stay effect before after (is, same_terms) = subst Leaves (sym is) (left-leaves it stay)
   does-leave (reads read) (on, named) effect before after does =
       subst Leaves (sym does.effect_is) (terminal-leaves read.terminal on does.new does.end (read-ends read named does.answer does.end does.ends) _ _)

@@ -11,7 +11,7 @@ use Rattle.os9_sched.specs.declared.member.Cause.{Cause}
 use Rattle.io_model.specs.Path.{PathTable, closed_desc, desc_of, holds_path, inherited_numbers, is_held, is_image, numbers_of, path_at, paths_after_close, paths_after_inherit, slot_of, with_slot}
 use Rattle.io_model.specs.Pipe.{held_bytes}
 use Rattle.io_model.specs.Terminal.{Terminal, forgotten, is_process, is_taken, new_terminal, reader, released, without_reading}
-use Rattle.io_model.specs.declared.kept.Kept.{Kept}
+use Rattle.io_model.specs.declared.pending.PendingCall.{PendingCall}
 use Rattle.io_model.specs.declared.path.Desc.{Desc}
 use Rattle.io_model.specs.declared.path.SysPath.{SysPath}
 use Rattle.io_model.specs.declared.path.Target.{Target}
@@ -21,7 +21,7 @@ use Rattle.io_model.specs.declared.terminal.Reading.{Reading}
 use Rattle.io_rules.specs.Alone.{is_direction, is_in_wait}
 use Rattle.io_rules.specs.Close.{after_close, without_path, without_target}
 use Rattle.io_rules.specs.Codes.{direction_of}
-use Rattle.io_rules.specs.Io.{Io, kept_at, target_of, terminal_at, with_paths}
+use Rattle.io_rules.specs.Io.{Io, pending_at, target_of, terminal_at, with_paths}
 use Rattle.io_rules.specs.Processes.{closed_below, closed_if_open, io_ended, io_started}
 use Rattle.io_rules.specs.Waiting.{cause_by, io_interrupted, may_read_terminal, pid, wait_target, without_unfinished}
 use Rattle.io_rules.specs.declared.io_call.Direction.{Direction}
@@ -175,7 +175,7 @@ module _ (p : ℕ) (io : Io) (cause : Cause) (paths_apart : (n : ℕ) → NamesC
       ap (λ (terminals : List Terminal). slice_index_or (map (forgotten (pid p)) terminals) m new_terminal) (below-terminals PROCESS_PATHS) ∙ mapped io.terminals m
 
   pub ended-stays : ((n : ℕ) → reader (terminal_at io n) ≡ Some (pid p) → cause ≡ Cause.Term n → ⊥)
-      → ((kept : Kept) → kept_at io p ≡ Some kept → (n : ℕ) × (slot_of io.paths p n ≡ Some kept.path)) → StaysFor cause io (io_ended io p)
+      → ((pending : PendingCall) → pending_at io p ≡ Some pending → (n : ℕ) × (slot_of io.paths p n ≡ Some pending.path)) → StaysFor cause io (io_ended io p)
   ended-stays reads named = record {
     terminal = λ m q is. ap (may_read_terminal q) (ended-terminal m) ∙ forgotten-may p q (terminal_at io m) (λ reader. reads m reader is);
     pipe = λ k is. below-still k is PROCESS_PATHS;
@@ -184,30 +184,30 @@ module _ (p : ℕ) (io : Io) (cause : Cause) (paths_apart : (n : ℕ) → NamesC
     where
       itself : (s : ℕ) → IsPathFor cause io s → (direction : Direction) → is_there (io_ended io p) s direction p ≡ is_there io s direction p
       itself s it direction =
-          ap (λ (b : Bool). b && not (is_in_wait s direction (kept_at (io_ended io p) p))) (ended-holds s it)
-          ∙ sym (ap (λ (b : Bool). b && not (is_in_wait s direction (kept_at io p))) (holds-none s it))
+          ap (λ (b : Bool). b && not (is_in_wait s direction (pending_at (io_ended io p) p))) (ended-holds s it)
+          ∙ sym (ap (λ (b : Bool). b && not (is_in_wait s direction (pending_at io p))) (holds-none s it))
 
 -- ---- a call that is broken off
 
-module _ (p : ℕ) (io : Io) (cause : Cause) (apart : (kept : Kept) → kept_at io p ≡ Some kept → IsPathFor cause io kept.path.0 → ⊥) where
+module _ (p : ℕ) (io : Io) (cause : Cause) (apart : (pending : PendingCall) → pending_at io p ≡ Some pending → IsPathFor cause io pending.path.0 → ⊥) where
   -- the process was in no wait on the path
-  not-waiting : (s : ℕ) → IsPathFor cause io s → (direction : Direction) → is_in_wait s direction (kept_at io p) ≡ false
-  not-waiting s it direction = by_kept (kept_at io p) refl
+  not-waiting : (s : ℕ) → IsPathFor cause io s → (direction : Direction) → is_in_wait s direction (pending_at io p) ≡ false
+  not-waiting s it direction = by_kept (pending_at io p) refl
     where
-      by_same : (kept : Kept) → kept_at io p ≡ Some kept → (same : Bool) → (kept.path.0 == s) ≡ same → (same && is_direction direction (direction_of kept.code)) ≡ false
-      by_same kept is true same = absurd (apart kept is (subst (IsPathFor cause io) (sym (eqb-true kept.path.0 s same)) it))
-      by_same kept is false same = refl
+      by_same : (pending : PendingCall) → pending_at io p ≡ Some pending → (same : Bool) → (pending.path.0 == s) ≡ same → (same && is_direction direction (direction_of pending.code)) ≡ false
+      by_same pending is true same = absurd (apart pending is (subst (IsPathFor cause io) (sym (eqb-true pending.path.0 s same)) it))
+      by_same pending is false same = refl
 
-      by_kept : (place : Option Kept) → kept_at io p ≡ place → is_in_wait s direction place ≡ false
+      by_kept : (place : Option PendingCall) → pending_at io p ≡ place → is_in_wait s direction place ≡ false
       by_kept None is = refl
-      by_kept (Some kept) is = by_same kept is (kept.path.0 == s) refl
+      by_kept (Some pending) is = by_same pending is (pending.path.0 == s) refl
 
   abbrev Lets : Io → Type 0
   Lets new = (m q : ℕ) → cause ≡ Cause.Term m → may_read_terminal q (terminal_at new m) ≡ may_read_terminal q (terminal_at io m)
 
   -- the terminal on which it waited is another one
-  waited : (kept : Kept) → kept_at io p ≡ Some kept → (desc : Desc) → desc_of io.paths kept.path.0 ≡ Some desc → Lets (without_unfinished io p (Some desc.target))
-  waited kept is desc there = by_target desc.target refl
+  waited : (pending : PendingCall) → pending_at io p ≡ Some pending → (desc : Desc) → desc_of io.paths pending.path.0 ≡ Some desc → Lets (without_unfinished io p (Some desc.target))
+  waited pending is desc there = by_target desc.target refl
     where
       by_target : (target : Target) → desc.target ≡ target → Lets (without_unfinished io p (Some target))
       by_target (File drive sector) on m q same = refl
@@ -215,19 +215,19 @@ module _ (p : ℕ) (io : Io) (cause : Cause) (apart : (kept : Kept) → kept_at 
       by_target (Pipe pipe) on m q same = refl
       by_target (Term terminal) on m q same =
           ap (may_read_terminal q) (get_or-set_other io.terminals terminal m (released (pid p) (terminal_at io terminal)) new_terminal
-          (λ at. apart kept is (record { desc = desc; there = there; on = ap cause_by on ∙ ap (λ (m : ℕ). Some (Cause.Term m)) (sym at) ∙ ap (λ (cause : Cause). Some cause) (sym same) })))
+          (λ at. apart pending is (record { desc = desc; there = there; on = ap cause_by on ∙ ap (λ (m : ℕ). Some (Cause.Term m)) (sym at) ∙ ap (λ (cause : Cause). Some cause) (sym same) })))
 
   lets : Lets (io_interrupted io p)
-  lets = by_kept (kept_at io p) refl
+  lets = by_kept (pending_at io p) refl
     where
-      by_desc : (kept : Kept) → kept_at io p ≡ Some kept → (place : Option Desc) → desc_of io.paths kept.path.0 ≡ place
+      by_desc : (pending : PendingCall) → pending_at io p ≡ Some pending → (place : Option Desc) → desc_of io.paths pending.path.0 ≡ place
           → Lets (without_unfinished io p (option_map (λ (desc : Desc). desc.target) place))
-      by_desc kept is None at m q same = refl
-      by_desc kept is (Some desc) at m q same = waited kept is desc at m q same
+      by_desc pending is None at m q same = refl
+      by_desc pending is (Some desc) at m q same = waited pending is desc at m q same
 
-      by_kept : (place : Option Kept) → kept_at io p ≡ place → Lets (without_unfinished io p (option_and_then (λ (kept : Kept). target_of io kept.path) place))
+      by_kept : (place : Option PendingCall) → pending_at io p ≡ place → Lets (without_unfinished io p (option_and_then (λ (pending : PendingCall). target_of io pending.path) place))
       by_kept None is m q same = refl
-      by_kept (Some kept) is m q same = by_desc kept is (desc_of io.paths kept.path.0) refl m q same
+      by_kept (Some pending) is m q same = by_desc pending is (desc_of io.paths pending.path.0) refl m q same
 
   broken-pipes : (target : Option Target) → (without_unfinished io p target).pipes ≡ io.pipes
   broken-pipes None = refl
@@ -245,8 +245,8 @@ module _ (p : ℕ) (io : Io) (cause : Cause) (apart : (kept : Kept) → kept_at 
     where
       itself : (s : ℕ) → IsPathFor cause io s → (direction : Direction) → is_there (io_interrupted io p) s direction p ≡ is_there io s direction p
       itself s it direction =
-          ap (λ (paths : PathTable). holds_path paths p s && not (is_in_wait s direction (kept_at (io_interrupted io p) p))) (interrupted-paths io p)
-          ∙ ap (λ (place : Option Kept). holds_path io.paths p s && not (is_in_wait s direction place)) (interrupted-none io p)
+          ap (λ (paths : PathTable). holds_path paths p s && not (is_in_wait s direction (pending_at (io_interrupted io p) p))) (interrupted-paths io p)
+          ∙ ap (λ (place : Option PendingCall). holds_path io.paths p s && not (is_in_wait s direction place)) (interrupted-none io p)
           ∙ sym (ap (λ (b : Bool). holds_path io.paths p s && not b) (not-waiting s it direction))
 
 -- ---- F$Fork
@@ -280,5 +280,5 @@ module _ (p child : ℕ) (io : Io) (cause : Cause) (apart : (n : ℕ) → n < 3 
     terminal = λ m q is. refl;
     pipe = λ k is. refl;
     there = there-by cause io (io_started io p child) child (λ r differ. get_or-set_other io.paths.own child r (inherited_numbers (numbers_of io.paths p)) [] differ) (λ r differ. refl)
-        (λ s it direction. ap (λ (b : Bool). b && not (is_in_wait s direction (kept_at io child))) (child-holds s it));
+        (λ s it direction. ap (λ (b : Bool). b && not (is_in_wait s direction (pending_at io child))) (child-holds s it));
   }

@@ -16,20 +16,20 @@ use Rattle.proc_rules.specs.declared.record.Record.{Record}
 use Rattle.call_rules.specs.Attempts.{after_attempt}
 use Rattle.call_rules.specs.CallResult.{CallResult, done, ends, refused, waits}
 use Rattle.call_rules.specs.Delivery.{after_delivery, delivered}
-use Rattle.call_rules.specs.Inner.{Inner, regs_at}
+use Rattle.call_rules.specs.Processes.{Processes, regs_at}
 use Rattle.call_rules.specs.Ready.{Act, act_of, attempts, delivers, executes}
 use Rattle.call_rules.specs.declared.proc_call.ProcCall.TheVariants as Call
 use Rattle.io_model.specs.Path.{PathTable, desc_of, holds_path, numbers_of, slot_of}
 use Rattle.io_model.specs.Terminal.{reader}
-use Rattle.io_model.specs.declared.kept.Kept.{Kept}
+use Rattle.io_model.specs.declared.pending.PendingCall.{PendingCall}
 use Rattle.io_model.specs.declared.path.Desc.{Desc}
 use Rattle.io_model.specs.declared.path.SysPath.{SysPath}
 use Rattle.io_model.specs.declared.path.Target.{Target}
 use Rattle.io_model.specs.declared.path.Target.TheVariants.{File, Folder, Pipe, Term}
 use Rattle.io_rules.specs.Again.{path_number}
-use Rattle.io_rules.specs.Attempts.{IoAttempts, caller_of, kept_in}
+use Rattle.io_rules.specs.Attempts.{IoAttempts, caller_of, pending_in}
 use Rattle.io_rules.specs.Codes.{io_call_of}
-use Rattle.io_rules.specs.Io.{Io, OpenPath, kept_at, new_desc, target_of, terminal_at, with_call, with_paths}
+use Rattle.io_rules.specs.Io.{Io, OpenPath, pending_at, new_desc, target_of, terminal_at, with_call, with_paths}
 use Rattle.io_rules.specs.Alone.{is_in_wait}
 use Rattle.io_rules.specs.Processes.{io_started}
 use Rattle.io_rules.specs.Waiting.{cause_by, io_may_go, io_waits_for, may_go_by, may_read_terminal, pid}
@@ -124,11 +124,11 @@ not-file : (cause : Cause) (target : Target) {drive number : ℕ} → cause_by t
 not-file cause target is file = none-some cause (sym (ap cause_by file) ∙ is)
 
 -- what is kept is what was put there
-call-put : (io : Io) (p : ℕ) (place : Option Kept) (kept : Kept) → kept_at (with_call io p place) p ≡ Some kept → place ≡ Some kept
-call-put io p place kept is =
+call-put : (io : Io) (p : ℕ) (place : Option PendingCall) (pending : PendingCall) → pending_at (with_call io p place) p ≡ Some pending → place ≡ Some pending
+call-put io p place pending is =
     elim (cases_lt p (length io.calls)) [
       | inl within ↦ sym (get_or-set_same io.calls p place None within) ∙ is
-      | inr past ↦ absurd (none-some kept (sym (get_or_past (with_call io p place).calls p None (rw length-set past)) ∙ is))
+      | inr past ↦ absurd (none-some pending (sym (get_or_past (with_call io p place).calls p None (rw length-set past)) ∙ is))
     ]
 
 -- ---- a process that ends
@@ -162,15 +162,15 @@ module _ (s : State) (p : ℕ) (it : IsRunLocked s) (living : AreOfLiving s) (ca
   }
 
   -- the number of a new process names no path
-  child-apart : (child : ℕ) → free_process s.inner.records ≡ Some child → (m : ℕ) → NamesCause s.files.io child m cause → ⊥
+  child-apart : (child : ℕ) → free_process s.processes.records ≡ Some child → (m : ℕ) → NamesCause s.files.io child m cause → ⊥
   child-apart child free m names =
-      let dead : is_living s.inner.records child ≡ false = ap (record_passes (λ r. not (has_ended r.life))) (free-is s.inner.records child free).none in
+      let dead : is_living s.processes.records child ≡ false = ap (record_passes (λ r. not (has_ended r.life))) (free-is s.processes.records child free).none in
       none-some names.opened.path (sym (living.none child dead m) ∙ path-slot s.files.io child m names.opened names.is)
 
   -- a number names the path on which a call of the process is kept
-  kept-named : (kept : Kept) → kept_at s.files.io p ≡ Some kept → (n : ℕ) × (slot_of s.files.io.paths p n ≡ Some kept.path)
-  kept-named kept is =
-      let keeps = it.state.running.kept p kept is in (path_number keeps.call (regs_at s.inner p), keeps.again.path)
+  kept-named : (pending : PendingCall) → pending_at s.files.io p ≡ Some pending → (n : ℕ) × (slot_of s.files.io.paths p n ≡ Some pending.path)
+  kept-named pending is =
+      let keeps = it.state.running.kept p pending is in (path_number keeps.call (regs_at s.processes p), keeps.again.path)
 
   -- ---- the process ends
 
@@ -186,11 +186,11 @@ module _ (s : State) (p : ℕ) (it : IsRunLocked s) (living : AreOfLiving s) (ca
 
   -- ---- an attempt of a call on paths
 
-  module _ (code : ℕ) (next : act_of s.inner p ≡ attempts code) (now : TimePacket) (call : PathCall) (coded : path_call_of code ≡ Some call)
-      (result : CallResult) (rest : Rest) (attempted : FileAttempts call s.inner s.files now p result rest.files s.terms rest.terms)
-      (apart : NamesCause s.files.io p (number_in call (asker_of s.inner p now)) cause → ⊥) where
+  module _ (code : ℕ) (next : act_of s.processes p ≡ attempts code) (now : TimePacket) (call : PathCall) (coded : path_call_of code ≡ Some call)
+      (result : CallResult) (rest : Rest) (attempted : FileAttempts call s.processes s.files now p result rest.files s.terms rest.terms)
+      (apart : NamesCause s.files.io p (number_in call (asker_of s.processes p now)) cause → ⊥) where
     abbrev asker : Asker
-    asker = asker_of s.inner p now
+    asker = asker_of s.processes p now
 
     abbrev attempt : Attempt
     attempt = attempt_by s p now call result rest attempted
@@ -199,49 +199,49 @@ module _ (s : State) (p : ℕ) (it : IsRunLocked s) (living : AreOfLiving s) (ca
     n = number_in call asker
 
     -- the number of the call names the path on which it was kept
-    again : (kept : Kept) → kept_at s.files.io p ≡ Some kept → slot_of s.files.io.paths p n ≡ Some kept.path
-    again kept is =
-        let keeps = it.state.running.kept p kept is in
-        let same : code ≡ kept.code = same_Some code kept.code (sym (attempts-code s.inner p code next) ∙ keeps.made) in
+    again : (pending : PendingCall) → pending_at s.files.io p ≡ Some pending → slot_of s.files.io.paths p n ≡ Some pending.path
+    again pending is =
+        let keeps = it.state.running.kept p pending is in
+        let same : code ≡ pending.code = same_Some code pending.code (sym (attempts-code s.processes p code next) ∙ keeps.made) in
         let device : device_call call ≡ Some keeps.call = sym (code-there code call coded) ∙ ap io_call_of same ∙ keeps.again.code in
         ap (slot_of s.files.io.paths p) (number-same call keeps.call asker device) ∙ keeps.again.path
 
     -- it was in no wait on the path
-    was-apart : (s_path : ℕ) → IsPathFor cause s.files.io s_path → (direction : Direction) → is_in_wait s_path direction (kept_at s.files.io p) ≡ false
+    was-apart : (s_path : ℕ) → IsPathFor cause s.files.io s_path → (direction : Direction) → is_in_wait s_path direction (pending_at s.files.io p) ≡ false
     was-apart s_path path direction =
-        no-waiting cause s.files.io p n s_path path apart direction (kept_at s.files.io p) again
+        no-waiting cause s.files.io p n s_path path apart direction (pending_at s.files.io p) again
 
     -- by what it holds and keeps then
     itself : (new : Io) → ((s_path : ℕ) → IsPathFor cause s.files.io s_path → holds_path new.paths p s_path ≡ holds_path s.files.io.paths p s_path)
-        → ((kept : Kept) → kept_at new p ≡ Some kept → slot_of s.files.io.paths p n ≡ Some kept.path)
+        → ((pending : PendingCall) → pending_at new p ≡ Some pending → slot_of s.files.io.paths p n ≡ Some pending.path)
         → (s_path : ℕ) → IsPathFor cause s.files.io s_path → (direction : Direction) → is_there new s_path direction p ≡ is_there s.files.io s_path direction p
     itself new holds keeps s_path path direction =
-        ap (λ (b : Bool). b && not (is_in_wait s_path direction (kept_at new p))) (holds s_path path)
-        ∙ ap (λ (b : Bool). holds_path s.files.io.paths p s_path && not b) (no-waiting cause s.files.io p n s_path path apart direction (kept_at new p) keeps)
+        ap (λ (b : Bool). b && not (is_in_wait s_path direction (pending_at new p))) (holds s_path path)
+        ∙ ap (λ (b : Bool). holds_path s.files.io.paths p s_path && not b) (no-waiting cause s.files.io p n s_path path apart direction (pending_at new p) keeps)
         ∙ sym (ap (λ (b : Bool). holds_path s.files.io.paths p s_path && not b) (was-apart s_path path direction))
 
     device-stays : (device : IoCall) → device_call call ≡ Some device
-        → IoAttempts device s.inner s.files.io (length s.files.drives) p result rest.files.io s.terms rest.terms → StaysFor cause s.files.io rest.files.io
+        → IoAttempts device s.processes s.files.io (length s.files.drives) p result rest.files.io s.terms rest.terms → StaysFor cause s.files.io rest.files.io
     device-stays device is io = subst (StaysFor cause s.files.io) (sym io.state) (record {
       terminal = λ m q on. ap (may_read_terminal q) (leaves.terminals m on);
       pipe = leaves.pipes;
       there = there-by cause s.files.io after p (λ r differ. ap (λ (io : Io). numbers_of io.paths r) (sym io.state) ∙ others.numbers r differ)
-          (λ r differ. ap (λ (io : Io). kept_at io r) (sym io.state) ∙ others.calls r differ)
-          (itself after leaves.holds (λ kept there. ap (slot_of s.files.io.paths p) same ∙ leaves.keeps kept (call-put io.effect.io p (kept_in io.effect.end) kept there)));
+          (λ r differ. ap (λ (io : Io). pending_at io r) (sym io.state) ∙ others.calls r differ)
+          (itself after leaves.holds (λ pending there. ap (slot_of s.files.io.paths p) same ∙ leaves.keeps pending (call-put io.effect.io p (pending_in io.effect.end) pending there)));
     })
       where
         after : Io
-        after = with_call io.effect.io p (kept_in io.effect.end)
+        after = with_call io.effect.io p (pending_in io.effect.end)
 
-        same : n ≡ path_number device (regs_at s.inner p)
+        same : n ≡ path_number device (regs_at s.processes p)
         same = number-same call device asker is
 
-        leaves : Leaves device (caller_of s.inner p) s.files.io cause (λ names. apart (subst (λ (n : ℕ). NamesCause s.files.io p n cause) (sym same) names))
-            (λ kept there. ap (slot_of s.files.io.paths p) (sym same) ∙ again kept there) io.effect
-        leaves = attempt-leaves device (caller_of s.inner p) s.files.io cause _ _ (length s.files.drives) (length s.terms) io.effect s.terms rest.terms io.does
+        leaves : Leaves device (caller_of s.processes p) s.files.io cause (λ names. apart (subst (λ (n : ℕ). NamesCause s.files.io p n cause) (sym same) names))
+            (λ pending there. ap (slot_of s.files.io.paths p) (sym same) ∙ again pending there) io.effect
+        leaves = attempt-leaves device (caller_of s.processes p) s.files.io cause _ _ (length s.files.drives) (length s.terms) io.effect s.terms rest.terms io.does
 
         others : LeavesPaths p s.files.io rest.files.io
-        others = others-leave device s.inner s.files.io rest.files.io (length s.files.drives) p result s.terms rest.terms io
+        others = others-leave device s.processes s.files.io rest.files.io (length s.files.drives) p result s.terms rest.terms io
 
     -- what is kept of its call when it was put there
     file-stays : TouchesNone attempt → StaysFor cause s.files.io rest.files.io
@@ -250,7 +250,7 @@ module _ (s : State) (p : ℕ) (it : IsRunLocked s) (living : AreOfLiving s) (ca
       pipe = λ k on. refl;
       there = there-by cause s.files.io after p (λ r differ. (stays call asker s.files rest.files.io.paths none.paths).numbers r differ)
           (λ r differ. get_or-set_other s.files.io.calls p r None None differ)
-          (itself after (moved-holds none.paths) (λ kept there. absurd (none-some kept (call-put s.files.io p None kept there))));
+          (itself after (moved-holds none.paths) (λ pending there. absurd (none-some pending (call-put s.files.io p None pending there))));
     })
       where
         after : Io
@@ -269,8 +269,8 @@ module _ (s : State) (p : ℕ) (it : IsRunLocked s) (living : AreOfLiving s) (ca
       terminal = λ m q on. refl;
       pipe = λ k on. refl;
       there = there-by cause s.files.io after p (λ r differ. refl) (λ r differ. get_or-set_other s.files.io.calls p r (Some (call_of waiting.request)) None differ)
-          (itself after (λ s_path path. refl) (λ kept there. named ∙ ap (λ (kept : Kept). Some kept.path) (same_Some
-          (call_of waiting.request) kept (call-put s.files.io p (Some (call_of waiting.request)) kept there))));
+          (itself after (λ s_path path. refl) (λ pending there. named ∙ ap (λ (pending : PendingCall). Some pending.path) (same_Some
+          (call_of waiting.request) pending (call-put s.files.io p (Some (call_of waiting.request)) pending there))));
     })
       where
         after : Io
@@ -308,48 +308,51 @@ module _ (s : State) (p : ℕ) (it : IsRunLocked s) (living : AreOfLiving s) (ca
         ended-so (λ n names. untouched (Touches.by_path n ended names)) (λ n reads is. untouched (Touches.by_read n ended reads is))
         (λ path lock there owner is. untouched (Touches.by_lock path lock ended there owner is))
 
-    instruction-stays : (outcome : Outcome) → t.inner ≡ after_instruction s.inner p outcome → Stays (files_after_instruction s.files p outcome)
+    instruction-stays : (outcome : Outcome) → t.processes ≡ after_instruction s.processes p outcome → Stays (files_after_instruction s.files p outcome)
     instruction-stays (Done effect) is = same-files s.files refl refl
     instruction-stays (Calls code regs) is = same-files s.files refl refl
     instruction-stays (Aborts status) is =
-        end-stays (ap (λ (m : Inner). is_living m.records p) is ∙ ended-gone _ p status)
+        end-stays (ap (λ (m : Processes). is_living m.records p) is ∙ ended-gone _ p status)
 
-    delivery-stays : (signal : ℕ) → act_of s.inner p ≡ delivers signal → (result : Result Inner ℕ) (m : Inner) → t.inner ≡ after_delivery m p result → Stays (files_after_delivery s.files p result)
+    delivery-stays : (signal : ℕ) → act_of s.processes p ≡ delivers signal → (result : Result Processes ℕ) (m : Processes) → t.processes ≡ after_delivery m p result
+        → Stays (files_after_delivery s.files p result)
     delivery-stays signal next (Ok n) m is = record {
       io = interrupted-stays p s.files.io cause waits-apart;
       locks = λ place on. locks-same place s.files.records.locks (files_interrupted s.files p).records.locks refl;
     }
       where
-        by_request : (kept : Kept) → kept_at s.files.io p ≡ Some kept → IsPathFor cause s.files.io kept.path.0 → (request : Option Request) → request_of s.files.records.locks p ≡ request → ⊥
-        by_request kept there path None none =
+        by_request : (pending : PendingCall) → pending_at s.files.io p ≡ Some pending → IsPathFor cause s.files.io pending.path.0 → (request : Option Request) → request_of s.files.records.locks p
+            ≡ request → ⊥
+        by_request pending there path None none =
             untouched (Touches.by_delivery signal next (waits-so s.files.io s.files.records.locks p cause none
-            (ap (λ (place : Option Kept). option_and_then cause_by (option_and_then (λ (kept : Kept). target_of s.files.io kept.path) place)) there
+            (ap (λ (place : Option PendingCall). option_and_then cause_by (option_and_then (λ (pending : PendingCall). target_of s.files.io pending.path) place)) there
             ∙ ap (λ (place : Option Desc). option_and_then cause_by (option_map (λ (desc : Desc). desc.target) place)) path.there ∙ path.on)))
-        by_request kept there path (Some request) some =
+        by_request pending there path (Some request) some =
             not-file cause path.desc.target path.on
-            (ap (λ (desc : Desc). desc.target) (same_Some path.desc asked.on.desc (sym path.there ∙ ap (λ (kept : Kept). desc_of s.files.io.paths kept.path.0) same ∙ asked.on.there)) ∙ asked.on.on)
+            (ap (λ (desc : Desc). desc.target) (same_Some path.desc asked.on.desc (sym path.there ∙ ap (λ (pending : PendingCall). desc_of s.files.io.paths pending.path.0) same ∙ asked.on.there))
+                ∙ asked.on.on)
           where
             asked : IsAskedFor s p request
             asked = it.on.asked p request some
 
-            same : kept ≡ call_of request
-            same = same_Some kept (call_of request) (sym there ∙ (it.state.running.requested p request some).kept)
+            same : pending ≡ call_of request
+            same = same_Some pending (call_of request) (sym there ∙ (it.state.running.requested p request some).kept)
 
-        waits-apart : (kept : Kept) → kept_at s.files.io p ≡ Some kept → IsPathFor cause s.files.io kept.path.0 → ⊥
-        waits-apart kept there path = by_request kept there path (request_of s.files.records.locks p) refl
+        waits-apart : (pending : PendingCall) → pending_at s.files.io p ≡ Some pending → IsPathFor cause s.files.io pending.path.0 → ⊥
+        waits-apart pending there path = by_request pending there path (request_of s.files.records.locks p) refl
     delivery-stays signal next (Err status) m is =
-        end-stays (ap (λ (m : Inner). is_living m.records p) is ∙ ended-gone _ p status)
+        end-stays (ap (λ (m : Processes). is_living m.records p) is ∙ ended-gone _ p status)
 
-    call-stays : (result : CallResult) → t.inner ≡ after_attempt s.inner p result → Stays (files_after_call s.files p result)
+    call-stays : (result : CallResult) → t.processes ≡ after_attempt s.processes p result → Stays (files_after_call s.files p result)
     call-stays (done n) is = same-files s.files refl refl
     call-stays (refused number) is = same-files s.files refl refl
     call-stays (waits n) is = same-files s.files refl refl
     call-stays (ends status) is =
-        end-stays (ap (λ (m : Inner). is_living m.records p) is ∙ ended-gone _ p status)
+        end-stays (ap (λ (m : Processes). is_living m.records p) is ∙ ended-gone _ p status)
 
-    module _ (code : ℕ) (next : act_of s.inner p ≡ attempts code) (lives : IsLiving s.inner.records p) where
+    module _ (code : ℕ) (next : act_of s.processes p ≡ attempts code) (lives : IsLiving s.processes.records p) where
       fork-stays : service_of code ≡ on_processes Call.Fork → {reached : Option ℕ} {of : CallResult} (files : Files) → LeavesFiles reached s.files of files → (result : CallResult)
-          → NamesChild s.inner p result → Stays (files_after_fork files p result)
+          → NamesChild s.processes p result → Stays (files_after_fork files p result)
       fork-stays serves files left (done n) names = record {
         io = subst (λ (io : Io). StaysFor cause s.files.io (io_started io p (regs_at n p).a)) (sym left.io)
             (started-stays p (regs_at n p).a s.files.io cause (λ m low named. untouched (Touches.by_fork code m next serves low named))
@@ -367,15 +370,15 @@ module _ (s : State) (p : ℕ) (it : IsRunLocked s) (living : AreOfLiving s) (ca
       rest-stays rest files same stays = subst Stays (sym same) stays
 
       serves-stay : (now : TimePacket) (service : Service) → service_of code ≡ service → (result : CallResult) (rest : Rest)
-          → t.inner ≡ after_attempt s.inner p result → Serves service s now p result rest → Stays rest.files
+          → t.processes ≡ after_attempt s.processes p result → Serves service s now p result rest → Stays rest.files
       serves-stay now loads serves result rest is (files, read, same) =
-          rest-stays rest files (ap files_in same) (left-stays files (load-leaves s.inner (asker_of s.inner p now) s.files (length s.terms) p result files read))
+          rest-stays rest files (ap files_in same) (left-stays files (load-leaves s.processes (asker_of s.processes p now) s.files (length s.terms) p result files read))
       serves-stay now (on_processes Call.Fork) serves result rest is (files, read, same) =
           rest-stays rest (files_after_fork files p result) (ap files_in same)
-          (fork-stays serves files (fork-leaves s.inner (asker_of s.inner p now) s.files (length s.terms) p result files read) result
-          (fork-attempt-names s.inner p lives (asker_of s.inner p now) s.files (length s.terms) result files read))
+          (fork-stays serves files (fork-leaves s.processes (asker_of s.processes p now) s.files (length s.terms) p result files read) result
+          (fork-attempt-names s.processes p lives (asker_of s.processes p now) s.files (length s.terms) result files read))
       serves-stay now (on_processes Call.Chain) serves result rest is (files, read, same) =
-          rest-stays rest files (ap files_in same) (left-stays files (chain-leaves s.inner (asker_of s.inner p now) s.files (length s.terms) p result files read))
+          rest-stays rest files (ap files_in same) (left-stays files (chain-leaves s.processes (asker_of s.processes p now) s.files (length s.terms) p result files read))
       serves-stay now (on_processes call) serves result rest is served =
           rest-stays rest (files_after_call s.files p result) (ap files_in served.1) (call-stays result is)
       serves-stay now (on_time call) serves result rest is (clock, timed, same) =
@@ -387,23 +390,23 @@ module _ (s : State) (p : ℕ) (it : IsRunLocked s) (living : AreOfLiving s) (ca
 
   -- ---- an event
 
-  pub acts-stay : (act : Act) (end : EventEnd) (t : State) → IsLiving s.inner.records p → act_of s.inner p ≡ act → Acts act s p end t → (Touches s p t cause → ⊥) → Stays t.files
+  pub acts-stay : (act : Act) (end : EventEnd) (t : State) → IsLiving s.processes.records p → act_of s.processes p ≡ act → Acts act s p end t → (Touches s p t cause → ⊥) → Stays t.files
   acts-stay executes end t lives next (over, is) untouched =
-      subst (λ (t : State). Stays t.files) (sym is) (instruction-stays t untouched (next_instruction s.inner p) (ap (λ (t : State). t.inner) is))
+      subst (λ (t : State). Stays t.files) (sym is) (instruction-stays t untouched (next_instruction s.processes p) (ap (λ (t : State). t.processes) is))
   acts-stay (delivers signal) end t lives next (over, is) untouched =
       subst (λ (t : State). Stays t.files) (sym is)
-      (delivery-stays t untouched signal next (delivered (before_delivery s p) p signal) (before_delivery s p) (ap (λ (t : State). t.inner) is))
+      (delivery-stays t untouched signal next (delivered (before_delivery s p) p signal) (before_delivery s p) (ap (λ (t : State). t.processes) is))
   acts-stay (attempts code) end t lives next (result, rest, (now, is_now, served), over, is) untouched =
-      subst (λ (t : State). Stays t.files) (sym is) (serves-stay t untouched code next lives now (service_of code) refl result rest (ap (λ (t : State). t.inner) is) served)
+      subst (λ (t : State). Stays t.files) (sym is) (serves-stay t untouched code next lives now (service_of code) refl result rest (ap (λ (t : State). t.processes) is) served)
 
 -- ---- the call of another process
 
 -- a call that waits for a record waits on no terminal and no pipe
-pub request-idle : (io : Io) (q : ℕ) (kept : Kept) → kept_at io q ≡ Some kept → (place : FilePlace) → IsPathOn io.paths kept.path.0 place → io_may_go io q ≡ false
-request-idle io q kept there place on =
-    ap (λ (call : Option Kept). option_map_or (λ (kept : Kept). may_go_by io q kept (target_of io kept.path)) call false) there
-    ∙ ap (λ (desc : Option Desc). may_go_by io q kept (option_map (λ (desc : Desc). desc.target) desc)) on.there
-    ∙ ap (λ (target : Target). may_go_by io q kept (Some target)) on.on
+pub request-idle : (io : Io) (q : ℕ) (pending : PendingCall) → pending_at io q ≡ Some pending → (place : FilePlace) → IsPathOn io.paths pending.path.0 place → io_may_go io q ≡ false
+request-idle io q pending there place on =
+    ap (λ (call : Option PendingCall). option_map_or (λ (pending : PendingCall). may_go_by io q pending (target_of io pending.path)) call false) there
+    ∙ ap (λ (desc : Option Desc). may_go_by io q pending (option_map (λ (desc : Desc). desc.target) desc)) on.there
+    ∙ ap (λ (target : Target). may_go_by io q pending (Some target)) on.on
 
 module _ (s t : State) (end : EventEnd) (p q : ℕ) (cause : Cause) (it : IsRunLocked s) (living : AreOfLiving s) (event : Event s end t) (chosen : s.chosen ≡ Some p) (differ : q ≢ p)
     (waits : WaitsFor s q cause) (untouched : Touches s p t cause → ⊥) where
@@ -413,8 +416,8 @@ module _ (s t : State) (end : EventEnd) (p q : ℕ) (cause : Cause) (it : IsRunL
       by_event : Event s end t → Stays s p it living cause t.files
       by_event (one, is_chosen, lives, acts) =
           let same : one ≡ p = same_Some one p (sym is_chosen ∙ chosen) in
-          acts-stay s p it living cause (act_of s.inner p) end t (subst (IsLiving s.inner.records) same lives) refl
-          (subst (λ (p : ℕ). Acts (act_of s.inner p) s p end t) same acts) untouched
+          acts-stay s p it living cause (act_of s.processes p) end t (subst (IsLiving s.processes.records) same lives) refl
+          (subst (λ (p : ℕ). Acts (act_of s.processes p) s p end t) same acts) untouched
 
   others : LeavesIo s p t
   others = event-leaves-io s t end p chosen event
@@ -433,11 +436,11 @@ module _ (s t : State) (end : EventEnd) (p q : ℕ) (cause : Cause) (it : IsRunL
       there =
           let keeps = it.state.running.kept q on.kept on.is in
           let opened : OpenPath = record { path = on.kept.path; desc = on.path.desc } in
-          let open_stays = others.paths q (path_number keeps.call (regs_at s.inner q)) opened differ keeps.lives
-          (opens s.files.io q (path_number keeps.call (regs_at s.inner q)) on.kept.path on.path.desc keeps.again.path on.path.there) in
+          let open_stays = others.paths q (path_number keeps.call (regs_at s.processes q)) opened differ keeps.lives
+          (opens s.files.io q (path_number keeps.call (regs_at s.processes q)) on.kept.path on.path.desc keeps.again.path on.path.there) in
           let same : open_stays.now ≡ opened = open_stays.device (is-device cause on.path.desc.target on.path.on) in
           subst (λ (now : OpenPath). desc_of t.files.io.paths now.path.0 ≡ Some now.desc) same
-          (path-desc t.files.io q (path_number keeps.call (regs_at s.inner q)) open_stays.now open_stays.is)
+          (path-desc t.files.io q (path_number keeps.call (regs_at s.processes q)) open_stays.now open_stays.is)
 
   -- it waits for a record
   record-same : (tick : ℕ) (request : Request) → request_of s.files.records.locks q ≡ Some request → cause ≡ cause_of request.lock.file → files_may_go t.files tick q ≡ files_may_go s.files tick q
@@ -455,7 +458,7 @@ module _ (s t : State) (end : EventEnd) (p q : ℕ) (cause : Cause) (it : IsRunL
       then_asked : IsAskedFor t q request
       then_asked = later.on.asked q request (requests ∙ is)
 
-      then_kept : kept_at t.files.io q ≡ Some (call_of request)
+      then_kept : pending_at t.files.io q ≡ Some (call_of request)
       then_kept = (later.state.running.requested q request (requests ∙ is)).kept
 
   pub event-same : (tick : ℕ) → files_may_go t.files tick q ≡ files_may_go s.files tick q

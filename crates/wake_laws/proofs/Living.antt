@@ -14,7 +14,7 @@ use Rattle.proc_rules.specs.declared.record.Record.{Record}
 use Rattle.call_rules.specs.Attempts.{after_attempt, done_regs, goes_on, refused_regs}
 use Rattle.call_rules.specs.CallResult.{CallResult, done, ends, refused, waits}
 use Rattle.call_rules.specs.Delivery.{after_delivery, delivered}
-use Rattle.call_rules.specs.Inner.{Inner, regs_at}
+use Rattle.call_rules.specs.Processes.{Processes, regs_at}
 use Rattle.call_rules.specs.Ready.{Act, act_of, attempts, delivers, executes}
 use Rattle.call_rules.specs.declared.proc_call.ProcCall.TheVariants as Call
 use Rattle.io_model.specs.Path.{PathTable, free_number, free_path, inherited_numbers, is_held, no_paths, numbers_of, path_at, paths_after_begin, paths_after_close, paths_after_dup, paths_after_inherit, slot_of, with_desc, with_path, with_slot}
@@ -195,7 +195,7 @@ module _ (q : ℕ) where
   few-does call caller io (writes write) effect before after few gives does =
       subst (λ (effect : IoEffect). Few effect.io.paths) (sym does.effect_is) few
 
-  few-device : (call : IoCall) (m : Inner) (io : Io) (p drives : ℕ) (result : CallResult) (new : Io)
+  few-device : (call : IoCall) (m : Processes) (io : Io) (p drives : ℕ) (result : CallResult) (new : Io)
       (before after : List TerminalState) → IoAttempts call m io drives p result new before after → Few io.paths → Few new.paths
   few-device call m io p drives result new before after attempt few =
       subst (λ (new : Io). Few new.paths) (sym attempt.state)
@@ -214,7 +214,7 @@ module _ (q : ℕ) where
     where
       by_touch : OnDevice it ⊎ TouchesNone it ⊎ WaitsOnRecord it → Few it.new.io.paths
       by_touch (inl on) =
-          few-device on.0.device it.inner it.files.io it.process (length it.files.drives) it.result it.new.io it.before it.after on.0.attempted few
+          few-device on.0.device it.processes it.files.io it.process (length it.files.drives) it.result it.new.io it.before it.after on.0.attempted few
       by_touch (inr (inl none)) = few-moved it.call (asker_in it) it.files it.new.io.paths none.paths few
       by_touch (inr (inr waiting)) = subst (λ (io : Io). Few io.paths) (sym waiting.io) few
 
@@ -281,11 +281,11 @@ put-lives : (records : List (Option Record)) (p : ℕ) (r : Record) → p < leng
 put-lives records p r within runs =
     ap (record_passes (λ r. not (has_ended r.life))) (get_or-set_same records p (Some r) None within) ∙ ap not runs
 
-on-lives : (t : Inner) (p : ℕ) (regs : Regs) → p < length (goes_on t p regs).records → IsLiving (goes_on t p regs).records p
+on-lives : (t : Processes) (p : ℕ) (regs : Regs) → p < length (goes_on t p regs).records → IsLiving (goes_on t p regs).records p
 on-lives t p regs within =
     put-lives (with_regs t.records p regs) p (record (record_at (with_regs t.records p regs) p) { life = Running }) (subst (λ (n : ℕ). p < n) (length-set (with_regs t.records p regs) p _) within) refl
 
-attempt-lives : (m : Inner) (p : ℕ) (result : CallResult) → IsNoEnd result → p < length (after_attempt m p result).records → IsLiving (after_attempt m p result).records p
+attempt-lives : (m : Processes) (p : ℕ) (result : CallResult) → IsNoEnd result → p < length (after_attempt m p result).records → IsLiving (after_attempt m p result).records p
 attempt-lives m p (done t) none within = on-lives t p (done_regs (regs_at t p)) within
 attempt-lives m p (refused number) none within = on-lives m p (refused_regs (regs_at m p) number) within
 attempt-lives m p (waits t) none within =
@@ -295,7 +295,7 @@ attempt-lives m p (ends status) none within = absurd none
 -- ---- the other processes
 
 -- one that does not live then did not live, or is new
-dead-was : (m : Inner) (p : ℕ) (end : EventEnd) (n : Inner) (q : ℕ) → ComesOf m p end n q (record_of m.records q) (record_of n.records q)
+dead-was : (m : Processes) (p : ℕ) (end : EventEnd) (n : Processes) (q : ℕ) → ComesOf m p end n q (record_of m.records q) (record_of n.records q)
     → is_living n.records q ≡ false → is_living m.records q ≡ false
 dead-was m p end n q so dead = by_places (record_of m.records q) (record_of n.records q) so dead
   where
@@ -307,32 +307,33 @@ dead-was m p end n q so dead = by_places (record_of m.records q) (record_of n.re
 
 module _ (s t : State) (end : EventEnd) (p : ℕ) (it : AreOfLiving s) (chosen : s.chosen ≡ Some p) (event : Event s end t) where
   -- the others keep their numbers
-  others-none : (q : ℕ) → q ≢ p → numbers_of t.files.io.paths q ≡ numbers_of s.files.io.paths q → is_living t.inner.records q ≡ false → (n : ℕ) → slot_of t.files.io.paths q n ≡ None
+  others-none : (q : ℕ) → q ≢ p → numbers_of t.files.io.paths q ≡ numbers_of s.files.io.paths q → is_living t.processes.records q ≡ false → (n : ℕ) → slot_of t.files.io.paths q n ≡ None
   others-none q differ same dead n =
       ap (λ (numbers : List (Option SysPath)). get_or numbers n None) same
-      ∙ it.none q (dead-was s.inner p end t.inner q ((event-leaves s t end p chosen event).others q differ) dead) n
+      ∙ it.none q (dead-was s.processes p end t.processes q ((event-leaves s t end p chosen event).others q differ) dead) n
 
   -- what holds then, by what the process leaves
-  living-then : ((q : ℕ) → length (numbers_of t.files.io.paths q) ≤ PROCESS_PATHS) → ((q : ℕ) → q ≢ p → (numbers_of t.files.io.paths q ≡ numbers_of s.files.io.paths q) ⊎ IsLiving t.inner.records q)
-      → (is_living t.inner.records p ≡ false → (n : ℕ) → slot_of t.files.io.paths p n ≡ None) → AreOfLiving t
+  living-then : ((q : ℕ) → length (numbers_of t.files.io.paths q) ≤ PROCESS_PATHS)
+      → ((q : ℕ) → q ≢ p → (numbers_of t.files.io.paths q ≡ numbers_of s.files.io.paths q) ⊎ IsLiving t.processes.records q)
+      → (is_living t.processes.records p ≡ false → (n : ℕ) → slot_of t.files.io.paths p n ≡ None) → AreOfLiving t
   living-then few others itself = record { few = few; none = λ q dead n. by_process q dead n (cases_eq q p) }
     where
-      by_other : (q : ℕ) → q ≢ p → is_living t.inner.records q ≡ false → (n : ℕ)
-          → (numbers_of t.files.io.paths q ≡ numbers_of s.files.io.paths q) ⊎ IsLiving t.inner.records q → slot_of t.files.io.paths q n ≡ None
+      by_other : (q : ℕ) → q ≢ p → is_living t.processes.records q ≡ false → (n : ℕ)
+          → (numbers_of t.files.io.paths q ≡ numbers_of s.files.io.paths q) ⊎ IsLiving t.processes.records q → slot_of t.files.io.paths q n ≡ None
       by_other q differ dead n (inl same) = others-none q differ same dead n
       by_other q differ dead n (inr lives) = absurd (false≢true (sym dead ∙ lives))
 
-      by_process : (q : ℕ) → is_living t.inner.records q ≡ false → (n : ℕ) → (q ≡ p) ⊎ (q ≢ p) → slot_of t.files.io.paths q n ≡ None
+      by_process : (q : ℕ) → is_living t.processes.records q ≡ false → (n : ℕ) → (q ≡ p) ⊎ (q ≢ p) → slot_of t.files.io.paths q n ≡ None
       by_process q dead n (inl same) =
-          ap (λ (q : ℕ). slot_of t.files.io.paths q n) same ∙ itself (ap (is_living t.inner.records) (sym same) ∙ dead) n
+          ap (λ (q : ℕ). slot_of t.files.io.paths q n) same ∙ itself (ap (is_living t.processes.records) (sym same) ∙ dead) n
       by_process q dead n (inr differ) = by_other q differ dead n (others q differ)
 
   -- the process lives
-  goes-then : ((q : ℕ) → length (numbers_of t.files.io.paths q) ≤ PROCESS_PATHS) → ((q : ℕ) → q ≢ p → (numbers_of t.files.io.paths q ≡ numbers_of s.files.io.paths q) ⊎ IsLiving t.inner.records q)
-      → IsLiving t.inner.records p → AreOfLiving t
+  goes-then : ((q : ℕ) → length (numbers_of t.files.io.paths q) ≤ PROCESS_PATHS) → ((q : ℕ) → q ≢ p → (numbers_of t.files.io.paths q ≡ numbers_of s.files.io.paths q) ⊎ IsLiving t.processes.records q)
+      → IsLiving t.processes.records p → AreOfLiving t
   goes-then few others lives = living-then few others (λ dead. absurd (false≢true (sym dead ∙ lives)))
 
-  same-then : t.files.io.paths ≡ s.files.io.paths → IsLiving t.inner.records p → AreOfLiving t
+  same-then : t.files.io.paths ≡ s.files.io.paths → IsLiving t.processes.records p → AreOfLiving t
   same-then same lives =
       goes-then (λ q. subst (λ (paths : PathTable). length (numbers_of paths q) ≤ PROCESS_PATHS) (sym same) (it.few q))
       (λ q differ. inl (ap (λ (paths : PathTable). numbers_of paths q) same)) lives
@@ -346,21 +347,21 @@ module _ (s t : State) (end : EventEnd) (p : ℕ) (it : AreOfLiving s) (chosen :
 
   -- ---- an attempt
 
-  module _ (lives : IsLiving s.inner.records p) (result : CallResult) (rest : Rest) (is : t ≡ with_rest s (after_attempt s.inner p result) rest)
-      (long : length (after_attempt s.inner p result).records ≡ length s.inner.records) where
+  module _ (lives : IsLiving s.processes.records p) (result : CallResult) (rest : Rest) (is : t ≡ with_rest s (after_attempt s.processes p result) rest)
+      (long : length (after_attempt s.processes p result).records ≡ length s.processes.records) where
     files-are : t.files ≡ rest.files
     files-are = ap (λ (t : State). t.files) is
 
-    on-then : IsNoEnd result → IsLiving t.inner.records p
+    on-then : IsNoEnd result → IsLiving t.processes.records p
     on-then none =
-        let within : p < length s.inner.records = living-within s.inner.records p lives in
-        subst (λ (t : State). IsLiving t.inner.records p) (sym is) (attempt-lives s.inner p result none (omega (arith, within, long)))
+        let within : p < length s.processes.records = living-within s.processes.records p lives in
+        subst (λ (t : State). IsLiving t.processes.records p) (sym is) (attempt-lives s.processes p result none (omega (arith, within, long)))
 
     -- paths are the same
     still-then : IsNoEnd result → rest.files.io.paths ≡ s.files.io.paths → AreOfLiving t
     still-then none same = same-then (ap (λ (files : Files). files.io.paths) files-are ∙ same) (on-then none)
 
-    path-then : (now : TimePacket) (call : PathCall) → FileAttempts call s.inner s.files now p result rest.files s.terms rest.terms → IsNoEnd result → AreOfLiving t
+    path-then : (now : TimePacket) (call : PathCall) → FileAttempts call s.processes s.files now p result rest.files s.terms rest.terms → IsNoEnd result → AreOfLiving t
     path-then now call attempted none =
         goes-then (λ q. subst (λ (files : Files). length (numbers_of files.io.paths q) ≤ PROCESS_PATHS) (sym files-are) (few-attempt q attempt (it.few q)))
         (λ q differ. inl (ap (λ (files : Files). numbers_of files.io.paths q) files-are ∙ others q differ (comes-of attempt))) (on-then none)
@@ -370,35 +371,35 @@ module _ (s t : State) (end : EventEnd) (p : ℕ) (it : AreOfLiving s) (chosen :
 
         others : (q : ℕ) → q ≢ p → OnDevice attempt ⊎ TouchesNone attempt ⊎ WaitsOnRecord attempt → numbers_of rest.files.io.paths q ≡ numbers_of s.files.io.paths q
         others q differ (inl on) =
-            (others-leave on.0.device s.inner s.files.io rest.files.io (length s.files.drives) p result s.terms rest.terms on.0.attempted).numbers q differ
+            (others-leave on.0.device s.processes s.files.io rest.files.io (length s.files.drives) p result s.terms rest.terms on.0.attempted).numbers q differ
         others q differ (inr (inl none)) =
-            (stays call (asker_of s.inner p now) s.files rest.files.io.paths none.paths).numbers q differ
+            (stays call (asker_of s.processes p now) s.files rest.files.io.paths none.paths).numbers q differ
         others q differ (inr (inr waiting)) = ap (λ (io : Io). numbers_of io.paths q) waiting.io
 
 -- a call on paths ends no process
-path-goes-on : (inner : Inner) (p : ℕ) (effect : IoEffect) (end : IoEnd) → IsNoEnd (result_by end inner p effect)
-path-goes-on inner p effect (answers regs) = tt
-path-goes-on inner p effect (fails number) = tt
-path-goes-on inner p effect (keeps kept) = tt
+path-goes-on : (processes : Processes) (p : ℕ) (effect : IoEffect) (end : IoEnd) → IsNoEnd (result_by end processes p effect)
+path-goes-on processes p effect (answers regs) = tt
+path-goes-on processes p effect (fails number) = tt
+path-goes-on processes p effect (keeps kept) = tt
 
-module _ (s : State) (p : ℕ) (it : AreOfLiving s) (chosen : s.chosen ≡ Some p) (lives : IsLiving s.inner.records p) where
+module _ (s : State) (p : ℕ) (it : AreOfLiving s) (chosen : s.chosen ≡ Some p) (lives : IsLiving s.processes.records p) where
   -- ---- each service
 
-  module _ (t : State) (end : EventEnd) (event : Event s end t) (code : ℕ) (next : act_of s.inner p ≡ attempts code) (now : TimePacket) (result : CallResult) (rest : Rest)
-      (is : t ≡ with_rest s (after_attempt s.inner p result) rest) where
+  module _ (t : State) (end : EventEnd) (event : Event s end t) (code : ℕ) (next : act_of s.processes p ≡ attempts code) (now : TimePacket) (result : CallResult) (rest : Rest)
+      (is : t ≡ with_rest s (after_attempt s.processes p result) rest) where
     abbrev paths_in : Rest → PathTable
     paths_in rest = rest.files.io.paths
 
     -- what is loaded, or asked of the clock
-    over-then : Over s.inner p result → rest.files.io ≡ s.files.io → AreOfLiving t
+    over-then : Over s.processes p result → rest.files.io ≡ s.files.io → AreOfLiving t
     over-then over same =
         still-then s t end p it chosen event lives result rest is over.aside.places over.no_end (ap (λ (io : Io). io.paths) same)
 
-    call-then : (call : ProcCall) → Asks code (on_processes call) → result ≡ attempted call s.inner p → rest ≡ with_files s (files_after_call s.files p result) → AreOfLiving t
+    call-then : (call : ProcCall) → Asks code (on_processes call) → result ≡ attempted call s.processes p → rest ≡ with_files s (files_after_call s.files p result) → AreOfLiving t
     call-then call asked answer same = by_result result refl
       where
-        long : length (after_attempt s.inner p result).records ≡ length s.inner.records
-        long = (subst (AttemptLeft s.inner p) (sym answer) (attempt-left s.inner p call lives (code, next, asked))).places
+        long : length (after_attempt s.processes p result).records ≡ length s.processes.records
+        long = (subst (AttemptLeft s.processes p) (sym answer) (attempt-left s.processes p call lives (code, next, asked))).places
 
         files-so : (of : CallResult) → result ≡ of → rest.files.io ≡ (files_after_call s.files p of).io
         files-so of so = ap (λ (rest : Rest). rest.files.io) same ∙ ap (λ (result : CallResult). (files_after_call s.files p result).io) so
@@ -415,90 +416,90 @@ module _ (s : State) (p : ℕ) (it : AreOfLiving s) (chosen : s.chosen ≡ Some 
             ended-then s t end p it chosen event (ap (λ (t : State). t.files.io) is ∙ files-so (ends status) so)
 
     -- the child has images of the standard paths, and lives
-    fork-then : (files : Files) → files.io ≡ s.files.io → rest ≡ with_files s (files_after_fork files p result) → IsOver (Child s.inner p) result → AreOfLiving t
+    fork-then : (files : Files) → files.io ≡ s.files.io → rest ≡ with_files s (files_after_fork files p result) → IsOver (Child s.processes p) result → AreOfLiving t
     fork-then files io same over = by_result result refl over
       where
-        long_then : (n : Inner) → Child s.inner p n → length (after_attempt s.inner p (done n)).records ≡ length s.inner.records
-        long_then n child = (aside-goes_on s.inner n p (done_regs (regs_at n p)) child.aside).places
+        long_then : (n : Processes) → Child s.processes p n → length (after_attempt s.processes p (done n)).records ≡ length s.processes.records
+        long_then n child = (aside-goes_on s.processes n p (done_regs (regs_at n p)) child.aside).places
 
         io-so : (of : CallResult) → result ≡ of → t.files.io ≡ (files_after_fork files p of).io
         io-so of so =
             ap (λ (t : State). t.files.io) is ∙ ap (λ (rest : Rest). rest.files.io) same ∙ ap (λ (result : CallResult). (files_after_fork files p result).io) so
 
-        begun : (n : Inner) → result ≡ done n → Child s.inner p n → AreOfLiving t
+        begun : (n : Processes) → result ≡ done n → Child s.processes p n → AreOfLiving t
         begun n so child =
             goes-then s t end p it chosen event
             (λ q. subst (λ (io : Io). length (numbers_of io.paths q) ≤ PROCESS_PATHS) (sym (io-so (done n) so))
             (subst (λ (io : Io). length (numbers_of (io_started io p (regs_at n p).a).paths q) ≤ PROCESS_PATHS) (sym io) (few-inherit q s.files.io.paths p (regs_at n p).a (it.few q))))
             (λ q differ. by_child q differ (cases_eq q (regs_at n p).a))
             (on-then s t end p it chosen event lives result rest is (subst (λ (of : CallResult). length
-            (after_attempt s.inner p of).records ≡ length s.inner.records) (sym so) (long_then n child)) (subst IsNoEnd (sym so) tt))
+            (after_attempt s.processes p of).records ≡ length s.processes.records) (sym so) (long_then n child)) (subst IsNoEnd (sym so) tt))
           where
-            by_child : (q : ℕ) → q ≢ p → (q ≡ (regs_at n p).a) ⊎ (q ≢ (regs_at n p).a) → (numbers_of t.files.io.paths q ≡ numbers_of s.files.io.paths q) ⊎ IsLiving t.inner.records q
+            by_child : (q : ℕ) → q ≢ p → (q ≡ (regs_at n p).a) ⊎ (q ≢ (regs_at n p).a) → (numbers_of t.files.io.paths q ≡ numbers_of s.files.io.paths q) ⊎ IsLiving t.processes.records q
             by_child q differ (inr apart) =
                 inl (ap (λ (io : Io). numbers_of io.paths q) (io-so (done n) so)
                 ∙ get_or-set_other files.io.paths.own (regs_at n p).a q (inherited_numbers (numbers_of files.io.paths p)) [] apart
                 ∙ ap (λ (io : Io). numbers_of io.paths q) io)
             by_child q differ (inl at) =
-                inr (subst (λ (t : State). IsLiving t.inner.records q) (sym is)
-                (subst (λ (of : CallResult). IsLiving (after_attempt s.inner p of).records q) (sym so)
+                inr (subst (λ (t : State). IsLiving t.processes.records q) (sym is)
+                (subst (λ (of : CallResult). IsLiving (after_attempt s.processes p of).records q) (sym so)
                 (ap (record_passes (λ r. not (has_ended r.life))) (record-other (with_regs n.records p (done_regs (regs_at n p))) p _ q differ ∙ record-other n.records p _ q differ)
                 ∙ subst (IsLiving n.records) (sym at) child.living)))
 
-        by_result : (of : CallResult) → result ≡ of → IsOver (Child s.inner p) of → AreOfLiving t
+        by_result : (of : CallResult) → result ≡ of → IsOver (Child s.processes p) of → AreOfLiving t
         by_result (done n) so child = begun n so child
         by_result (refused number) so over =
-            over-then (subst (Over s.inner p) (sym so) (over-refused s.inner p number))
+            over-then (subst (Over s.processes p) (sym so) (over-refused s.processes p number))
             (ap (λ (rest : Rest). rest.files.io) same ∙ ap (λ (result : CallResult). (files_after_fork files p result).io) so ∙ io)
         by_result (waits n) so over = absurd over
         by_result (ends status) so over = absurd over
 
     serves-then : (service : Service) → Asks code service → Serves service s now p result rest → AreOfLiving t
     serves-then loads asked (files, read, same) =
-        over-then (load-over s.inner (asker_of s.inner p now) s.files (length s.terms) p result files read)
-        (ap (λ (rest : Rest). rest.files.io) same ∙ (load-leaves s.inner (asker_of s.inner p now) s.files (length s.terms) p result files read).io)
+        over-then (load-over s.processes (asker_of s.processes p now) s.files (length s.terms) p result files read)
+        (ap (λ (rest : Rest). rest.files.io) same ∙ (load-leaves s.processes (asker_of s.processes p now) s.files (length s.terms) p result files read).io)
     serves-then (on_processes Call.Fork) asked (files, read, same) =
-        fork-then files (fork-leaves s.inner (asker_of s.inner p now) s.files (length s.terms) p result files read).io same
-        (fork-over s.inner (asker_of s.inner p now) s.files (length s.terms) p result files lives read)
+        fork-then files (fork-leaves s.processes (asker_of s.processes p now) s.files (length s.terms) p result files read).io same
+        (fork-over s.processes (asker_of s.processes p now) s.files (length s.terms) p result files lives read)
     serves-then (on_processes Call.Chain) asked (files, read, same) =
-        over-then (chain-over s.inner (asker_of s.inner p now) s.files (length s.terms) p result files read)
-        (ap (λ (rest : Rest). rest.files.io) same ∙ (chain-leaves s.inner (asker_of s.inner p now) s.files (length s.terms) p result files read).io)
+        over-then (chain-over s.processes (asker_of s.processes p now) s.files (length s.terms) p result files read)
+        (ap (λ (rest : Rest). rest.files.io) same ∙ (chain-leaves s.processes (asker_of s.processes p now) s.files (length s.terms) p result files read).io)
     serves-then (on_processes call) asked served = call-then call asked served.0 served.1
     serves-then (on_time call) asked (clock, timed, same) =
-        over-then (subst (Over s.inner p) (sym timed.result_is) (time-over s.inner p (time_step call s.inner now p))) (ap (λ (rest : Rest). rest.files.io) same)
+        over-then (subst (Over s.processes p) (sym timed.result_is) (time-over s.processes p (time_step call s.processes now p))) (ap (λ (rest : Rest). rest.files.io) same)
     serves-then (on_paths call) asked (attempted, clock) =
         path-then s t end p it chosen event lives result rest is
-        (ap (λ (result : CallResult). length (after_attempt s.inner p result).records) attempted.result_is ∙ (by-end s.inner p (io_effect attempted.effect) attempted.effect.end).places)
-        now call attempted (subst IsNoEnd (sym attempted.result_is) (path-goes-on s.inner p (io_effect attempted.effect) attempted.effect.end))
+        (ap (λ (result : CallResult). length (after_attempt s.processes p result).records) attempted.result_is ∙ (by-end s.processes p (io_effect attempted.effect) attempted.effect.end).places)
+        now call attempted (subst IsNoEnd (sym attempted.result_is) (path-goes-on s.processes p (io_effect attempted.effect) attempted.effect.end))
     serves-then no_call asked (answer, same) =
-        over-then (subst (Over s.inner p) (sym answer) (over-refused s.inner p E_UNKSVC)) (ap (λ (rest : Rest). rest.files.io) same)
+        over-then (subst (Over s.processes p) (sym answer) (over-refused s.processes p E_UNKSVC)) (ap (λ (rest : Rest). rest.files.io) same)
 
   -- ---- an event
 
-  instruction-then : (t : State) (end : EventEnd) → Event s end t → act_of s.inner p ≡ executes → (outcome : Outcome)
-      → t ≡ record s { inner = after_instruction s.inner p outcome; files = files_after_instruction s.files p outcome } → AreOfLiving t
+  instruction-then : (t : State) (end : EventEnd) → Event s end t → act_of s.processes p ≡ executes → (outcome : Outcome)
+      → t ≡ record s { processes = after_instruction s.processes p outcome; files = files_after_instruction s.files p outcome } → AreOfLiving t
   instruction-then t end event next (Done effect) is =
       same-then s t end p it chosen event (ap (λ (t : State). t.files.io.paths) is)
-      (subst (λ (t : State). IsLiving t.inner.records p) (sym is) (instruction-goes s.inner p lives next (Done effect) refl).lives)
+      (subst (λ (t : State). IsLiving t.processes.records p) (sym is) (instruction-goes s.processes p lives next (Done effect) refl).lives)
   instruction-then t end event next (Calls code regs) is =
       same-then s t end p it chosen event (ap (λ (t : State). t.files.io.paths) is)
-      (subst (λ (t : State). IsLiving t.inner.records p) (sym is) (instruction-goes s.inner p lives next (Calls code regs) refl).lives)
+      (subst (λ (t : State). IsLiving t.processes.records p) (sym is) (instruction-goes s.processes p lives next (Calls code regs) refl).lives)
   instruction-then t end event next (Aborts status) is =
       ended-then s t end p it chosen event (ap (λ (t : State). t.files.io) is)
 
-  delivery-then : (t : State) (end : EventEnd) → Event s end t → (signal : ℕ) → act_of s.inner p ≡ delivers signal → (result : Result Inner ℕ)
+  delivery-then : (t : State) (end : EventEnd) → Event s end t → (signal : ℕ) → act_of s.processes p ≡ delivers signal → (result : Result Processes ℕ)
       → delivered (before_delivery s p) p signal ≡ result
-      → t ≡ record s { inner = after_delivery (before_delivery s p) p result; files = files_after_delivery s.files p result } → AreOfLiving t
+      → t ≡ record s { processes = after_delivery (before_delivery s p) p result; files = files_after_delivery s.files p result } → AreOfLiving t
   delivery-then t end event signal next (Ok n) answer is =
       same-then s t end p it chosen event (ap (λ (t : State). t.files.io.paths) is ∙ interrupted-paths s.files.io p)
-      (subst (λ (t : State). IsLiving t.inner.records p) (sym is)
-      (subst (λ (result : Result Inner ℕ). IsLiving (after_delivery (before_delivery s p) p result).records p) answer
-      (broken-goes s.inner p lives signal next (interrupted_count s.files.io p) (ap (λ (result : Result Inner ℕ). is_going (delivery_end result)) answer)).lives))
+      (subst (λ (t : State). IsLiving t.processes.records p) (sym is)
+      (subst (λ (result : Result Processes ℕ). IsLiving (after_delivery (before_delivery s p) p result).records p) answer
+      (broken-goes s.processes p lives signal next (interrupted_count s.files.io p) (ap (λ (result : Result Processes ℕ). is_going (delivery_end result)) answer)).lives))
   delivery-then t end event signal next (Err status) answer is =
       ended-then s t end p it chosen event (ap (λ (t : State). t.files.io) is)
 
-  acts-then : (t : State) (end : EventEnd) → Event s end t → (act : Act) → act_of s.inner p ≡ act → Acts act s p end t → AreOfLiving t
-  acts-then t end event executes next (over, is) = instruction-then t end event next (next_instruction s.inner p) is
+  acts-then : (t : State) (end : EventEnd) → Event s end t → (act : Act) → act_of s.processes p ≡ act → Acts act s p end t → AreOfLiving t
+  acts-then t end event executes next (over, is) = instruction-then t end event next (next_instruction s.processes p) is
   acts-then t end event (delivers signal) next (over, is) =
       delivery-then t end event signal next (delivered (before_delivery s p) p signal) refl is
   acts-then t end event (attempts code) next (result, rest, (now, is_now, served), over, is) =
@@ -506,7 +507,7 @@ module _ (s : State) (p : ℕ) (it : AreOfLiving s) (chosen : s.chosen ≡ Some 
 
 pub event-living : (s t : State) (end : EventEnd) → Event s end t → AreOfLiving s → AreOfLiving t
 event-living s t end (p, chosen, lives, acts) it =
-    acts-then s p it chosen lives t end (p, chosen, lives, acts) (act_of s.inner p) refl acts
+    acts-then s p it chosen lives t end (p, chosen, lives, acts) (act_of s.processes p) refl acts
 
 -- ---- a tick, a choice, the host
 
@@ -518,12 +519,12 @@ tick-living s t (desk, arrives, is) it = record {
   where
     paths : t.files.io.paths ≡ s.files.io.paths
     paths =
-        ap (λ (t : State). t.files.io.paths) is ∙ (arrivals-left (s.inner.tick + 1) 0 (length s.terms) (desk_of s) desk arrives).paths
+        ap (λ (t : State). t.files.io.paths) is ∙ (arrivals-left (s.processes.tick + 1) 0 (length s.terms) (desk_of s) desk arrives).paths
 
-    was : (q : ℕ) → is_living t.inner.records q ≡ false → is_living s.inner.records q ≡ false
-    was q dead = by_life (is_living s.inner.records q) refl
+    was : (q : ℕ) → is_living t.processes.records q ≡ false → is_living s.processes.records q ≡ false
+    was q dead = by_life (is_living s.processes.records q) refl
       where
-        by_life : (life : Bool) → is_living s.inner.records q ≡ life → life ≡ false
+        by_life : (life : Bool) → is_living s.processes.records q ≡ life → life ≡ false
         by_life false was = refl
         by_life true was = absurd (false≢true (sym dead ∙ (tick-leaves s t (desk, arrives, is)).lives q was))
 

@@ -4,10 +4,10 @@ use Rattle.std.proofs.lemmas.Bool.{false≢true}
 use Rattle.os9_sched.specs.declared.member.Cause.{Cause}
 use Rattle.io_model.specs.Path.{PathTable, desc_of, holds_path}
 use Rattle.io_model.specs.Pipe.{held_bytes}
-use Rattle.io_model.specs.declared.kept.Kept.{Kept}
+use Rattle.io_model.specs.declared.pending.PendingCall.{PendingCall}
 use Rattle.io_rules.specs.Alone.{is_in_wait}
 use Rattle.io_rules.specs.Arrivals.{ArrivesFrom, Desk}
-use Rattle.io_rules.specs.Io.{Io, kept_at, terminal_at}
+use Rattle.io_rules.specs.Io.{Io, pending_at, terminal_at}
 use Rattle.io_rules.specs.Waiting.{io_may_go, may_read_terminal}
 use Rattle.lock_model.specs.Conflict.{conflicts}
 use Rattle.lock_model.specs.Locks.{request_of}
@@ -48,7 +48,7 @@ same-terminal : (n m : ℕ) → Cause.Term n ≡ Cause.Term m → n ≡ m
 same-terminal n m is = cc
 
 module _ (s t : State) (q : ℕ) (cause : Cause) (it : IsRunLocked s) (ticks : Tick s t) (waits : WaitsFor s q cause) (goes : MayGo t q)
-    (stood : files_may_go s.files s.inner.tick q ≡ false) where
+    (stood : files_may_go s.files s.processes.tick q ≡ false) where
   records : t.files.records ≡ s.files.records
   records = by_tick ticks
     where
@@ -60,24 +60,24 @@ module _ (s t : State) (q : ℕ) (cause : Cause) (it : IsRunLocked s) (ticks : T
     where
       by_tick : Tick s t → t.files.io.paths ≡ s.files.io.paths
       by_tick (desk, arrives, is) =
-          ap (λ (t : State). t.files.io.paths) is ∙ (arrivals-left (s.inner.tick + 1) 0 (length s.terms) (desk_of s) desk arrives).paths
+          ap (λ (t : State). t.files.io.paths) is ∙ (arrivals-left (s.processes.tick + 1) 0 (length s.terms) (desk_of s) desk arrives).paths
 
   calls : t.files.io.calls ≡ s.files.io.calls
   calls = by_tick ticks
     where
       by_tick : Tick s t → t.files.io.calls ≡ s.files.io.calls
       by_tick (desk, arrives, is) =
-          ap (λ (t : State). t.files.io.calls) is ∙ (arrivals-left (s.inner.tick + 1) 0 (length s.terms) (desk_of s) desk arrives).calls
+          ap (λ (t : State). t.files.io.calls) is ∙ (arrivals-left (s.processes.tick + 1) 0 (length s.terms) (desk_of s) desk arrives).calls
 
   pipes : t.files.io.pipes ≡ s.files.io.pipes
   pipes = by_tick ticks
     where
       by_tick : Tick s t → t.files.io.pipes ≡ s.files.io.pipes
       by_tick (desk, arrives, is) =
-          ap (λ (t : State). t.files.io.pipes) is ∙ arrivals-pipes (s.inner.tick + 1) 0 (length s.terms) (desk_of s) desk arrives
+          ap (λ (t : State). t.files.io.pipes) is ∙ arrivals-pipes (s.processes.tick + 1) 0 (length s.terms) (desk_of s) desk arrives
 
-  kept-same : (r : ℕ) → kept_at t.files.io r ≡ kept_at s.files.io r
-  kept-same r = ap (λ (calls : List (Option Kept)). kept_at (record s.files.io { calls = calls }) r) calls
+  kept-same : (r : ℕ) → pending_at t.files.io r ≡ pending_at s.files.io r
+  kept-same r = ap (λ (calls : List (Option PendingCall)). pending_at (record s.files.io { calls = calls }) r) calls
 
   -- ---- on a terminal or a pipe
 
@@ -87,8 +87,8 @@ module _ (s t : State) (q : ℕ) (cause : Cause) (it : IsRunLocked s) (ticks : T
     terminal = λ n r is. ap (may_read_terminal r) (same n is);
     pipe = λ k is. ap (λ (pipes : List (Option (List ℕ))). held_bytes pipes k) pipes;
     there = λ path it direction r.
-        ap (λ (paths : PathTable). holds_path paths r path && not (is_in_wait path direction (kept_at t.files.io r))) paths
-        ∙ ap (λ (kept : Option Kept). holds_path s.files.io.paths r path && not (is_in_wait path direction kept)) (kept-same r);
+        ap (λ (paths : PathTable). holds_path paths r path && not (is_in_wait path direction (pending_at t.files.io r))) paths
+        ∙ ap (λ (pending : Option PendingCall). holds_path s.files.io.paths r path && not (is_in_wait path direction pending)) (kept-same r);
   }
 
   device-stood : request_of s.files.records.locks q ≡ None → ((n : ℕ) → cause ≡ Cause.Term n → terminal_at t.files.io n ≡ terminal_at s.files.io n) → ⊥
@@ -102,12 +102,12 @@ module _ (s t : State) (q : ℕ) (cause : Cause) (it : IsRunLocked s) (ticks : T
           io-same cause s.files.io t.files.io q (stays same) on (kept-same q)
           (ap (λ (paths : PathTable). desc_of paths on.kept.path.0) paths ∙ on.path.there)
 
-      no_request : lock_may_go t.files.records.locks t.inner.tick q ≡ false
-      no_request = ap (request_may_go t.files.records.locks t.inner.tick) (ap (λ (records : Records). request_of records.locks q) records ∙ none)
+      no_request : lock_may_go t.files.records.locks t.processes.tick q ≡ false
+      no_request = ap (request_may_go t.files.records.locks t.processes.tick) (ap (λ (records : Records). request_of records.locks q) records ∙ none)
 
       io_goes : io_may_go t.files.io q ≡ true
-      io_goes = left-true (lock_may_go t.files.records.locks t.inner.tick q) (io_may_go t.files.io q) (or-comm
-          (io_may_go t.files.io q) (lock_may_go t.files.records.locks t.inner.tick q) goes) no_request
+      io_goes = left-true (lock_may_go t.files.records.locks t.processes.tick q) (io_may_go t.files.io q) (or-comm
+          (io_may_go t.files.io q) (lock_may_go t.files.records.locks t.processes.tick q) goes) no_request
 
   -- ---- for a record
 
@@ -126,16 +126,17 @@ module _ (s t : State) (q : ℕ) (cause : Cause) (it : IsRunLocked s) (ticks : T
 
       opposed : not (conflicts s.files.records.locks request.lock) ≡ false
       opposed =
-          (both-false (not (conflicts s.files.records.locks request.lock)) (is_late s.inner.tick request)
-          (sym (ap (request_may_go s.files.records.locks s.inner.tick) is) ∙ (both-false (io_may_go s.files.io q) (lock_may_go s.files.records.locks s.inner.tick q) stood).1)).0
+          (both-false (not (conflicts s.files.records.locks request.lock)) (is_late s.processes.tick request)
+          (sym (ap (request_may_go s.files.records.locks s.processes.tick) is) ∙ (both-false (io_may_go s.files.io q) (lock_may_go s.files.records.locks s.processes.tick q) stood).1)).0
 
-      late : is_late t.inner.tick request ≡ true
+      late : is_late t.processes.tick request ≡ true
       late =
-          left-true (not (conflicts t.files.records.locks request.lock)) (is_late t.inner.tick request)
-          (sym (ap (request_may_go t.files.records.locks t.inner.tick) then_is) ∙ left-true (io_may_go t.files.io q) (lock_may_go t.files.records.locks t.inner.tick q) goes idle)
+          left-true (not (conflicts t.files.records.locks request.lock)) (is_late t.processes.tick request)
+          (sym (ap (request_may_go t.files.records.locks t.processes.tick) then_is) ∙ left-true (io_may_go t.files.io q) (lock_may_go t.files.records.locks t.processes.tick q) goes idle)
           (ap (λ (records : Records). not (conflicts records.locks request.lock)) records ∙ opposed)
 
-tick-goes : (s t : State) (q : ℕ) (cause : Cause) → IsRunLocked s → Tick s t → WaitsFor s q cause → MayGo t q → files_may_go s.files s.inner.tick q ≡ false → KeysArrive s t cause ⊎ TicksAreOver t q
+tick-goes : (s t : State) (q : ℕ) (cause : Cause) → IsRunLocked s → Tick s t → WaitsFor s q cause → MayGo t q → files_may_go s.files s.processes.tick q ≡ false → KeysArrive s t cause
+    ⊎ TicksAreOver t q
 tick-goes s t q cause it ticks waits goes stood = by_request (request_of s.files.records.locks q) refl
   where
     by_cause : (cause : Cause) → WaitsFor s q cause → request_of s.files.records.locks q ≡ None → KeysArrive s t cause ⊎ TicksAreOver t q
@@ -158,8 +159,8 @@ tick-goes s t q cause it ticks waits goes stood = by_request (request_of s.files
     by_request (Some request) is = inr (record-late s t q cause it ticks waits goes stood request is)
 
 pub tick-lets : (s t : State) (q : ℕ) (cause : Cause) → IsRunLocked s → Tick s t → WaitsFor s q cause → MayGo t q → MayGo s q ⊎ (KeysArrive s t cause ⊎ TicksAreOver t q)
-tick-lets s t q cause it ticks waits goes = by_goes (files_may_go s.files s.inner.tick q) refl
+tick-lets s t q cause it ticks waits goes = by_goes (files_may_go s.files s.processes.tick q) refl
   where
-    by_goes : (went : Bool) → files_may_go s.files s.inner.tick q ≡ went → MayGo s q ⊎ (KeysArrive s t cause ⊎ TicksAreOver t q)
+    by_goes : (went : Bool) → files_may_go s.files s.processes.tick q ≡ went → MayGo s q ⊎ (KeysArrive s t cause ⊎ TicksAreOver t q)
     by_goes true is = inl is
     by_goes false is = inr (tick-goes s t q cause it ticks waits goes is)

@@ -5,19 +5,19 @@ use Rattle.std.specs.Prelude.{IsSome, option_and_then, option_map}
 use Rattle.std.specs.Option.{option_map_or}
 use Rattle.os9_sched.specs.declared.member.Cause.{Cause}
 use Rattle.os9_sched.specs.declared.member.Wait.{Wait as Waiting}
-use Rattle.call_rules.specs.Inner.{regs_at}
+use Rattle.call_rules.specs.Processes.{regs_at}
 use Rattle.io_model.specs.Path.{ArePaths, desc_of, slot_of}
-use Rattle.io_model.specs.declared.kept.Kept.{Kept}
+use Rattle.io_model.specs.declared.pending.PendingCall.{PendingCall}
 use Rattle.io_model.specs.declared.path.Desc.{Desc}
 use Rattle.io_model.specs.declared.path.SysPath.{SysPath}
 use Rattle.io_rules.specs.Again.{path_number}
-use Rattle.io_rules.specs.Io.{OpenPath, kept_at, target_of}
+use Rattle.io_rules.specs.Io.{OpenPath, pending_at, target_of}
 use Rattle.io_rules.specs.Waiting.{cause_by, io_waits_for}
 use Rattle.lock_model.specs.Locks.{request_of}
 use Rattle.lock_model.specs.declared.lock.Request.{Request}
 use Rattle.file_rules.specs.Locking.{request_wait, wait_cause}
 use Rattle.file_laws.proofs.Named.{path-desc}
-use Rattle.call_laws.specs.Kept.{KeepsCall}
+use Rattle.call_laws.specs.Pending.{IsPendingCall}
 use Rattle.event_rules.specs.declared.ends.EventEnd.{EventEnd}
 use Rattle.machine_model.specs.Event.{Event}
 use Rattle.machine_model.specs.State.{State}
@@ -32,24 +32,24 @@ module _ (s t : State) (end : EventEnd) (p q : ℕ) (it : IsRunLocked s) (paths 
   others = event-leaves-io s t end p chosen event
 
   -- the path of its call is on what it was on
-  target-same : (kept : Kept) → kept_at s.files.io q ≡ Some kept → target_of t.files.io kept.path ≡ target_of s.files.io kept.path
-  target-same kept is = by_desc (desc_of s.files.io.paths kept.path.0) refl (paths.there q n kept.path named)
+  target-same : (pending : PendingCall) → pending_at s.files.io q ≡ Some pending → target_of t.files.io pending.path ≡ target_of s.files.io pending.path
+  target-same pending is = by_desc (desc_of s.files.io.paths pending.path.0) refl (paths.there q n pending.path named)
     where
-      keeps : KeepsCall s.inner s.files.io q kept
-      keeps = it.state.running.kept q kept is
+      keeps : IsPendingCall s.processes s.files.io q pending
+      keeps = it.state.running.kept q pending is
 
       n : ℕ
-      n = path_number keeps.call (regs_at s.inner q)
+      n = path_number keeps.call (regs_at s.processes q)
 
-      named : slot_of s.files.io.paths q n ≡ Some kept.path
+      named : slot_of s.files.io.paths q n ≡ Some pending.path
       named = keeps.again.path
 
-      by_desc : (place : Option Desc) → desc_of s.files.io.paths kept.path.0 ≡ place → IsSome place → target_of t.files.io kept.path ≡ target_of s.files.io kept.path
+      by_desc : (place : Option Desc) → desc_of s.files.io.paths pending.path.0 ≡ place → IsSome place → target_of t.files.io pending.path ≡ target_of s.files.io pending.path
       by_desc None at some = absurd (false≢true some)
       by_desc (Some desc) at some =
-          let opened : OpenPath = record { path = kept.path; desc = desc } in
-          let still = others.paths q n opened differ keeps.lives (opens s.files.io q n kept.path desc named at) in
-          let there : desc_of t.files.io.paths kept.path.0 ≡ Some still.now.desc =
+          let opened : OpenPath = record { path = pending.path; desc = desc } in
+          let still = others.paths q n opened differ keeps.lives (opens s.files.io q n pending.path desc named at) in
+          let there : desc_of t.files.io.paths pending.path.0 ≡ Some still.now.desc =
           subst (λ (path : SysPath). desc_of t.files.io.paths path.0 ≡ Some still.now.desc) still.same.path
           (path-desc t.files.io q n still.now still.is) in
           ap (option_map (λ (desc : Desc). desc.target)) there
@@ -57,16 +57,16 @@ module _ (s t : State) (end : EventEnd) (p q : ℕ) (it : IsRunLocked s) (paths 
           ∙ sym (ap (option_map (λ (desc : Desc). desc.target)) at)
 
   waits-there : io_waits_for t.files.io q ≡ io_waits_for s.files.io q
-  waits-there = by_kept (kept_at s.files.io q) refl
+  waits-there = by_kept (pending_at s.files.io q) refl
     where
-      by_kept : (place : Option Kept) → kept_at s.files.io q ≡ place → io_waits_for t.files.io q ≡ io_waits_for s.files.io q
+      by_kept : (place : Option PendingCall) → pending_at s.files.io q ≡ place → io_waits_for t.files.io q ≡ io_waits_for s.files.io q
       by_kept None is =
-          ap (λ (place : Option Kept). option_and_then cause_by (option_and_then (λ (kept : Kept). target_of t.files.io kept.path) place)) (others.calls q differ ∙ is)
-          ∙ sym (ap (λ (place : Option Kept). option_and_then cause_by (option_and_then (λ (kept : Kept). target_of s.files.io kept.path) place)) is)
-      by_kept (Some kept) is =
-          ap (λ (place : Option Kept). option_and_then cause_by (option_and_then (λ (kept : Kept). target_of t.files.io kept.path) place)) (others.calls q differ ∙ is)
-          ∙ ap (option_and_then cause_by) (target-same kept is)
-          ∙ sym (ap (λ (place : Option Kept). option_and_then cause_by (option_and_then (λ (kept : Kept). target_of s.files.io kept.path) place)) is)
+          ap (λ (place : Option PendingCall). option_and_then cause_by (option_and_then (λ (pending : PendingCall). target_of t.files.io pending.path) place)) (others.calls q differ ∙ is)
+          ∙ sym (ap (λ (place : Option PendingCall). option_and_then cause_by (option_and_then (λ (pending : PendingCall). target_of s.files.io pending.path) place)) is)
+      by_kept (Some pending) is =
+          ap (λ (place : Option PendingCall). option_and_then cause_by (option_and_then (λ (pending : PendingCall). target_of t.files.io pending.path) place)) (others.calls q differ ∙ is)
+          ∙ ap (option_and_then cause_by) (target-same pending is)
+          ∙ sym (ap (λ (place : Option PendingCall). option_and_then cause_by (option_and_then (λ (pending : PendingCall). target_of s.files.io pending.path) place)) is)
 
   requests : request_of t.files.records.locks q ≡ request_of s.files.records.locks q
   requests = (event-leaves-locks s t end p it chosen event).requests q differ

@@ -10,7 +10,7 @@ use Rattle.lock_laws.specs.Locked.{IsRunLocked}
 -- a process has at most sixteen numbers, and one that does not live has no path
 pub record AreOfLiving (s : State) : Type 0 where
   pub few : (q : ℕ) → length (numbers_of s.files.io.paths q) ≤ PROCESS_PATHS
-  pub none : (q : ℕ) → is_living s.inner.records q ≡ false → (n : ℕ) → slot_of s.files.io.paths q n ≡ None
+  pub none : (q : ℕ) → is_living s.processes.records q ≡ false → (n : ℕ) → slot_of s.files.io.paths q n ≡ None
 
 -- a state of a run, with its paths
 pub record IsRunOpen (s : State) : Type 0 where

@@ -37,19 +37,19 @@ pub record NamesCause (io : Io) (p n : ℕ) (cause : Cause) : Type 0 where
 
 -- a process does not live any more
 abbrev pub HasEnded : State → ℕ → Type 0
-HasEnded t p = is_living t.inner.records p ≡ false
+HasEnded t p = is_living t.processes.records p ≡ false
 
 -- an event of a process is on this
 pub data Touches (s : State) (p : ℕ) (t : State) (cause : Cause) : Type 0 where
   -- an attempt of a call on the number of a path
-  by_call : (code : ℕ) (call : PathCall) (now : TimePacket) → act_of s.inner p ≡ attempts code
-      → service_of code ≡ on_paths call → NamesCause s.files.io p (number_in call (asker_of s.inner p now)) cause
+  by_call : (code : ℕ) (call : PathCall) (now : TimePacket) → act_of s.processes p ≡ attempts code
+      → service_of code ≡ on_paths call → NamesCause s.files.io p (number_in call (asker_of s.processes p now)) cause
       → Touches s p t cause
   -- F$Fork, which gives a child the three standard paths
-  by_fork : (code n : ℕ) → act_of s.inner p ≡ attempts code → service_of code ≡ on_processes Fork → n < 3
+  by_fork : (code n : ℕ) → act_of s.processes p ≡ attempts code → service_of code ≡ on_processes Fork → n < 3
       → NamesCause s.files.io p n cause → Touches s p t cause
   -- the delivery of a signal to a process that waits for it
-  by_delivery : (signal : ℕ) → act_of s.inner p ≡ delivers signal
+  by_delivery : (signal : ℕ) → act_of s.processes p ≡ delivers signal
       → wait_cause s.files.io s.files.records.locks p ≡ Some cause → Touches s p t cause
   -- the end of a process: of its paths, of its unfinished reads and of its locks
   by_path : (n : ℕ) → HasEnded t p → NamesCause s.files.io p n cause → Touches s p t cause
@@ -68,7 +68,7 @@ WaitsFor s q cause = cause_of s q ≡ Some cause
 
 -- its call may go on in the present tick
 abbrev pub MayGo : State → ℕ → Type 0
-MayGo s q = files_may_go s.files s.inner.tick q ≡ true
+MayGo s q = files_may_go s.files s.processes.tick q ≡ true
 
 -- in a tick keys arrive at a terminal
 abbrev pub KeysArrive : State → State → Cause → Type 0
@@ -79,4 +79,4 @@ KeysArrive s t cause =
 abbrev pub TicksAreOver : State → ℕ → Type 0
 TicksAreOver t q =
     (request : Request) × (request_of t.files.records.locks q ≡ Some request)
-    × (is_late t.inner.tick request ≡ true)
+    × (is_late t.processes.tick request ≡ true)

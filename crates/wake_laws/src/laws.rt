@@ -7,8 +7,8 @@ ghost use Rattle.event_rules.specs.declared.ends.EventEnd.{EventEnd};
 ghost use Rattle.event_rules.specs.declared.ends.SliceEnd.{SliceEnd};
 ghost use Rattle.file_rules.specs.Locking.{files_may_go};
 ghost use Rattle.io_model.specs.Path.{ArePaths};
-ghost use Rattle.io_model.specs.declared.kept.Kept.{Kept};
-ghost use Rattle.io_rules.specs.Io.{kept_at};
+ghost use Rattle.io_model.specs.declared.pending.PendingCall.{PendingCall};
+ghost use Rattle.io_rules.specs.Io.{pending_at};
 ghost use Rattle.machine_model.specs.Event.{Event};
 ghost use Rattle.machine_model.specs.Run.{Choose, Run, Slice, Tick};
 ghost use Rattle.machine_model.specs.Start.{Boot, Starts};
@@ -37,8 +37,8 @@ pub fn only_living_processes_have_paths()
 /// which it waits, or if its ticks are over. Calls that wait for a child or a tick are seen by the
 /// processes alone (Level Two manual, process scheduling).
 pub fn calls_go_on_by_what_they_wait_for()
-    ensures cause { (s : State) (q : ℕ) (kept : Kept) → IsRunOpen s
-        → kept_at s.files.io q ≡ Some kept → (cause : Cause) × WaitsFor s q cause }
+    ensures cause { (s : State) (q : ℕ) (pending : PendingCall) → IsRunOpen s
+        → pending_at s.files.io q ≡ Some pending → (cause : Cause) × WaitsFor s q cause }
     ensures waits { (s t : State) (end : EventEnd) (p q : ℕ) → IsRunOpen s
         → ArePaths s.files.io.paths → Event s end t → s.chosen ≡ Some p → q ≢ p
         → cause_of t q ≡ cause_of s q }

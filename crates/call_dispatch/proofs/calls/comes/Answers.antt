@@ -1,4 +1,4 @@
-use Rattle.call_dispatch.proofs.Ends.{lives_on, ended_on, some_inner}
+use Rattle.call_dispatch.proofs.Ends.{lives_on, ended_on, some_processes}
 use Rattle.call_dispatch.proofs.calls.comes.Goals as goal
 
 pub returns-in-Link-clause-lives : goal.returns-in-Link-clause-lives
@@ -45,7 +45,7 @@ returns-in-UnLoad-clause-lives c = lives_on c.f_unload.result c.f_unload.new.s.t
 
 pub returns-in-Exit-clause-lives : goal.returns-in-Exit-clause-lives
 returns-in-Exit-clause-lives c =
-    let (m, tied) = some_inner c.args.s.now in
+    let (m, tied) = some_processes c.args.s.now in
     ended_on c.f_exit.result c.f_exit.new.s.table c.args.p.0 (c.f_exit.ensures.call m tied).0
 
 pub returns-in-Fork-clause-lives : goal.returns-in-Fork-clause-lives

@@ -1,5 +1,5 @@
 use Rattle.std.proofs.Common.{◌∙◌, sym, arith}
-use Rattle.call_rules.specs.Inner.{cells_at}
+use Rattle.call_rules.specs.Processes.{cells_at}
 use Rattle.call_rules.specs.UserBytes.{user_bytes}
 use Rattle.device_io.proofs.LineLemmas.{user-length}
 use Rattle.device_io.proofs.ReadingLemmas.{read-window}

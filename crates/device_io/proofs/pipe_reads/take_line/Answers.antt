@@ -2,7 +2,7 @@ use Rattle.std.proofs.Common.{◌+◌, ◌≤◌, length, take, sym, subst, arit
 use Rattle.std.proofs.lemmas.List.{length-take-le}
 use Rattle.guest_memory.specs.Tie.{cells_of}
 use Rattle.io_model.specs.Pipe.{moved_count}
-use Rattle.io_model.specs.declared.kept.Kept.{Kept}
+use Rattle.io_model.specs.declared.pending.PendingCall.{PendingCall}
 use Rattle.io_model.specs.declared.pipe.PipeAns.{PipeAns}
 use Rattle.io_rules.specs.Attempts.{caller_of}
 use Rattle.io_rules.specs.Pipes.{line_end, read_line_end}
@@ -32,7 +32,7 @@ returns-in-Done-clause-call c m tied same =
     subst (λ (a : PipeAns). Leaves (stores x (take (moved_count a) c.args.bytes.now) (read_line_end (caller_of m p)
     c.args.alone c.args.call (take (moved_count a) c.args.bytes.now) a) c.args.io.now) m p c.end_line.result
     c.end_line.new.s c.end_line.new.io) (sym c.in-Done.is)
-    (subst (λ (k : Kept). Leaves (stores x taken (line_end (caller_of m p) c.args.alone k taken) c.args.io.now) m p
+    (subst (λ (k : PendingCall). Leaves (stores x taken (line_end (caller_of m p) c.args.alone k taken) c.args.io.now) m p
     c.end_line.result c.end_line.new.s c.end_line.new.io) c.moved_on.ensures (c.end_line.ensures.call m x
     (c.store.ensures.tied m tied) same))
 

@@ -2,8 +2,8 @@ use Rattle.std.proofs.Common.{◌≡◌, ◌==◌, ◌∙◌, ℕ, Bool, true, f
 use Rattle.std.specs.Prelude.{if◌then◌else◌}
 use Rattle.std.proofs.lemmas.Bool.{eqb-false}
 use Rattle.os9_base.specs.declared.registers.Regs.{Regs}
-use Rattle.io_model.specs.declared.kept.Kept.{Kept}
-use Rattle.io_rules.specs.Io.{OpenPath, kept_at}
+use Rattle.io_model.specs.declared.pending.PendingCall.{PendingCall}
+use Rattle.io_rules.specs.Io.{OpenPath, pending_at}
 use Rattle.io_rules.specs.Step.{Caller, IoStep, done}
 use Rattle.io_rules.specs.Transfer.{call_now, first_call}
 use Rattle.device_io.proofs.SendingLemmas.{IsWriteCall, done-regs, sends-done, sends-same, write-call}
@@ -13,7 +13,7 @@ use Rattle.device_io.proofs.sending.send_open.Goals as goal
 pub send_on-requires-clause-may : goal.send_on-requires-clause-may
 send_on-requires-clause-may g c =
     let opened : OpenPath = record { path = c.args.path; desc = c.args.desc } in
-    let kept = kept_at c.args.io.now c.args.p.0 in
+    let kept = pending_at c.args.io.now c.args.p.0 in
     let count = length c.args.bytes.now in
     (write-call c.args.kind c.args.regs c.args.io.now c.args.p.0 opened c.call_now-call.result count c.call_now-call.ensures.sound c.requires.may c.requires.finds.opened
     (c.call_now-call.ensures.call ∙ ap (λ (code : ℕ). unwrap_or kept (first_call code opened count)) c.write_code-code.ensures)
@@ -42,14 +42,14 @@ returns-clause-call g c line cells =
     let opened : OpenPath = record { path = c.args.path; desc = c.args.desc } in
     let caller : Caller = sender c.args.p c.args.regs cells in
     let regs : Regs = regs_done c.args.kind c.args.regs (length bytes) in
-    let kept = kept_at io p in
+    let kept = pending_at io p in
     let some : (length bytes == 0) ≡ false = sym c.is_empty.ensures ∙ c.if-is_empty.false in
     let call_is : c.call_now-call.result ≡ call_now caller io (write_code c.args.kind) opened (length bytes) =
     c.call_now-call.ensures.call ∙ ap (λ (code : ℕ). unwrap_or kept (first_call code opened (length bytes))) c.write_code-code.ensures in
     let known : IsWriteCall io p c.args.desc.target c.call_now-call.result (length bytes) =
     write-call c.args.kind c.args.regs io p opened c.call_now-call.result (length bytes) c.call_now-call.ensures.sound
     c.requires.may c.requires.finds.opened call_is (eqb-false (length bytes) 0 some) in
-    let next : Kept → IoStep = λ call. write_on c.args.kind call c.args.desc.target caller io bytes in
+    let next : PendingCall → IoStep = λ call. write_on c.args.kind call c.args.desc.target caller io bytes in
     sends-same caller io regs c.send_on.new.io _ _ (next c.call_now-call.result) (if length bytes == 0 then done
     (sent c.args.kind caller bytes).regs io else next (call_now caller io (write_code c.args.kind) opened
     (length bytes))) c.send_on.result

@@ -2,12 +2,12 @@ use Rattle.std.proofs.Common.{◌≡◌, ◌∙◌, is_none, is_some, sym, subst
 use Rattle.std.proofs.lemmas.Bool.{false≢true}
 use Rattle.os9_base.specs.declared.errors.TheConstants.{E_BPADDR}
 use Rattle.os9_base.specs.declared.registers.Regs.{Regs}
-use Rattle.call_rules.specs.Inner.{cells_at, regs_at}
+use Rattle.call_rules.specs.Processes.{cells_at, regs_at}
 use Rattle.call_rules.specs.UserBytes.{user_bytes}
 use Rattle.guest_memory.specs.Tie.{cells_of}
-use Rattle.io_model.specs.declared.kept.Kept.{Kept}
+use Rattle.io_model.specs.declared.pending.PendingCall.{PendingCall}
 use Rattle.io_rules.specs.Attempts.{caller_of}
-use Rattle.io_rules.specs.Io.{kept_at}
+use Rattle.io_rules.specs.Io.{pending_at}
 use Rattle.io_state.specs.Sound.{IsNoRead}
 use Rattle.device_io.proofs.MovingLemmas.{kept-none, none-of, some-of}
 use Rattle.device_io.proofs.TryingLemmas.{tries-refuses-true, tries-refuses-false, tries-refused}
@@ -17,7 +17,8 @@ use Rattle.device_io.proofs.stream_reads.read.Goals as goal
 pub refuse-requires-clause-no_read : goal.refuse-requires-clause-no_read
 refuse-requires-clause-no_read g c =
     let cells = cells_of c.args.s.now.memory c.args.p.0 in
-    kept-none (kept_at c.args.io.now c.args.p.0) (λ (call : Kept). StaysRead cells c.args.regs c.args.io.now c.args.p.0) (λ (call : Kept). IsNoRead c.args.io.now call) c.requires.stays
+    kept-none (pending_at c.args.io.now c.args.p.0) (λ (call : PendingCall). StaysRead cells c.args.regs c.args.io.now c.args.p.0) (λ (call : PendingCall). IsNoRead c.args.io.now call)
+        c.requires.stays
     (λ call stays. false≢true (sym c.if-not-is_named.true ∙ c.is_named.ensures.fits.1 stays.named))
 
 pub returns-then-not-is_named-clause-call : goal.returns-then-not-is_named-clause-call

@@ -1,10 +1,10 @@
 use Rattle.std.proofs.Common.{◌≡◌, ◌==◌, ◌∙◌, ℕ, unwrap_or, ap, subst, eq-eqb}
 use Rattle.std.proofs.lemmas.Bool.{ne_eqb}
 use Rattle.os9_base.specs.declared.registers.Regs.{Regs}
-use Rattle.call_rules.specs.Inner.{regs_at}
-use Rattle.io_model.specs.declared.kept.Kept.{Kept}
+use Rattle.call_rules.specs.Processes.{regs_at}
+use Rattle.io_model.specs.declared.pending.PendingCall.{PendingCall}
 use Rattle.io_rules.specs.Attempts.{caller_of}
-use Rattle.io_rules.specs.Io.{OpenPath, kept_at}
+use Rattle.io_rules.specs.Io.{OpenPath, pending_at}
 use Rattle.io_rules.specs.Step.{done}
 use Rattle.io_rules.specs.Transfer.{call_now, first_call}
 use Rattle.device_io.proofs.MovingLemmas.{read-call}
@@ -15,14 +15,14 @@ use Rattle.device_io.proofs.stream_reads.read_open.Goals as goal
 pub read_on-requires-clause-may : goal.read_on-requires-clause-may
 read_on-requires-clause-may g c =
     let opened : OpenPath = record { path = c.args.path; desc = c.args.desc } in
-    let kept = kept_at c.args.io.now c.args.p.0 in
+    let kept = pending_at c.args.io.now c.args.p.0 in
     (read-call c.args.kind c.args.regs c.args.io.now c.args.p.0 opened c.call_now-call.result c.call_now-call.ensures.sound c.requires.again c.requires.finds.opened
     (c.call_now-call.ensures.call ∙ ap (λ (code : ℕ). unwrap_or kept (first_call code opened c.args.regs.y)) c.read_code-code.ensures) c.if-regs-eq0.false).move
 
 pub read_on-requires-clause-kind_is : goal.read_on-requires-clause-kind_is
 read_on-requires-clause-kind_is g c =
     let opened : OpenPath = record { path = c.args.path; desc = c.args.desc } in
-    let kept = kept_at c.args.io.now c.args.p.0 in
+    let kept = pending_at c.args.io.now c.args.p.0 in
     (read-call c.args.kind c.args.regs c.args.io.now c.args.p.0 opened c.call_now-call.result c.call_now-call.ensures.sound c.requires.again c.requires.finds.opened
     (c.call_now-call.ensures.call ∙ ap (λ (code : ℕ). unwrap_or kept (first_call code opened c.args.regs.y)) c.read_code-code.ensures) c.if-regs-eq0.false).kind_is
 
@@ -44,7 +44,7 @@ returns-clause-call g c m tied same =
     let p = c.args.p.0 in
     let io = c.args.io.now in
     let opened : OpenPath = record { path = c.args.path; desc = c.args.desc } in
-    let kept = kept_at io p in
+    let kept = pending_at io p in
     let some : (regs_at m p).y ≡ 0 → ⊥ = subst (λ (r : Regs). r.y ≡ 0 → ⊥) same c.if-regs-eq0.false in
     let call_is : c.call_now-call.result ≡ call_now (caller_of m p) io (read_code c.args.kind) opened (regs_at m p).y =
     c.call_now-call.ensures.call ∙ ap (λ (code : ℕ). unwrap_or kept (first_call code opened c.args.regs.y))
@@ -56,6 +56,6 @@ returns-clause-call g c m tied same =
     (tries-same m io p c.read_on.result c.read_on.new.s c.read_on.new.io _ _
     (read_on c.args.kind c.call_now-call.result c.args.desc.target (caller_of m p) io)
     (read_on c.args.kind (call_now (caller_of m p) io (read_code c.args.kind) opened (regs_at m p).y)
-    c.args.desc.target (caller_of m p) io) (ap (λ (call : Kept). read_on c.args.kind call c.args.desc.target
+    c.args.desc.target (caller_of m p) io) (ap (λ (call : PendingCall). read_on c.args.kind call c.args.desc.target
     (caller_of m p) io) call_is)
     (c.read_on.ensures.call m tied same))

@@ -1,8 +1,8 @@
 use Rattle.std.proofs.Common.{◌≡◌, ◌∙◌, List, ℕ, length, subst, sym}
-use Rattle.call_rules.specs.Inner.{cells_at, regs_at}
+use Rattle.call_rules.specs.Processes.{cells_at, regs_at}
 use Rattle.io_model.specs.Line.{line_length}
 use Rattle.io_rules.specs.Attempts.{caller_of}
-use Rattle.io_rules.specs.Write.{f_perr as f_perr_lem}
+use Rattle.io_rules.specs.Write as model
 use Rattle.io_rules.specs.declared.io_call.IoCall.TheVariants as Call
 use Rattle.device_io.proofs.LineLemmas.{error-whole}
 use Rattle.device_io.proofs.MovingLemmas.{regs-tied}
@@ -27,7 +27,7 @@ returns-clause-memory g c drives m tied wants =
     let line : List ℕ = c.error_line-line.result in
     let regs_are : c.regs-regs.result ≡ regs_at m p = c.regs-regs.ensures.regs ∙ regs-tied c.args.s.now m p tied in
     let whole : line_length line ≡ length line = subst (λ (it : List ℕ). line_length it ≡ length it) (sym c.error_line-line.ensures) (error-whole c.regs-regs.result.b) in
-    wants-of m c.args.io.now p c.send-end.result c.tell.new.s c.send-end.new.io _ _ (f_perr_lem (caller_of m p) c.args.io.now) wants
+    wants-of m c.args.io.now p c.send-end.result c.tell.new.s c.send-end.new.io _ _ (model.f_perr (caller_of m p) c.args.io.now) wants
     (error-tries m c.args.io.now c.args.p c.tell.new.s c.send-end.new.io _ _ line c.regs-regs.result c.send-end.result
     regs_are c.error_line-line.ensures (c.send-end.ensures.call (λ none. whole) (cells_at m p))
     (λ it between. c.tell.ensures.told m it between tied))

@@ -2,13 +2,14 @@ use Rattle.std.proofs.Common.{◌≡◌, ◌∙◌, ℕ, None, Some, List, take,
 use Rattle.os9_base.specs.declared.errors.TheConstants.{E_BPADDR}
 use Rattle.os9_base.specs.declared.calls.TheConstants.{I_WRITE}
 use Rattle.os9_base.specs.declared.registers.Regs.{Regs}
-use Rattle.call_rules.specs.Inner.{cells_at, regs_at}
+use Rattle.call_rules.specs.Processes.{cells_at, regs_at}
 use Rattle.call_rules.specs.UserBytes.{user_bytes}
 use Rattle.io_rules.specs.Attempts.{caller_of}
 use Rattle.io_rules.specs.Io.{OpenPath}
 use Rattle.io_rules.specs.Modes.{can_write}
 use Rattle.io_rules.specs.Transfer.{on_path, unless_nothing}
-use Rattle.io_rules.specs.Write.{i_write as i_write_lem, sends_on, sent_bytes}
+use Rattle.io_rules.specs.Write as model
+use Rattle.io_rules.specs.Write.{sends_on, sent_bytes}
 use Rattle.io_rules.specs.declared.io_call.IoCall.TheVariants as Call
 use Rattle.device_io.proofs.LineLemmas.{user-length}
 use Rattle.device_io.proofs.MovingLemmas.{regs-tied}
@@ -67,7 +68,7 @@ returns-in-Some-clause-memory g c drives m tied wants =
     (λ (it : List ℕ). IsRead io p regs.a (user_bytes cells regs.x regs.y) (Some c.in-Some.y) it)
     (sym c.deref.ensures.value) (c.in-Some.ensures.read m tied) in
     let it = read-some io p regs.a (user_bytes cells regs.x regs.y) c.in-Some.y all read in
-    wants-of m io p c.send-end.result c.tell.new.s c.send-end.new.io _ _ (i_write_lem (caller_of m p) io) wants
+    wants-of m io p c.send-end.result c.tell.new.s c.send-end.new.io _ _ (model.i_write (caller_of m p) io) wants
     (bytes-tries m io c.args.p c.tell.new.s c.send-end.new.io _ _ it.0 regs c.send-end.result regs_are
     (user-length cells regs.x regs.y it.0 it.1) it.1 (sends-read Bytes c.args.p regs cells io c.send-end.new.io
     c.send-end.result _ _ it.0 (take c.in-Some.y all) it.2 (c.send-end.ensures.call (λ none. refl) cells))

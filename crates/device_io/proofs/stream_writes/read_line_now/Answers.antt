@@ -1,10 +1,10 @@
 use Rattle.std.proofs.Common.{◌∙◌, ◌<◌, None, Option, ap, sym, subst}
 use Rattle.std.specs.Prelude.{IfSome}
 use Rattle.os9_base.specs.declared.registers.Regs.{Regs}
-use Rattle.call_rules.specs.Inner.{cells_at}
-use Rattle.io_model.specs.declared.kept.Kept.{Kept}
+use Rattle.call_rules.specs.Processes.{cells_at}
+use Rattle.io_model.specs.declared.pending.PendingCall.{PendingCall}
 use Rattle.io_rules.specs.Attempts.{caller_of}
-use Rattle.io_rules.specs.Io.{kept_at}
+use Rattle.io_rules.specs.Io.{pending_at}
 use Rattle.io_rules.specs.Transfer.{line_at}
 use Rattle.io_rules.specs.Write.{line_bytes}
 use Rattle.device_io.proofs.LineLemmas.{line-same}
@@ -28,8 +28,8 @@ returns-in-Some-read_line-clause-first c m tied same none =
 pub returns-in-None-read_line-clause-line : goal.returns-in-None-read_line-clause-line
 returns-in-None-read_line-clause-line c m tied same =
     let cells = cells_at m c.args.p.0 in
-    read-all c.args.io.now c.args.p.0 c.args.regs.a (line_bytes (caller_of m c.args.p.0) (kept_at c.args.io.now c.args.p.0)) None c.read_line.new.self.buffer.items
-    (ap (λ (kept : Option Kept). line_bytes (caller_of m c.args.p.0) kept) (sym c.in-None.ensures.kept)
+    read-all c.args.io.now c.args.p.0 c.args.regs.a (line_bytes (caller_of m c.args.p.0) (pending_at c.args.io.now c.args.p.0)) None c.read_line.new.self.buffer.items
+    (ap (λ (pending : Option PendingCall). line_bytes (caller_of m c.args.p.0) pending) (sym c.in-None.ensures.kept)
     ∙ ap (λ (r : Regs). line_at cells r.x r.y) (sym same)
     ∙ sym (line-same cells c.args.regs.x c.args.regs.y)
     ∙ c.in-None-read_line.ensures.line m tied)
@@ -37,8 +37,8 @@ returns-in-None-read_line-clause-line c m tied same =
 pub returns-in-Some-read_line-clause-line : goal.returns-in-Some-read_line-clause-line
 returns-in-Some-read_line-clause-line c m tied same =
     let cells = cells_at m c.args.p.0 in
-    read-all c.args.io.now c.args.p.0 c.args.regs.a (line_bytes (caller_of m c.args.p.0) (kept_at c.args.io.now c.args.p.0)) _ c.read_line.new.self.buffer.items
-    (ap (λ (kept : Option Kept). line_bytes (caller_of m c.args.p.0) kept) (sym c.in-None.ensures.kept)
+    read-all c.args.io.now c.args.p.0 c.args.regs.a (line_bytes (caller_of m c.args.p.0) (pending_at c.args.io.now c.args.p.0)) _ c.read_line.new.self.buffer.items
+    (ap (λ (pending : Option PendingCall). line_bytes (caller_of m c.args.p.0) pending) (sym c.in-None.ensures.kept)
     ∙ ap (λ (r : Regs). line_at cells r.x r.y) (sym same)
     ∙ sym (line-same cells c.args.regs.x c.args.regs.y)
     ∙ c.in-Some-read_line.ensures.line m tied)
@@ -46,6 +46,6 @@ returns-in-Some-read_line-clause-line c m tied same =
 -- a call that waits has a byte left to move
 pub read_moving-requires-clause-left : goal.read_moving-requires-clause-left
 read_moving-requires-clause-left c =
-    let kept = c.in-Some.kept in
-    subst (λ (place : Option Kept). IfSome place (λ (it : Kept). it.moved < kept.count)) c.in-Some.ensures.kept
+    let kept = c.in-Some.pending in
+    subst (λ (place : Option PendingCall). IfSome place (λ (it : PendingCall). it.moved < kept.count)) c.in-Some.ensures.kept
     (c.in-Some.ensures.sound.waits.calls c.args.p.0 kept (sym c.in-Some.ensures.kept)).left

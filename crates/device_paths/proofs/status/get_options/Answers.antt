@@ -1,6 +1,6 @@
 use Rattle.std.proofs.Common.{◌≡◌, ◌∙◌, Bool, None, List, ℕ, take, ap, subst}
 use Rattle.os9_base.specs.declared.registers.Regs.{Regs}
-use Rattle.call_rules.specs.Inner.{cells_at, with_memory, with_regs_of}
+use Rattle.call_rules.specs.Processes.{cells_at, with_memory, with_regs_of}
 use Rattle.call_rules.specs.UserBytes.{user_bytes}
 use Rattle.proc_model.specs.MemoryChanges.{stored}
 use Rattle.proc_state.specs.Tie.{Represents, bytes_read}

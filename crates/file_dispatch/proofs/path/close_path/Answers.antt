@@ -1,7 +1,7 @@
 use Rattle.std.proofs.Common.{◌≡◌, ◌∙◌, [], None, refl, subst, sym}
 use Rattle.os9_base.specs.declared.call.CallEnd.{CallEnd}
 use Rattle.os9_base.specs.declared.registers.Regs.{Regs}
-use Rattle.call_rules.specs.Inner.{regs_at}
+use Rattle.call_rules.specs.Processes.{regs_at}
 use Rattle.io_dispatch.proofs.Quiet.{is-first}
 use Rattle.io_rules.specs.declared.io_call.IoCall.TheVariants as Device
 use Rattle.io_state.proofs.OpenedLemmas.{opened-slot}
@@ -18,8 +18,8 @@ use Rattle.file_dispatch.proofs.path.close_path.Goals as goal
 
 pub prove-unreachable-requires : goal.prove-unreachable-requires
 prove-unreachable-requires g c =
-    something-kept c.kept.result c.is_none.result c.is_none.ensures c.if-prove.true
-    (c.kept.ensures.kept ∙ is-first Device.Close (record_at c.args.s.now.table c.args.p.0).regs c.args.files.now.io c.args.p.0 refl (λ same. cc) c.kept.ensures.sound c.requires.may.again)
+    something-kept c.pending.result c.is_none.result c.is_none.ensures c.if-prove.true
+    (c.pending.ensures.kept ∙ is-first Device.Close (record_at c.args.s.now.table c.args.p.0).regs c.args.files.now.io c.args.p.0 refl (λ same. cc) c.pending.ensures.sound c.requires.may.again)
 
 pub close_file-requires-clause-open : goal.close_file-requires-clause-open
 close_file-requires-clause-open g c =
@@ -36,7 +36,7 @@ returns-in-Some-clause-call g c now m was tied stands kinds =
     (ends-attempt 0 Call.Close m was now p CallEnd.Done _ _ _
     (close-file-ends m was now p c.set_regs.new.self c.args.files.now c.close_file.new.self _ _ c.in-Some.opened c.regs-regs.result stands
     (c.in-Some.ensures.file _ was stands kinds) same
-    (sym c.kept.ensures.kept ∙ nothing-kept c.kept.result c.is_none.result c.is_none.ensures c.if-prove.false) (c.close_file.ensures _ was stands) (c.set_regs.ensures.tied m tied)))
+    (sym c.pending.ensures.kept ∙ nothing-kept c.pending.result c.is_none.result c.is_none.ensures c.if-prove.false) (c.close_file.ensures _ was stands) (c.set_regs.ensures.tied m tied)))
 
 pub returns-in-None-clause-call : goal.returns-in-None-clause-call
 returns-in-None-clause-call g c now m was tied stands kinds =

@@ -1,6 +1,6 @@
 use Rattle.std.proofs.Common.{◌≡◌, ◌∙◌, None, subst}
 use Rattle.os9_base.specs.declared.registers.Regs.{Regs}
-use Rattle.call_rules.specs.Inner.{regs_at}
+use Rattle.call_rules.specs.Processes.{regs_at}
 use Rattle.io_rules.specs.Attempts.{caller_of}
 use Rattle.file_rules.specs.Files.{open_file}
 use Rattle.file_rules.specs.Seek.{seeks_nothing}

@@ -62,6 +62,6 @@ returns-in-PErr-clause-call g c time terms is =
 
 pub prove-unreachable-requires : goal.prove-unreachable-requires
 prove-unreachable-requires g c =
-    something-kept c.kept.result c.is_none.result c.is_none.ensures c.if-prove.true
-    (c.kept.ensures.kept ∙ is-first Device.GetStt (record_at c.args.s.now.table c.args.p.0).regs c.args.files.now.io c.args.p.0 refl (λ same. cc) c.kept.ensures.sound
+    something-kept c.pending.result c.is_none.result c.is_none.ensures c.if-prove.true
+    (c.pending.ensures.kept ∙ is-first Device.GetStt (record_at c.args.s.now.table c.args.p.0).regs c.args.files.now.io c.args.p.0 refl (λ same. cc) c.pending.ensures.sound
     (subst (λ (call : PathUse). IsAgain (device_of call) (record_at c.args.s.now.table c.args.p.0).regs c.args.files.now.io c.args.p.0) c.in-GetStt.is c.requires.again.again))

@@ -34,7 +34,7 @@ prove-unreachable-requires g c =
           let regs : Regs = (record_at c.args.s.now.table c.args.p.0).regs in
           let number : c.path_number-number.result ≡ path_number (device_of c.args.call) regs =
           c.path_number-number.ensures ∙ ap (path_number (device_of c.args.call)) c.regs.ensures.regs in
-          something-kept c.kept.result c.is_none.result c.is_none.ensures w.if-is_none.false
-          (c.kept.ensures.kept ∙ status-first c.args.call c.args.files.now.io c.args.p.0 c.path_number-number.result
-          regs same c.kept.ensures.sound c.requires.may.again number (c.in-None.ensures.none refl))
+          something-kept c.pending.result c.is_none.result c.is_none.ensures w.if-is_none.false
+          (c.pending.ensures.kept ∙ status-first c.args.call c.args.files.now.io c.args.p.0 c.path_number-number.result
+          regs same c.pending.ensures.sound c.requires.may.again number (c.in-None.ensures.none refl))
     ]

@@ -2,7 +2,7 @@ use Rattle.std.proofs.Common.{◌≡◌, ◌∙◌, ℕ, nat_le, true, false, So
 use Rattle.os9_base.specs.Cells.{FitsIn}
 use Rattle.os9_base.specs.declared.call.CallEnd.{CallEnd}
 use Rattle.os9_base.specs.declared.registers.Regs.{Regs}
-use Rattle.call_rules.specs.Inner.{Inner, regs_at}
+use Rattle.call_rules.specs.Processes.{Processes, regs_at}
 use Rattle.guest_memory.specs.Tie.{cells_of}
 use Rattle.io_rules.specs.Io.{Io}
 use Rattle.lock_model.specs.Laws.{Covers}
@@ -82,7 +82,7 @@ returns-in-Some-clause-call g c now m was v file terms tied stands is there =
     let size_is : c.in-Ok.size ≡ length file.contents = c.in-Ok.ensures.ok was.volumes v file stands.mounted is there in
     let within : nat_le (length file.contents) start ≡ false = not-le (length file.contents) start (omega (arith, size_is, starts, c.if-size-at.false)) in
     let tick = c.args.s.now.tick in
-    let tick_is : m.tick ≡ tick = ap (λ (i : Inner). i.tick) tied.is in
+    let tick_is : m.tick ≡ tick = ap (λ (i : Processes). i.tick) tied.is in
     let request = c.request_now-request.result in
     let grant = answer_in locks p tick request in
     let y_is : (regs_at m p).y ≡ c.args.regs.y = ap (λ (r : Regs). r.y) (sym (c.requires.regs ∙ regs-tied c.args.s.now m p tied)) in
@@ -153,7 +153,7 @@ returns-clause-call g c now m was v file terms tied stands is there =
     let size_is : c.in-Ok.size ≡ length file.contents = c.in-Ok.ensures.ok was.volumes v file stands.mounted is there in
     let within : nat_le (length file.contents) start ≡ false = not-le (length file.contents) start (omega (arith, size_is, starts, c.if-size-at.false)) in
     let tick = c.args.s.now.tick in
-    let tick_is : m.tick ≡ tick = ap (λ (i : Inner). i.tick) tied.is in
+    let tick_is : m.tick ≡ tick = ap (λ (i : Processes). i.tick) tied.is in
     let request = c.request_now-request.result in
     let grant = answer_in locks p tick request in
     let y_is : (regs_at m p).y ≡ c.args.regs.y = ap (λ (r : Regs). r.y) (sym (c.requires.regs ∙ regs-tied c.args.s.now m p tied)) in

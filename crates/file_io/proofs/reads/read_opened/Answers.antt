@@ -1,7 +1,7 @@
 use Rattle.std.proofs.Common.{◌≡◌, ◌∙◌, is_none, is_some, subst}
 use Rattle.os9_base.specs.declared.errors.TheConstants.{E_BPADDR}
 use Rattle.os9_base.specs.declared.registers.Regs.{Regs}
-use Rattle.call_rules.specs.Inner.{cells_at, regs_at}
+use Rattle.call_rules.specs.Processes.{cells_at, regs_at}
 use Rattle.call_rules.specs.UserBytes.{user_bytes}
 use Rattle.file_rules.specs.Attempts.{asker_of}
 use Rattle.file_state.specs.declared.state.FileState.{FileState}

@@ -1,7 +1,7 @@
 use Rattle.std.proofs.Common.{◌≡◌, ◌∙◌, ◌<◌, ℕ, Some, None, List, length, take, sym, ap, refl, subst, arith}
 use Rattle.std.proofs.lemmas.List.{length-take-le}
 use Rattle.os9_base.specs.declared.call.CallEnd.{CallEnd}
-use Rattle.call_rules.specs.Inner.{Inner}
+use Rattle.call_rules.specs.Processes.{Processes}
 use Rattle.io_rules.specs.Io.{Io}
 use Rattle.lock_model.specs.Records.{Records, with_waiting}
 use Rattle.lock_model.specs.declared.lock.Grant.TheVariants.{Granted}
@@ -57,7 +57,7 @@ returns-in-Some-clause-call g c m was v file terms tied stands is there =
     let locks = c.args.files.now.records.locks in
     let tick = c.args.s.now.tick in
     let locks_are : was.records.locks ≡ locks = ap (λ (records : Records). records.locks) stands.records in
-    let tick_is : m.tick ≡ tick = ap (λ (i : Inner). i.tick) tied.is in
+    let tick_is : m.tick ≡ tick = ap (λ (i : Processes). i.tick) tied.is in
     let found = found_on opened v file in
     let asker = asker_of m p c.args.now in
     let request = c.request_now-request.result in
@@ -111,7 +111,7 @@ returns-clause-call g c m was v file terms tied stands is there =
     let locks = c.args.files.now.records.locks in
     let tick = c.args.s.now.tick in
     let locks_are : was.records.locks ≡ locks = ap (λ (records : Records). records.locks) stands.records in
-    let tick_is : m.tick ≡ tick = ap (λ (i : Inner). i.tick) tied.is in
+    let tick_is : m.tick ≡ tick = ap (λ (i : Processes). i.tick) tied.is in
     let found = found_on opened v file in
     let asker = asker_of m p c.args.now in
     let request = c.request_now-request.result in

@@ -4,7 +4,7 @@ use Rattle.std.proofs.lemmas.List.{length-take-le}
 use Rattle.os9_base.specs.declared.calls.TheConstants.{I_WRITLN}
 use Rattle.os9_base.specs.declared.errors.TheConstants.{E_BPADDR}
 use Rattle.os9_base.specs.declared.registers.Regs.{Regs}
-use Rattle.call_rules.specs.Inner.{cells_at, regs_at}
+use Rattle.call_rules.specs.Processes.{cells_at, regs_at}
 use Rattle.io_rules.specs.declared.io_call.IoCall.TheVariants as Device
 use Rattle.lock_model.specs.Locks.{request_of}
 use Rattle.lock_model.specs.Records.{Records}
@@ -12,7 +12,7 @@ use Rattle.proc_rules.specs.Records.{record_at}
 use Rattle.proc_rules.specs.declared.record.Record.{Record}
 use Rattle.file_rules.specs.Attempts.{asker_of}
 use Rattle.file_rules.specs.Files.{OpenFile, open_file}
-use Rattle.file_rules.specs.Locking.{request_kept}
+use Rattle.file_rules.specs.Locking.{pending_request}
 use Rattle.file_rules.specs.Step.{needs}
 use Rattle.file_rules.specs.Write.{line_moved, sends_bytes}
 use Rattle.file_rules.specs.declared.path_call.PathCall.TheVariants as Call
@@ -66,7 +66,7 @@ returns-in-None-clause-call g c terms m was tied stands kinds =
     let request = request_of c.args.files.now.records.locks p in
     let new : FileState = record c.args.files.now { io = c.refuse.new.io } in
     let same : c.regs-regs.result ≡ regs_at m p = c.regs-regs.ensures.regs ∙ regs-tied c.args.s.now m p tied in
-    let line = line_moved asker (request_kept asker was) in
+    let line = line_moved asker (pending_request asker was) in
     let absent : line ≡ None =
     line-moved asker was found request (ap (λ (records : Records). request_of records.locks p) stands.records)
     ∙ subst (λ (r : Regs). line_of request (cells_at m p) r ≡ None) same (c.in-None.ensures.line m tied) in
@@ -93,7 +93,7 @@ returns-in-Some-clause-call g c terms m was tied stands kinds =
     let bytes : List ℕ = take count s.buffer.items in
     let request = request_of c.args.files.now.records.locks p in
     let same : c.regs-regs.result ≡ regs_at m p = c.regs-regs.ensures.regs ∙ regs-tied c.args.s.now m p tied in
-    let line = line_moved asker (request_kept asker was) in
+    let line = line_moved asker (pending_request asker was) in
     let present : line ≡ Some bytes =
     line-moved asker was found request (ap (λ (records : Records). request_of records.locks p) stands.records)
     ∙ subst (λ (r : Regs). line_of request (cells_at m p) r ≡ Some bytes) same (c.in-Some.ensures.line m tied) in

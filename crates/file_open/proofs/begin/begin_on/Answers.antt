@@ -1,16 +1,16 @@
 use Rattle.std.proofs.Common.{◌∙◌, ap, sym}
-use Rattle.io_rules.specs.Io.{Io, kept_at, with_paths, new_desc}
+use Rattle.io_rules.specs.Io.{Io, pending_at, with_paths, new_desc}
 use Rattle.file_open.proofs.BeginLemmas.{begun-quietly, full-quietly, paths-full}
 use Rattle.file_open.proofs.EndLemmas.{regs-tied}
 use Rattle.file_open.proofs.begin.begin_on.Goals as goal
 
 pub refuse-requires-clause-first : goal.refuse-requires-clause-first
 refuse-requires-clause-first c =
-    ap (λ (io : Io). kept_at io c.args.p.0) c.begin_on_disk.ensures.io ∙ c.requires.first
+    ap (λ (io : Io). pending_at io c.args.p.0) c.begin_on_disk.ensures.io ∙ c.requires.first
 
 pub answer-requires-clause-first : goal.answer-requires-clause-first
 answer-requires-clause-first c =
-    ap (λ (io : Io). kept_at io c.args.p.0) c.begin_on_disk.ensures.io ∙ c.requires.first
+    ap (λ (io : Io). pending_at io c.args.p.0) c.begin_on_disk.ensures.io ∙ c.requires.first
 
 pub returns-in-Err-clause-begins : goal.returns-in-Err-clause-begins
 returns-in-Err-clause-begins c m was now list views tied stands next =

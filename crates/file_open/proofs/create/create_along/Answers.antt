@@ -1,7 +1,7 @@
 use Rattle.std.proofs.Common.{◌≡◌, ℕ, Option, [], subst}
 use Rattle.file_rules.specs.Attempts.{asker_of}
 use Rattle.device_paths.specs.Standing.{NamesFrom}
-use Rattle.call_rules.specs.Inner.{cells_at}
+use Rattle.call_rules.specs.Processes.{cells_at}
 use Rattle.file_open.proofs.CreateLemmas.{along-nameless}
 use Rattle.file_open.proofs.EndLemmas.{refused-at_once}
 use Rattle.file_open.specs.Steps.{creates_along}

@@ -1,7 +1,7 @@
 use Rattle.std.proofs.Common.{◌≡◌, ◌∙◌, ℕ, ◌+◌, Some, None, List, Ok, Err, refl, ap, sym}
 use Rattle.os9_base.specs.declared.call.CallEnd.TheVariants.{Error}
 use Rattle.os9_base.specs.declared.registers.Regs.{Regs}
-use Rattle.call_rules.specs.Inner.{regs_at, user_at}
+use Rattle.call_rules.specs.Processes.{regs_at, user_at}
 use Rattle.io_model.specs.Path.{new_number}
 use Rattle.rbf_walk.specs.declared.error.DirError.TheVariants.{File}
 use Rattle.file_rules.specs.Attempts.{asker_of}

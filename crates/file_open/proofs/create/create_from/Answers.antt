@@ -3,7 +3,7 @@ use Rattle.os9_base.specs.declared.call.CallEnd.TheVariants.{Error}
 use Rattle.device_paths.proofs.StandingLemmas.{some-stand}
 use Rattle.file_rules.specs.Attempts.{asker_of}
 use Rattle.file_rules.specs.Create.{creates_in}
-use Rattle.file_rules.specs.Way.{before_last}
+use Rattle.file_rules.specs.Route.{before_last}
 use Rattle.file_drives.specs.Drives.{drive_views}
 use Rattle.file_state.specs.declared.state.FileState.{FileState}
 use Rattle.file_open.proofs.CreateLemmas.{along-named, create-walk-stays, last-proper}

@@ -1,6 +1,6 @@
 use Rattle.std.proofs.Common.{◌≡◌, ◌∙◌, length, vec_len, refl, ap, sym, subst}
 use Rattle.os9_base.specs.declared.registers.Regs.{Regs}
-use Rattle.call_rules.specs.Inner.{cells_at, regs_at}
+use Rattle.call_rules.specs.Processes.{cells_at, regs_at}
 use Rattle.io_rules.specs.Modes.{can_write}
 use Rattle.io_rules.specs.declared.io_call.IoCall.TheVariants as IoCall
 use Rattle.file_rules.specs.Attempts.{asker_of}

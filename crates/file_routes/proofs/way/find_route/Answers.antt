@@ -2,7 +2,7 @@ use Rattle.std.proofs.Common.{◌≡◌, ◌∙◌, Ok, ℕ, Result, sym, ap, su
 use Rattle.guest_memory.specs.Tie.{cells_of}
 use Rattle.os9_base.specs.Cells.{Cells}
 use Rattle.io_rules.specs.PathList.{path_list}
-use Rattle.file_rules.specs.Way.{list_of}
+use Rattle.file_rules.specs.Route.{list_of}
 use Rattle.file_routes.specs.Ways.{HasNames, RouteIs, StartsOn, leads, way_for}
 use Rattle.file_routes.specs.declared.way.Route.{Route}
 use Rattle.file_routes.proofs.WayLemmas.{unless-refused, read-list, route-read}

@@ -1,7 +1,7 @@
 use Rattle.std.proofs.Common.{◌∙◌, Some, Result, IfOk, ℕ, sym, ap, subst}
 use Rattle.device_table.specs.declared.devices.Dev.{Dev}
 use Rattle.file_drives.specs.Mounted.{mounted_at}
-use Rattle.file_rules.specs.Way.{way_of_device}
+use Rattle.file_rules.specs.Route.{route_of_device}
 use Rattle.os9_base.specs.declared.errors.TheConstants.{E_MNF}
 use Rattle.file_routes.specs.Ways.{StartsOn}
 use Rattle.file_routes.specs.declared.way.Way.{Way}
@@ -11,7 +11,7 @@ use Rattle.file_routes.proofs.way.way_on.Goals as goal
 pub returns-in-Drive-clause-way : goal.returns-in-Drive-clause-way
 returns-in-Drive-clause-way c files views named mounted is =
     drive-way c.in-Drive.n (mounted_at files.volumes c.in-Drive.n) c.root.result c.args.first named.names c.along.result c.along.ensures (c.root.ensures.root views files.volumes mounted)
-    ∙ ap (λ (device : Dev). way_of_device files named (Some device)) (sym c.in-Drive.is)
+    ∙ ap (λ (device : Dev). route_of_device files named (Some device)) (sym c.in-Drive.is)
 
 pub returns-in-Drive-clause-start : goal.returns-in-Drive-clause-start
 returns-in-Drive-clause-start c views volumes mounted =

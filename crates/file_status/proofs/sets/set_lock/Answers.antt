@@ -2,7 +2,7 @@ use Rattle.std.proofs.Common.{◌≡◌, ◌∙◌, not, None, [], ap, sym, subs
 use Rattle.std.proofs.lemmas.Bool.{ne_eqb}
 use Rattle.os9_base.specs.declared.call.CallEnd.{CallEnd}
 use Rattle.os9_base.specs.declared.registers.Regs.{Regs}
-use Rattle.call_rules.specs.Inner.{Inner, regs_at, with_regs_of}
+use Rattle.call_rules.specs.Processes.{Processes, regs_at, with_regs_of}
 use Rattle.io_rules.specs.Io.{with_call}
 use Rattle.lock_model.specs.Records.{Records, holding}
 use Rattle.lock_model.specs.declared.lock.Grant.TheVariants.{Granted}
@@ -52,7 +52,7 @@ returns-in-Some-clause-call g c now m was it terms tied stands open_is =
     let request = c.request_now-request.result in
     let fd : IsFdOf it.file c.in-Ok.fd = c.in-Ok.ensures.ok was.volumes it.volume it.file stands.mounted open_is.volume_is open_is.file_is in
     let locks : was.records.locks ≡ c.args.files.now.records.locks = ap (λ (r : Records). r.locks) stands.records in
-    let tick : m.tick ≡ c.args.s.now.tick = ap (λ (i : Inner). i.tick) tied.is in
+    let tick : m.tick ≡ c.args.s.now.tick = ap (λ (i : Processes). i.tick) tied.is in
     let count : c.long_of-count.result ≡ long_of (regs_at m p) = c.long_of-count.ensures ∙ ap long_of (c.regs-regs.ensures.tied m tied) in
     let some : long_of (regs_at m p) ≡ 0 → ⊥ = λ none. c.if-count-eq0.false (count ∙ none) in
     let same : request_now (asker_of m p now) was it (lock_claim it (long_of (regs_at m p))) ≡ request =
@@ -75,7 +75,7 @@ returns-then-is_err-clause-call g c now m was it terms tied stands open_is =
     let request = c.request_now-request.result in
     let fd : IsFdOf it.file c.in-Ok.fd = c.in-Ok.ensures.ok was.volumes it.volume it.file stands.mounted open_is.volume_is open_is.file_is in
     let locks : was.records.locks ≡ c.args.files.now.records.locks = ap (λ (r : Records). r.locks) stands.records in
-    let tick : m.tick ≡ c.args.s.now.tick = ap (λ (i : Inner). i.tick) tied.is in
+    let tick : m.tick ≡ c.args.s.now.tick = ap (λ (i : Processes). i.tick) tied.is in
     let count : c.long_of-count.result ≡ long_of (regs_at m p) = c.long_of-count.ensures ∙ ap long_of (c.regs-regs.ensures.tied m tied) in
     let some : long_of (regs_at m p) ≡ 0 → ⊥ = λ none. c.if-count-eq0.false (count ∙ none) in
     let same : request_now (asker_of m p now) was it (lock_claim it (long_of (regs_at m p))) ≡ request =
@@ -104,7 +104,7 @@ returns-clause-call g c now m was it terms tied stands open_is =
     let request = c.request_now-request.result in
     let fd : IsFdOf it.file c.in-Ok.fd = c.in-Ok.ensures.ok was.volumes it.volume it.file stands.mounted open_is.volume_is open_is.file_is in
     let locks : was.records.locks ≡ c.args.files.now.records.locks = ap (λ (r : Records). r.locks) stands.records in
-    let tick : m.tick ≡ c.args.s.now.tick = ap (λ (i : Inner). i.tick) tied.is in
+    let tick : m.tick ≡ c.args.s.now.tick = ap (λ (i : Processes). i.tick) tied.is in
     let count : c.long_of-count.result ≡ long_of (regs_at m p) = c.long_of-count.ensures ∙ ap long_of (c.regs-regs.ensures.tied m tied) in
     let some : long_of (regs_at m p) ≡ 0 → ⊥ = λ none. c.if-count-eq0.false (count ∙ none) in
     let same : request_now (asker_of m p now) was it (lock_claim it (long_of (regs_at m p))) ≡ request =

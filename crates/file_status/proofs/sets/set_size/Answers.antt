@@ -1,6 +1,6 @@
 use Rattle.std.proofs.Common.{◌≡◌, ◌∙◌, not, ap, sym}
 use Rattle.os9_base.specs.declared.call.CallEnd.{CallEnd}
-use Rattle.call_rules.specs.Inner.{Inner, regs_at}
+use Rattle.call_rules.specs.Processes.{Processes, regs_at}
 use Rattle.lock_model.specs.Records.{Records}
 use Rattle.lock_model.specs.declared.lock.Grant.TheVariants.{Granted}
 use Rattle.rbf_access.specs.Reading.{IsFdOf}
@@ -32,7 +32,7 @@ returns-in-Some-clause-call g c m was it terms tied stands open_is =
     let request = c.request_now-request.result in
     let fd : IsFdOf it.file c.in-Ok.fd = c.in-Ok.ensures.ok was.volumes it.volume it.file stands.mounted open_is.volume_is open_is.file_is in
     let locks : was.records.locks ≡ c.args.files.now.records.locks = ap (λ (r : Records). r.locks) stands.records in
-    let tick : m.tick ≡ c.args.s.now.tick = ap (λ (i : Inner). i.tick) tied.is in
+    let tick : m.tick ≡ c.args.s.now.tick = ap (λ (i : Processes). i.tick) tied.is in
     let same : request_now (asker_of m p c.args.now) was it (size_claim it (long_of (regs_at m p))) ≡ request =
     size-requested m was c.args.now c.args.p c.args.opened.now it c.args.files.now.records.locks c.args.s.now.tick
     open_is locks tick c.in-Ok.fd fd c.long_of.result (c.long_of.ensures ∙ ap long_of (c.regs-regs.ensures.tied m tied))
@@ -60,7 +60,7 @@ returns-clause-call g c m was it terms tied stands open_is =
     let request = c.request_now-request.result in
     let fd : IsFdOf it.file c.in-Ok.fd = c.in-Ok.ensures.ok was.volumes it.volume it.file stands.mounted open_is.volume_is open_is.file_is in
     let locks : was.records.locks ≡ c.args.files.now.records.locks = ap (λ (r : Records). r.locks) stands.records in
-    let tick : m.tick ≡ c.args.s.now.tick = ap (λ (i : Inner). i.tick) tied.is in
+    let tick : m.tick ≡ c.args.s.now.tick = ap (λ (i : Processes). i.tick) tied.is in
     let same : request_now (asker_of m p c.args.now) was it (size_claim it (long_of (regs_at m p))) ≡ request =
     size-requested m was c.args.now c.args.p c.args.opened.now it c.args.files.now.records.locks c.args.s.now.tick
     open_is locks tick c.in-Ok.fd fd c.long_of.result (c.long_of.ensures ∙ ap long_of (c.regs-regs.ensures.tied m tied))

@@ -1,7 +1,7 @@
 use Rattle.std.proofs.Common.{subst, take}
 use Rattle.std.proofs.lemmas.Result.{err_from_is_err_and}
 use Rattle.call_rules.specs.Chain.{begun_anew, with_program}
-use Rattle.call_rules.specs.Inner.{Inner, own_at}
+use Rattle.call_rules.specs.Processes.{Processes, own_at}
 use Rattle.call_rules.specs.ModuleLinks.{without_primary_link}
 use Rattle.call_rules.specs.Program.{Program}
 use Rattle.module_calls.proofs.Steps.{refused-answers, done-answers}
@@ -25,8 +25,8 @@ returns-clause-call c m entry tied is =
     let p = c.args.p.0 in
     let program : Program = meant c.args.program entry (take c.args.program.parameters c.args.s.now.buffer.items) in
     let loaded = c.in_ok-start.ensures.loaded m entry tied is in
-    let held : Inner = with_program m p program loaded.memory in
+    let held : Processes = with_program m p program loaded.memory in
     done-answers m (starts_anew m p program) (without_primary_link (begun_anew held p program) (own_at m p)) c.begin_anew.new.s
     (loaded.goes (anew_next m p program))
-    (subst (λ (t : Inner). Represents c.begin_anew.new.s (without_primary_link t (own_at m p))) (begun_so-anew held p program c.in_ok-start.start loaded.regs loaded.own)
+    (subst (λ (t : Processes). Represents c.begin_anew.new.s (without_primary_link t (own_at m p))) (begun_so-anew held p program c.in_ok-start.start loaded.regs loaded.own)
     (c.begin_anew.ensures.tied held loaded.stands))

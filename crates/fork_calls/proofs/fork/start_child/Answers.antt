@@ -5,7 +5,7 @@ use Rattle.os9_base.specs.declared.registers.Regs.{Regs}
 use Rattle.proc_rules.specs.Records.{free_process}
 use Rattle.call_rules.specs.Fork.{with_child, forked_regs}
 use Rattle.call_rules.specs.Chain.{with_program}
-use Rattle.call_rules.specs.Inner.{Inner, regs_at, with_regs_of}
+use Rattle.call_rules.specs.Processes.{Processes, regs_at, with_regs_of}
 use Rattle.call_rules.specs.Program.{Program}
 use Rattle.module_calls.proofs.Steps.{refused-answers, done-answers, refused-alone}
 use Rattle.proc_state.specs.Tie.{Represents}
@@ -19,7 +19,7 @@ pub returns-in_default-clause-call : goal.returns-in_default-clause-call
 returns-in_default-clause-call c m entry tied is =
     let p = c.args.p.0 in
     let program : Program = meant c.args.program entry (take c.args.program.parameters c.args.s.now.buffer.items) in
-    let none : free_process m.records ≡ None = ap (λ (s : Inner). free_process s.records) tied.is ∙ sym c.in_default.ensures.number in
+    let none : free_process m.records ≡ None = ap (λ (s : Processes). free_process s.records) tied.is ∙ sym c.in_default.ensures.number in
     refused-alone m (starts_child m p program) E_PRCFUL c.args.s.now (fork-full m p program none) tied
 
 pub returns-in_err-start-clause-call : goal.returns-in_err-start-clause-call
@@ -27,7 +27,7 @@ returns-in_err-start-clause-call c m entry tied is =
     let p = c.args.p.0 in
     let child = c.in-Some.child.0 in
     let program : Program = meant c.args.program entry (take c.args.program.parameters c.args.s.now.buffer.items) in
-    let some : free_process m.records ≡ Some child = ap (λ (s : Inner). free_process s.records) tied.is ∙ sym c.in-Some.ensures.number in
+    let some : free_process m.records ≡ Some child = ap (λ (s : Processes). free_process s.records) tied.is ∙ sym c.in-Some.ensures.number in
     let not = c.in_err-start.ensures.loaded m entry tied is in
     refused-answers m (starts_child m p program) c.in_err-start.field-0.0 c.from_residual.result c.load_program.new.s
     (err_from_is_err_and c.from_residual.result c.from_residual.ensures.1)
@@ -38,9 +38,9 @@ returns-clause-call c m entry tied is =
     let p = c.args.p.0 in
     let child = c.in-Some.child.0 in
     let program : Program = meant c.args.program entry (take c.args.program.parameters c.args.s.now.buffer.items) in
-    let some : free_process m.records ≡ Some child = ap (λ (s : Inner). free_process s.records) tied.is ∙ sym c.in-Some.ensures.number in
+    let some : free_process m.records ≡ Some child = ap (λ (s : Processes). free_process s.records) tied.is ∙ sym c.in-Some.ensures.number in
     let loaded = c.in_ok-start.ensures.loaded m entry tied is in
-    let t : Inner = with_program m child program loaded.memory in
+    let t : Processes = with_program m child program loaded.memory in
     let forked_is : c.forked_regs.result ≡ forked_regs (regs_at m p) child program =
     c.forked_regs.ensures program refl ∙ ap (λ (r : Regs). forked_regs r child program) (c.regs-regs.ensures.tied m tied) in
     done-answers m (starts_child m p program) (with_regs_of (with_child m p child program loaded.memory) p (forked_regs (regs_at m p) child program)) c.set_regs.new.self

@@ -2,7 +2,7 @@ use Rattle.std.proofs.Common.{◌≡◌, ℕ, Ok, Err, List, length, take, ap, s
 use Rattle.std.proofs.lemmas.Bool.{le-ltb}
 use Rattle.std.proofs.lemmas.List.{length-take-le}
 use Rattle.guest_memory.specs.Tie.{Answers as AnswersMemory}
-use Rattle.call_rules.specs.Inner.{Inner, with_memory}
+use Rattle.call_rules.specs.Processes.{Processes, with_memory}
 use Rattle.call_rules.specs.Program.{Program, most_pages}
 use Rattle.fork_calls.specs.Loading.{begun, IsNotLoaded}
 use Rattle.fork_calls.specs.Naming.{meant}
@@ -21,7 +21,7 @@ returns-in-Ok-clause-loaded c m entry tied is =
     (subst (λ (all : List ℕ). AnswersMemory {T = Unit {0}}
     (begun m.memory p (meant c.args.program entry (take count all))) m.memory (Ok tt) c.begin.new.memory)
     c.deref.ensures.value (c.in-Ok.ensures.begun m.memory entry tied.memory))
-    (λ memory stands. record { memory = stands; is = ap (λ (s : Inner). with_memory s memory) tied.is })
+    (λ memory stands. record { memory = stands; is = ap (λ (s : Processes). with_memory s memory) tied.is })
     (c.beginning_of-start.ensures.regs m.memory entry bytes tied.memory is long)
     (c.beginning_of-start.ensures.own m.memory entry bytes tied.memory is)
 
@@ -36,4 +36,4 @@ returns-in-Err-clause-loaded c m entry tied is =
     c.begin.new.memory) c.deref.ensures.value (c.in-Err.ensures.begun m.memory entry tied.memory) in
     subst (IsNotLoaded m p program _) (sym c.memory_error.ensures)
     (loaded-refused m p program _ (le-ltb most_pages c.args.program.pages c.if-program-gt-MOST_PAGES.false) c.in-Err.fault answers
-    (λ memory stands. record { memory = stands; is = ap (λ (s : Inner). with_memory s memory) tied.is }))
+    (λ memory stands. record { memory = stands; is = ap (λ (s : Processes). with_memory s memory) tied.is }))

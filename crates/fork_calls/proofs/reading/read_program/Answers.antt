@@ -5,7 +5,7 @@ use Rattle.std.proofs.lemmas.Result.{err_from_is_err_and}
 use Rattle.os9_base.specs.declared.registers.Regs.{Regs}
 use Rattle.proc_model.specs.declared.module.ModuleInfo.{ModuleInfo}
 use Rattle.proc_model.specs.ModuleList.{ModuleEntry}
-use Rattle.call_rules.specs.Inner.{Inner, regs_at, cells_at}
+use Rattle.call_rules.specs.Processes.{Processes, regs_at, cells_at}
 use Rattle.call_rules.specs.declared.program_name.ProgramName.{ProgramName}
 use Rattle.call_rules.specs.Program.{area_pages, module_name, name_at_x, program_name}
 use Rattle.call_rules.specs.UserBytes.{user_bytes}
@@ -14,7 +14,7 @@ use Rattle.fork_calls.proofs.Programs.{read-no_name, read-no_bytes, read-unfound
 use Rattle.fork_calls.proofs.reading.read_program.Goals as goal
 
 -- the name at X is the one that was read
-name-is : (m : Inner) (p : ℕ) (regs : Regs) (name : ProgramName) → regs ≡ regs_at m p → name ≡ program_name (cells_at m p) regs.x → name_at_x m p ≡ name
+name-is : (m : Processes) (p : ℕ) (regs : Regs) (name : ProgramName) → regs ≡ regs_at m p → name ≡ program_name (cells_at m p) regs.x → name_at_x m p ≡ name
 name-is m p regs name same is = ap (λ (r : Regs). program_name (cells_at m p) r.x) (sym same) ∙ sym is
 
 pub returns-then-is_unreadable-clause-read : goal.returns-then-is_unreadable-clause-read

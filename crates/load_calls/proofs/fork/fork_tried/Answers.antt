@@ -5,7 +5,7 @@ use Rattle.os9_base.specs.declared.registers.Regs.{Regs}
 use Rattle.proc_model.specs.ModuleList.{ModuleEntry, module_entry_at}
 use Rattle.proc_model.specs.Objects.{file_blocks}
 use Rattle.proc_rules.specs.Records.{free_process}
-use Rattle.call_rules.specs.Inner.{Inner, regs_at, with_memory}
+use Rattle.call_rules.specs.Processes.{Processes, regs_at, with_memory}
 use Rattle.call_rules.specs.Program.{Program, area_pages, program_kind}
 use Rattle.file_rules.specs.Load.{Loaded}
 use Rattle.file_rules.specs.Program.{forks, loaded_program, starts_first}
@@ -22,7 +22,7 @@ use Rattle.load_calls.proofs.fork.fork_tried.Goals as goal
 use Rattle.load_calls.proofs.fork.fork_tried.Goals.{Start}
 
 -- the file can be loaded
-it : (c : Start) (m : Inner) (file : ProgramFile) → Represents c.args.s.now m → IsInBuffer c.args.s.now.buffer.items file c.args.read → IsReady m.memory file.bytes c.args.read.size c.args.first
+it : (c : Start) (m : Processes) (file : ProgramFile) → Represents c.args.s.now m → IsInBuffer c.args.s.now.buffer.items file c.args.read → IsReady m.memory file.bytes c.args.read.size c.args.first
 it c m file tied front =
     ready m.memory file.bytes (take c.args.read.size c.args.s.now.buffer.items) c.args.read.size c.args.first front.size_is front.bytes_are (c.requires.tried m.memory tied.memory) c.requires.first
 
@@ -36,7 +36,7 @@ returns-then-first-ne-PROGRAM-clause-call c m file tied front params =
     goes-refused m file (starts_first forks m p) c.args.s.now at.loaded at.loads E_NEMOD (other-kind forks m p file at.loaded other) tied
 
 -- its first module is a program
-is-program : (c : Start) (m : Inner) (file : ProgramFile) (at : IsReady m.memory file.bytes c.args.read.size
+is-program : (c : Start) (m : Processes) (file : ProgramFile) (at : IsReady m.memory file.bytes c.args.read.size
     c.args.first) → c.args.first.kind ≡ program_kind → starts_first forks m c.args.p.0 file at.loaded ≡ forks
     (with_memory m at.loaded.memory) c.args.p.0 (loaded_program m c.args.p.0 file at.loaded.first)
 is-program c m file at kind =
@@ -47,12 +47,12 @@ returns-in_default-clause-call c m file tied front params =
     let p = c.args.p.0 in
     let at = it (goal.at.returns-in_default-clause-call c).Start m file tied front in
     let program : Program = loaded_program m p file at.loaded.first in
-    let none : free_process m.records ≡ None = ap (λ (s : Inner). free_process s.records) tied.is ∙ sym c.in_default.ensures.number in
+    let none : free_process m.records ≡ None = ap (λ (s : Processes). free_process s.records) tied.is ∙ sym c.in_default.ensures.number in
     goes-refused m file (starts_first forks m p) c.args.s.now at.loaded at.loads E_PRCFUL
     (is-program (goal.at.returns-in_default-clause-call c).Start m file at c.if-first-ne-PROGRAM.false ∙ fork-full (with_memory m at.loaded.memory) p program none) tied
 
 -- its pages, by the header that was read
-pages-are : (c : Start) (m : Inner) (file : ProgramFile) (at : IsReady m.memory file.bytes c.args.read.size
+pages-are : (c : Start) (m : Processes) (file : ProgramFile) (at : IsReady m.memory file.bytes c.args.read.size
     c.args.first) (regs : Regs) (pages : ℕ) → regs ≡ regs_at m c.args.p.0
     → ((entry : ModuleEntry) → entry.info.storage ≡ c.args.first.storage → pages ≡ area_pages entry regs.b regs.y)
     → pages ≡ area_pages at.loaded.first.entry (regs_at m c.args.p.0).b (regs_at m c.args.p.0).y
@@ -64,10 +64,10 @@ returns-in-Some-start_refusal-clause-call c m file tied front params =
     let p = c.args.p.0 in
     let start = (goal.at.returns-in-Some-start_refusal-clause-call c).Start in
     let at = it start m file tied front in
-    let later : Inner = with_memory m at.loaded.memory in
+    let later : Processes = with_memory m at.loaded.memory in
     let program : Program = loaded_program m p file at.loaded.first in
     let child = c.in-Some.child.0 in
-    let some : free_process m.records ≡ Some child = ap (λ (s : Inner). free_process s.records) tied.is ∙ sym c.in-Some.ensures.number in
+    let some : free_process m.records ≡ Some child = ap (λ (s : Processes). free_process s.records) tied.is ∙ sym c.in-Some.ensures.number in
     let pages = pages-are start m file at c.regs-regs.result c.area_pages-pages.result (c.regs-regs.ensures.tied m tied) c.area_pages-pages.ensures.pages in
     let refused : start_refusal m.memory child (file_blocks file.bytes) program.pages ≡ Some c.in-Some-start_refusal.number =
     (λ i. start_refusal m.memory child (sym (c.blocks_of.ensures.blocks ∙ at.blocks_are) i) (sym pages i)) ∙ sym (c.in-Some-start_refusal.ensures m.memory tied.memory) in
@@ -82,10 +82,10 @@ returns-in-None-clause-call c m file tied front params =
     let start = (goal.at.returns-in-None-clause-call c).Start in
     let at = it start m file tied front in
     let loaded : Loaded = at.loaded in
-    let later : Inner = with_memory m loaded.memory in
+    let later : Processes = with_memory m loaded.memory in
     let program : Program = loaded_program m p file loaded.first in
     let child = c.in-Some.child.0 in
-    let some : free_process m.records ≡ Some child = ap (λ (s : Inner). free_process s.records) tied.is ∙ sym c.in-Some.ensures.number in
+    let some : free_process m.records ≡ Some child = ap (λ (s : Processes). free_process s.records) tied.is ∙ sym c.in-Some.ensures.number in
     let pages = pages-are start m file at c.regs-regs.result c.area_pages-pages.result (c.regs-regs.ensures.tied m tied) c.area_pages-pages.ensures.pages in
     let goes : start_refusal m.memory child (file_blocks file.bytes) program.pages ≡ None =
     (λ i. start_refusal m.memory child (sym (c.blocks_of.ensures.blocks ∙ at.blocks_are) i) (sym pages i)) ∙ sym (c.in-None.ensures m.memory tied.memory) in

@@ -1,5 +1,5 @@
 use Rattle.std.proofs.Common.{◌≡◌, ℕ, List, Result, Ok, take, ap, refl, subst, sym}
-use Rattle.call_rules.specs.Inner.{Inner, with_memory}
+use Rattle.call_rules.specs.Processes.{Processes, with_memory}
 use Rattle.file_rules.specs.Load.{Loads}
 use Rattle.proc_model.specs.declared.module.ModId.{ModId}
 use Rattle.load_calls.proofs.front.enter_front.Goals as goal
@@ -14,5 +14,5 @@ pub returns-clause-loads : goal.returns-clause-loads
 returns-clause-loads c m loaded tied loads =
     let comes = c.enter_tried.ensures.loads m.memory loaded tied.memory (subst (λ (bytes : List ℕ). Loads m.memory (take c.args.size bytes) (Ok loaded)) (sym c.deref.ensures.value) loads) in record {
       number_is = number-of c.enter_tried.result loaded.first.number (Ok c.enter_tried.result) refl comes.0;
-      stands = record { memory = comes.1; is = ap (λ (s : Inner). with_memory s loaded.memory) tied.is };
+      stands = record { memory = comes.1; is = ap (λ (s : Processes). with_memory s loaded.memory) tied.is };
     }

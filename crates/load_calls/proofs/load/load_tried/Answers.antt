@@ -3,7 +3,7 @@ use Rattle.std.proofs.lemmas.List.{length-take-le}
 use Rattle.os9_base.specs.declared.errors.TheConstants.{E_MEMFUL}
 use Rattle.os9_base.specs.declared.registers.Regs.{Regs}
 use Rattle.call_rules.specs.CallResult.{CallResult}
-use Rattle.call_rules.specs.Inner.{Inner, regs_at, with_memory}
+use Rattle.call_rules.specs.Processes.{Processes, regs_at, with_memory}
 use Rattle.file_rules.specs.Load.{Loaded, Loads, links_first}
 use Rattle.file_rules.specs.ProgramFile.{ProgramFile}
 use Rattle.load_calls.proofs.OutcomeLemmas.{first-there}
@@ -21,7 +21,7 @@ use Rattle.load_calls.proofs.load.load_tried.Goals as goal
 use Rattle.load_calls.proofs.load.load_tried.Goals.{Start}
 
 -- the file can be loaded
-it : (c : Start) (m : Inner) (file : ProgramFile) → Represents c.args.s.now m → IsInBuffer c.args.s.now.buffer.items file c.args.read → IsReady m.memory file.bytes c.args.read.size c.args.first
+it : (c : Start) (m : Processes) (file : ProgramFile) → Represents c.args.s.now m → IsInBuffer c.args.s.now.buffer.items file c.args.read → IsReady m.memory file.bytes c.args.read.size c.args.first
 it c m file tied front =
     ready m.memory file.bytes (take c.args.read.size c.args.s.now.buffer.items) c.args.read.size c.args.first front.size_is front.bytes_are (c.requires.tried m.memory tied.memory) c.requires.first
 
@@ -45,7 +45,7 @@ returns-clause-call c m file tied front =
     let p = c.args.p.0 in
     let at = it (goal.at.returns-clause-call c).Start m file tied front in
     let loaded : Loaded = at.loaded in
-    let later : Inner = with_memory m loaded.memory in
+    let later : Processes = with_memory m loaded.memory in
     let count : ℕ = file.next - (regs_at m p).x in
     let there : has_place m p (file_blocks file.bytes) ≡ true = ap (has_place m p) (sym (c.blocks_of.ensures.blocks ∙ at.blocks_are)) ∙ sym (c.has_place.ensures m tied) ∙ c.if-not-has_place.false in
     let entered = c.enter_front-id.ensures.loads m loaded tied (subst (λ (bytes : List ℕ). Loads m.memory bytes (Ok loaded)) (sym front.bytes_are) at.loads) in

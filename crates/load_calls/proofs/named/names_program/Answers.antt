@@ -2,14 +2,14 @@ use Rattle.std.proofs.Common.{◌≡◌, ◌∙◌, Option, List, ℕ, is_some, 
 use Rattle.fork_calls.proofs.Programs.{read-stands}
 use Rattle.os9_base.specs.declared.registers.Regs.{Regs}
 use Rattle.call_rules.specs.declared.program_name.ProgramName.{ProgramName}
-use Rattle.call_rules.specs.Inner.{Inner, cells_at, regs_at}
+use Rattle.call_rules.specs.Processes.{Processes, cells_at, regs_at}
 use Rattle.call_rules.specs.ModuleLinks.{found_entry}
 use Rattle.call_rules.specs.Program.{module_name, program_name}
 use Rattle.file_rules.specs.Program.{named_program}
 use Rattle.load_calls.proofs.named.names_program.Goals as goal
 
 -- by the name that was read
-by-name : (m : Inner) (p : ℕ) (regs : Regs) (name : ProgramName) → regs ≡ regs_at m p → name ≡ program_name
+by-name : (m : Processes) (p : ℕ) (regs : Regs) (name : ProgramName) → regs ≡ regs_at m p → name ≡ program_name
     (cells_at m p) regs.x → option_and_then (λ (name : List ℕ). found_entry m.memory.modules name regs.a)
     (module_name name) ≡ named_program m p
 by-name m p regs name same is = λ i.

@@ -1,6 +1,6 @@
 use Rattle.std.proofs.Common.{◌≡◌, ◌∙◌, ◌-◌, ℕ, [], Ok, List, take, unwrap_or, ap, sym, subst, arith}
 use Rattle.os9_base.specs.declared.registers.Regs.{Regs}
-use Rattle.call_rules.specs.Inner.{Inner, regs_at, with_memory}
+use Rattle.call_rules.specs.Processes.{Processes, regs_at, with_memory}
 use Rattle.call_rules.specs.Program.{area_pages}
 use Rattle.call_rules.specs.UserBytes.{user_bytes}
 use Rattle.proc_model.specs.ModuleList.{ModuleEntry}
@@ -22,7 +22,7 @@ returns-clause-enters c m file loaded tied front loads params =
     front.size_is front.bytes_are (c.requires.tried m.memory tied.memory) c.requires.first in
     let first_is = ready-first m.memory file.bytes c.args.read.size c.args.first at loaded loads in
     let entered = c.enter_front-id.ensures.loads m loaded tied (subst (λ (bytes : List ℕ). Loads m.memory bytes (Ok loaded)) (sym front.bytes_are) loads) in
-    let later : Inner = with_memory m loaded.memory in
+    let later : Processes = with_memory m loaded.memory in
     let regs_are : regs ≡ regs_at m p = c.regs-regs.ensures.tied m tied in
     let seen = same-cells c.args.s.now.memory m.memory tied.memory p (omega arith) file.bytes loaded (loads-ok m.memory file.bytes loaded loads) in
     let read : parameters_of m p ≡ bytes_read c.read_bytes.result regs.y buffer =

@@ -1,7 +1,7 @@
 use Rattle.std.proofs.Common.{◌≡◌, ◌+◌, ap, subst}
 use Rattle.proc_model.specs.MemoryChanges.{linked}
 use Rattle.proc_rules.specs.declared.own.Own.{Own}
-use Rattle.call_rules.specs.Inner.{Inner, own_at, with_memory, with_own}
+use Rattle.call_rules.specs.Processes.{Processes, own_at, with_memory, with_own}
 use Rattle.call_rules.specs.Link.{links_at, with_links_at}
 use Rattle.proc_state.specs.Tie.{Represents}
 use Rattle.module_calls.proofs.links.add_link.Goals as goal
@@ -15,8 +15,8 @@ returns-clause-tied c =
     let own_is : c.own-own.result ≡ own_at m p = c.own-own.ensures.tied (with_memory m memory)
     (record {
       memory = c.link.ensures.links m.memory tied.memory;
-      is = ap (λ (s : Inner). with_memory s memory)
+      is = ap (λ (s : Processes). with_memory s memory)
           tied.is;
     }) in
     subst (λ (own : Own). Represents c.set_own.new.self (with_own (with_memory m memory) p (with_links_at own slot (links_at own slot + 1)))) own_is
-    (c.set_own.ensures.tied (with_memory m memory) (record { memory = c.link.ensures.links m.memory tied.memory; is = ap (λ (s : Inner). with_memory s memory) tied.is }))
+    (c.set_own.ensures.tied (with_memory m memory) (record { memory = c.link.ensures.links m.memory tied.memory; is = ap (λ (s : Processes). with_memory s memory) tied.is }))

@@ -5,7 +5,7 @@ use Rattle.os9_base.specs.declared.registers.Regs.{Regs}
 use Rattle.proc_model.specs.Memory.{group_at}
 use Rattle.proc_model.specs.MemoryChanges.{linked}
 use Rattle.proc_model.specs.ModuleList.{ModuleEntry}
-use Rattle.call_rules.specs.Inner.{own_at, regs_at, with_memory, with_own, with_regs_of}
+use Rattle.call_rules.specs.Processes.{own_at, regs_at, with_memory, with_own, with_regs_of}
 use Rattle.call_rules.specs.Link.{mapped_group, links_at, with_links_at, linked_regs, after_link}
 use Rattle.call_rules.specs.ModuleLinks.{Entered, header_address}
 use Rattle.proc_state.specs.Tie.{Represents}

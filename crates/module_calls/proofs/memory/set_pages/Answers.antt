@@ -2,7 +2,7 @@ use Rattle.std.proofs.Common.{◌≡◌, ℕ, ◌*◌, Ok, nat_lt, subst, arith}
 use Rattle.std.proofs.lemmas.Bool.{le-ltb}
 use Rattle.os9_base.specs.declared.errors.TheConstants.{E_MEMFUL}
 use Rattle.call_rules.specs.CallResult.{changes, done}
-use Rattle.call_rules.specs.Inner.{with_memory}
+use Rattle.call_rules.specs.Processes.{with_memory}
 use Rattle.call_rules.specs.Mem.{resized, with_size}
 use Rattle.call_rules.specs.Program.{most_pages, blocks_of_pages}
 use Rattle.proc_state.specs.Tie.{Represents, Answers}

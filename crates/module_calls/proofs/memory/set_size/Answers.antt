@@ -1,6 +1,6 @@
 use Rattle.std.proofs.Common.{◌≡◌, subst, ap, ◌∙◌}
 use Rattle.os9_base.specs.declared.registers.Regs.{Regs}
-use Rattle.call_rules.specs.Inner.{own_at, regs_at, with_regs_of, with_own}
+use Rattle.call_rules.specs.Processes.{own_at, regs_at, with_regs_of, with_own}
 use Rattle.call_rules.specs.Mem.{size_regs}
 use Rattle.proc_state.specs.Tie.{Represents}
 use Rattle.module_calls.proofs.memory.set_size.Goals as goal

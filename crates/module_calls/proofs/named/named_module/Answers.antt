@@ -4,7 +4,7 @@ use Rattle.os9_base.specs.declared.registers.Regs.{Regs}
 use Rattle.guest_memory.proofs.Seen.{found-seen}
 use Rattle.proc_model.specs.ModuleList.{ModuleEntry, module_entry_at, found_module}
 use Rattle.proc_model.proofs.ModuleListLaws.{found_entry}
-use Rattle.call_rules.specs.Inner.{regs_at, cells_at}
+use Rattle.call_rules.specs.Processes.{regs_at, cells_at}
 use Rattle.user_names.specs.UserNames.{name_at}
 use Rattle.module_calls.specs.Named.{name_or_error, IsNamed}
 use Rattle.module_calls.proofs.Naming.{named-error, named-nothing, named-found}

@@ -1,7 +1,7 @@
 use Rattle.std.proofs.Common.{◌≡◌, ◌-◌, ap, subst, ◌∙◌}
 use Rattle.proc_model.specs.Memory.{group_at}
 use Rattle.proc_rules.specs.declared.own.Own.{Own}
-use Rattle.call_rules.specs.Inner.{own_at, with_memory, with_own}
+use Rattle.call_rules.specs.Processes.{own_at, with_memory, with_own}
 use Rattle.call_rules.specs.Link.{links_at, with_links_at}
 use Rattle.call_rules.specs.UnLink.{with_links_left}
 use Rattle.proc_state.specs.Tie.{Represents}

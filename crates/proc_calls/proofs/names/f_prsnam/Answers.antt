@@ -3,7 +3,7 @@ use Rattle.os9_base.specs.declared.call.CallEnd.{CallEnd}
 use Rattle.os9_base.specs.declared.call.CallEnd.TheVariants.{Error}
 use Rattle.os9_base.specs.declared.errors.TheConstants.{E_BPADDR}
 use Rattle.os9_base.specs.declared.registers.Regs.{Regs}
-use Rattle.call_rules.specs.Inner.{Inner, cells_at, regs_at}
+use Rattle.call_rules.specs.Processes.{Processes, cells_at, regs_at}
 use Rattle.call_rules.specs.PrsNam.{past_slash, parses_name}
 use Rattle.guest_memory.specs.Tie.{cells_of}
 use Rattle.proc_rules.specs.Records.{AreRecords, IsLiving, record_at}
@@ -14,12 +14,12 @@ use Rattle.proc_calls.proofs.Turns.{process_within}
 use Rattle.proc_calls.proofs.names.f_prsnam.Goals as goal
 
 -- a name past FFFF is refused
-past_memory : (m : Inner) (p : ℕ) (s : ProcState) → Represents s m → Comes m p (parses_name m p 65536) (Error E_BPADDR) s
+past_memory : (m : Processes) (p : ℕ) (s : ProcState) → Represents s m → Comes m p (parses_name m p 65536) (Error E_BPADDR) s
 past_memory m p s tied = (refl, tied)
 
 -- the name is where it is by the cells and the registers of the machine
 parses_from : (s new : ProcState) (p x first : ℕ) → AreRecords s.table → IsLiving s.table p → x ≡ (record_at s.table p).regs.x
-    → past_slash (cells_of s.memory p) x ≡ first → (m : Inner) → Represents s m → (end : CallEnd)
+    → past_slash (cells_of s.memory p) x ≡ first → (m : Processes) → Represents s m → (end : CallEnd)
     → Comes m p (parses_name m p first) end new
     → Comes m p (parses_name m p (past_slash (cells_at m p) (regs_at m p).x)) end new
 parses_from s new p x first are lives same at m tied end comes =

@@ -1,5 +1,5 @@
 use Rattle.std.proofs.Common.{◌≡◌, ℕ, ◌<◌, ◌≤◌, get_or}
-use Rattle.call_rules.specs.Inner.{no_own}
+use Rattle.call_rules.specs.Processes.{no_own}
 use Rattle.call_rules.specs.ModuleLinks.{still_primary}
 use Rattle.proc_state.proofs.links.keep_entered.Given as goal
 

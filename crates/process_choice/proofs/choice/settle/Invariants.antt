@@ -1,6 +1,6 @@
 use Rattle.std.proofs.Common.{◌≡◌, ℕ, ◌<◌}
 use Rattle.os9_sched.specs.Members.{is_active_in}
-use Rattle.call_rules.specs.Inner.{Inner}
+use Rattle.call_rules.specs.Processes.{Processes}
 use Rattle.call_rules.specs.IoReady.{has_io}
 use Rattle.proc_state.specs.Ready.{ready_at}
 use Rattle.proc_state.specs.Tie.{Represents}
@@ -10,5 +10,5 @@ use Rattle.process_choice.proofs.choice.settle.Given as goal
 abbrev pub invariant-loop-number : goal.invariant-loop-number
 invariant-loop-number l = record {
   active : (p : ℕ) → p < l.number → is_active_in l.s.sched.members p ≡ ready_at (has_io l.io) l.s.tick l.s p;
-  tied : (m : Inner) → Represents l.initial.s m → Represents l.s m;
+  tied : (m : Processes) → Represents l.initial.s m → Represents l.s m;
 }

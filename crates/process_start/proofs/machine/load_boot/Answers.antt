@@ -5,7 +5,7 @@ use Rattle.guest_memory.specs.Tie.{modules_of}
 use Rattle.guest_memory.proofs.Seen.{found-seen}
 use Rattle.proc_model.specs.declared.module.ModId.{ModId}
 use Rattle.proc_rules.specs.declared.own.Own.{Own}
-use Rattle.call_rules.specs.Inner.{Inner, with_memory}
+use Rattle.call_rules.specs.Processes.{Processes, with_memory}
 use Rattle.call_rules.specs.Program.{program_kind}
 use Rattle.proc_state.specs.Sound.{ArePrimaries}
 use Rattle.proc_state.proofs.First.{ArePrimaries-first}
@@ -17,7 +17,7 @@ use Rattle.process_start.proofs.machine.load_boot.Goals as goal
 pub invariant_of-processes-clause-primaries : goal.invariant_of-processes-clause-primaries
 invariant_of-processes-clause-primaries c =
     let (blocks, least, tied) = c.requires.empty in
-    subst (λ (owns : List Own). ArePrimaries owns (modules_of c.enter_boot.new.memory)) (ap (λ (m : Inner). m.own) tied.is)
+    subst (λ (owns : List Own). ArePrimaries owns (modules_of c.enter_boot.new.memory)) (ap (λ (m : Processes). m.own) tied.is)
     (ArePrimaries-first (modules_of c.enter_boot.new.memory))
 
 pub returns-in_err-enter_boot-clause-refused : goal.returns-in_err-enter_boot-clause-refused
@@ -42,7 +42,7 @@ returns-clause-found c = λ blocks tied.
       entries = boot.entries;
       entry = entry;
       has = record { short = c.requires.short; entered = boot.entered; found_it = found_it; is = is };
-      represents = record { memory = boot.represents; is = ap (λ (m : Inner). with_memory m memory) tied.is };
+      represents = record { memory = boot.represents; is = ap (λ (m : Processes). with_memory m memory) tied.is };
     }
 
 pub returns-clause-entered : goal.returns-clause-entered

@@ -1,7 +1,7 @@
 use Rattle.std.proofs.Common.{◌≡◌, ℕ, not, Bool, true, false, Option, Some, None, List, refl, subst, sym, arith}
 use Rattle.os9_base.specs.declared.errors.TheConstants.{E_BADTIME, E_BPADDR}
 use Rattle.os9_base.specs.declared.registers.TimePacket.{TimePacket}
-use Rattle.call_rules.specs.Inner.{Inner, regs_at, cells_at}
+use Rattle.call_rules.specs.Processes.{Processes, regs_at, cells_at}
 use Rattle.call_rules.specs.UserBytes.{user_bytes}
 use Rattle.civil_time.specs.CivilTime.{is_time_packet}
 use Rattle.std.specs.Prelude.{is_none}
@@ -33,7 +33,7 @@ told : (clock : Clock) (tick at : ℕ) (now : TimePacket) (missing : Bool) → I
 told clock tick at now true is = is
 told clock tick at now false is = is
 
-after : (call : TimeCall) (m : Inner) (clock : Clock) (now : TimePacket) (p : ℕ) → IsClock clock m.tick
+after : (call : TimeCall) (m : Processes) (clock : Clock) (now : TimePacket) (p : ℕ) → IsClock clock m.tick
     → IsClock (clock_after clock (time_step call m now p)) m.tick
 after Call.Time m clock now p is =
     told clock m.tick (regs_at m p).x now (is_none (user_bytes (cells_at m p) (regs_at m p).x 6)) is

@@ -1,7 +1,7 @@
 use Rattle.std.proofs.Common.{◌≡◌, ◌∙◌, ap, List, Option, None, ℕ, sym, subst}
 use Rattle.io_model.specs.Path.{PathTable, paths_after_close}
 use Rattle.io_rules.specs.Close.{after_close}
-use Rattle.io_rules.specs.Io.{Io, kept_at, with_paths, with_pipes}
+use Rattle.io_rules.specs.Io.{Io, pending_at, with_paths, with_pipes}
 use Rattle.io_state.specs.Sound.{AreTargets, AreWaits}
 use Rattle.io_state.proofs.SoundLemmas.{are-closed, are-closed_pipe, closed-pipe, closed-plain, is-io_with_paths}
 use Rattle.io_state.proofs.WaitLemmas.{waits-closed, waits-with_pipes}
@@ -17,7 +17,7 @@ invariant_of-self c =
     } in
     is-io_with_paths io c.close.new.self (paths_after_close io.paths c.args.p.0 c.args.n) c.close.ensures.paths c.close.ensures.shape
     (are-closed io c.args.p.0 c.args.n c.self.invariant.targets) (waits-closed io c.args.p.0 c.args.n
-    (subst (λ (s : Io). kept_at s c.args.p.0 ≡ None) (sym c.self.view_is) c.requires.quiet)
+    (subst (λ (s : Io). pending_at s c.args.p.0 ≡ None) (sym c.self.view_is) c.requires.quiet)
     c.self.invariant.waits) c.self.invariant
 
 pub finish-requires : goal.finish-requires
@@ -49,7 +49,7 @@ invariant_of-self-in-Pipe c =
       waits =
           waits-with_pipes (with_paths io c.close.new.self) c.finish.new.self
           (subst (λ (paths : PathTable). AreWaits (with_paths io paths)) (sym c.close.ensures.paths)
-          (waits-closed io c.args.p.0 c.args.n (subst (λ (s : Io). kept_at s c.args.p.0 ≡ None)
+          (waits-closed io c.args.p.0 c.args.n (subst (λ (s : Io). pending_at s c.args.p.0 ≡ None)
           (sym c.self.view_is) c.requires.quiet) c.self.invariant.waits));
     }
 
@@ -63,7 +63,7 @@ invariant_of-self-in_default-target c =
     } in
     is-io_with_paths io c.close.new.self (paths_after_close io.paths c.args.p.0 c.args.n) c.close.ensures.paths c.close.ensures.shape
     (are-closed io c.args.p.0 c.args.n c.self.invariant.targets) (waits-closed io c.args.p.0 c.args.n
-    (subst (λ (s : Io). kept_at s c.args.p.0 ≡ None) (sym c.self.view_is) c.requires.quiet)
+    (subst (λ (s : Io). pending_at s c.args.p.0 ≡ None) (sym c.self.view_is) c.requires.quiet)
     c.self.invariant.waits) c.self.invariant
 
 pub returns-in_default-target : goal.returns-in_default-target

@@ -1,5 +1,5 @@
 use Rattle.std.proofs.Common.{◌≡◌, None}
-use Rattle.io_rules.specs.Io.{kept_at}
+use Rattle.io_rules.specs.Io.{pending_at}
 use Rattle.io_rules.specs.Processes.{closed_below}
 use Rattle.io_state.proofs.state.IoState.close_all.Given as goal
 
@@ -7,5 +7,5 @@ use Rattle.io_state.proofs.state.IoState.close_all.Given as goal
 abbrev pub invariant-loop-number : goal.invariant-loop-number
 invariant-loop-number l = record {
   closed : l.self ≡ closed_below l.fn.self l.p.0 l.number;
-  quiet : kept_at l.self l.p.0 ≡ None;
+  quiet : pending_at l.self l.p.0 ≡ None;
 }

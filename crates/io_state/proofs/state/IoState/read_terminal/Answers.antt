@@ -34,5 +34,5 @@ invariant_of-self g c =
     } in
     let may = subst (λ (s : Io). MayRead s c.args.p.0 c.args.terminal c.args.kind c.args.call) (sym c.self.view_is) c.requires.may in
     is-io_read io c.args.p.0 c.args.terminal c.min-most.result c.args.kind c.args.call c.read-answer.result
-    c.read-answer.new.self c.kept_after.result _ _ c.self.invariant may c.min-most.ensures
-    c.read-answer.ensures.terminals c.read-answer.ensures.device.4 c.kept_after.ensures
+    c.read-answer.new.self c.pending_after.result _ _ c.self.invariant may c.min-most.ensures
+    c.read-answer.ensures.terminals c.read-answer.ensures.device.4 c.pending_after.ensures

@@ -1,5 +1,5 @@
 use Rattle.std.proofs.Common.{IfSome, length, sym, subst}
-use Rattle.io_rules.specs.Io.{Io, kept_at, terminal_at}
+use Rattle.io_rules.specs.Io.{Io, pending_at, terminal_at}
 use Rattle.io_state.proofs.TerminalLemmas.{is-io_written}
 use Rattle.io_state.proofs.WaitLemmas.{write-leaves}
 use Rattle.io_state.specs.Sound.{IsNoRead}
@@ -13,6 +13,6 @@ invariant_of-self g c =
       pipes = c.self.inside.pipes;
       calls = c.self.inside.calls;
     } in
-    let free = subst (λ (s : Io). IfSome (kept_at s c.args.p.0) (IsNoRead s)) (sym c.self.view_is) c.requires.no_read in
+    let free = subst (λ (s : Io). IfSome (pending_at s c.args.p.0) (IsNoRead s)) (sym c.self.view_is) c.requires.no_read in
     is-io_written io c.args.p.0 c.args.terminal c.write-answer.new.self c.self.invariant c.requires.process free c.write-answer.ensures.terminals
     (write-leaves c.args.p c.args.bytes.now (length c.args.bytes.now) c.write-answer.result (terminal_at io c.args.terminal) _ _ _ c.write-answer.ensures.device.4)

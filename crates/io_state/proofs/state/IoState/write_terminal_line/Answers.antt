@@ -1,6 +1,6 @@
 use Rattle.std.proofs.Common.{IfSome, sym, subst}
 use Rattle.io_model.specs.Line.{line_length, line_put}
-use Rattle.io_rules.specs.Io.{Io, kept_at, terminal_at}
+use Rattle.io_rules.specs.Io.{Io, pending_at, terminal_at}
 use Rattle.io_state.proofs.TerminalLemmas.{is-io_written}
 use Rattle.io_state.proofs.WaitLemmas.{write-leaves}
 use Rattle.io_state.specs.Sound.{IsNoRead}
@@ -14,6 +14,6 @@ invariant_of-self g c =
       pipes = c.self.inside.pipes;
       calls = c.self.inside.calls;
     } in
-    let free = subst (λ (s : Io). IfSome (kept_at s c.args.p.0) (IsNoRead s)) (sym c.self.view_is) c.requires.no_read in
+    let free = subst (λ (s : Io). IfSome (pending_at s c.args.p.0) (IsNoRead s)) (sym c.self.view_is) c.requires.no_read in
     is-io_written io c.args.p.0 c.args.terminal c.write_line-answer.new.self c.self.invariant c.requires.process free c.write_line-answer.ensures.terminals
     (write-leaves c.args.p (line_put c.args.bytes.now) (line_length c.args.bytes.now) c.write_line-answer.result (terminal_at io c.args.terminal) _ _ _ c.write_line-answer.ensures.device.4)

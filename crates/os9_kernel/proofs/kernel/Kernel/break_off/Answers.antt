@@ -1,7 +1,7 @@
 use Rattle.std.proofs.Common.{◌<◌, length, sym, ap, ◌∙◌, subst}
 use Rattle.proc_rules.specs.declared.record.Record.{Record}
 use Rattle.proc_rules.specs.Records.{IsLiving, record_at}
-use Rattle.call_rules.specs.Inner.{Inner}
+use Rattle.call_rules.specs.Processes.{Processes}
 use Rattle.os9_kernel.proofs.Columns.{living-within, record-put}
 use Rattle.os9_kernel.proofs.Represented.{some-machine}
 use Rattle.os9_kernel.proofs.kernel.Kernel.break_off.Goals as goal
@@ -18,8 +18,8 @@ pub returns-in-Some-clause-signal : goal.returns-in-Some-clause-signal
 returns-in-Some-clause-signal c =
     let p = c.args.p.0 in
     let (m, there) = some-machine c.args.self.now.processes in
-    let within : p < length m.records = living-within m.records p (subst (λ (s : Inner). IsLiving s.records p) (sym there.is) c.requires.lives) in
+    let within : p < length m.records = living-within m.records p (subst (λ (s : Processes). IsLiving s.records p) (sym there.is) c.requires.lives) in
     let now = c.set_regs.ensures.tied m there in
-    sym (ap (λ (s : Inner). (record_at s.records p).signal) now.is)
+    sym (ap (λ (s : Processes). (record_at s.records p).signal) now.is)
     ∙ ap (λ (r : Record). r.signal) (record-put m.records p _ within)
-    ∙ ap (λ (s : Inner). (record_at s.records p).signal) there.is
+    ∙ ap (λ (s : Processes). (record_at s.records p).signal) there.is

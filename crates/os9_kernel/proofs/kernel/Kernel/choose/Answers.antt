@@ -15,26 +15,26 @@ returns-clause-count c = c.dispatch-self.ensures.tick ∙ c.look.ensures.count
 
 pub returns-clause-active : goal.returns-clause-active
 returns-clause-active c devices s there =
-    c.dispatch-self.ensures.active (files_may_go s.files s.inner.tick) s.inner.tick (c.look.ensures.active devices s there)
+    c.dispatch-self.ensures.active (files_may_go s.files s.processes.tick) s.processes.tick (c.look.ensures.active devices s there)
 
 pub returns-clause-step : goal.returns-clause-step
 returns-clause-step c devices s there =
-    let m = s.inner in
+    let m = s.processes in
     let looked = c.look.new.self in
     let now = c.look.ensures.represents devices s there in
     let io = files_may_go s.files m.tick in
     let active = c.look.ensures.active devices s there in
-    let who : c.dispatch-self.result ≡ (choice_of io m).chosen = c.dispatch-self.ensures.chosen io m active now.inner in
-    let t : State = record s { inner = after_choice io m; chosen = option_map (λ (p : Pid). p.0) (choice_of io m).chosen } in
+    let who : c.dispatch-self.result ≡ (choice_of io m).chosen = c.dispatch-self.ensures.chosen io m active now.processes in
+    let t : State = record s { processes = after_choice io m; chosen = option_map (λ (p : Pid). p.0) (choice_of io m).chosen } in
     let new : Kernel = record looked { processes = c.dispatch-self.new.s; chosen = c.dispatch-self.result; executed = 0 } in
     let chooses : Choose s t = refl in (
       t,
       chooses,
       record {
-        inner = c.dispatch-self.ensures.tied io m active now.inner;
+        processes = c.dispatch-self.ensures.tied io m active now.processes;
         files = now.files;
         is = λ i. record {
-          inner = after_choice io m;
+          processes = after_choice io m;
           files = s.files;
           clock = (now.is i).clock;
           chosen = option_map (λ (p : Pid). p.0) (sym who i);

@@ -4,7 +4,7 @@ use Rattle.proc_rules.specs.declared.own.Own.{Own}
 use Rattle.proc_rules.specs.declared.record.Record.{Record}
 use Rattle.proc_rules.specs.Records.{IsLiving, record_at, is_waiting}
 use Rattle.call_rules.specs.Delivery.{delivered, after_delivery}
-use Rattle.call_rules.specs.Inner.{Inner, no_own, own_at}
+use Rattle.call_rules.specs.Processes.{Processes, no_own, own_at}
 use Rattle.io_rules.specs.Io.{Io}
 use Rattle.io_rules.specs.Waiting.{interrupted_count}
 use Rattle.file_rules.specs.Files.{Files}
@@ -43,26 +43,26 @@ deliver-requires-clause-pending c =
 
 module _ (c : After-deliver) where
   -- the processes that the signal finds
-  abbrev found : Inner → Inner
+  abbrev found : Processes → Processes
   found m = broken_off m c.args.p.0 (interrupted_count c.args.self.now.files.io c.args.p.0)
 
-  tied_found : (m : Inner) → RepresentsProcesses c.args.self.now.processes m → RepresentsProcesses c.break_off.new.self.processes (found m)
+  tied_found : (m : Processes) → RepresentsProcesses c.args.self.now.processes m → RepresentsProcesses c.break_off.new.self.processes (found m)
   tied_found m tied = c.break_off.ensures.tied m tied
 
-  signal_found : (m : Inner) → RepresentsProcesses c.args.self.now.processes m → (record_at (found m).records c.args.p.0).signal ≡ Some c.args.signal
+  signal_found : (m : Processes) → RepresentsProcesses c.args.self.now.processes m → (record_at (found m).records c.args.p.0).signal ≡ Some c.args.signal
   signal_found m tied =
-      ap (λ (s : Inner). (record_at s.records c.args.p.0).signal) (tied_found m tied).is ∙ c.break_off.ensures.signal ∙ signal_there c.args.self.now c.args.p c.args.signal c.requires.next
+      ap (λ (s : Processes). (record_at s.records c.args.p.0).signal) (tied_found m tied).is ∙ c.break_off.ensures.signal ∙ signal_there c.args.self.now c.args.p c.args.signal c.requires.next
 
   ticks : c.deliver.new.self.tick ≡ c.args.self.now.processes.tick
   ticks =
-      tick-kept c.args.self.now.processes c.deliver.new.self (λ (m : Inner). after_delivery (found m) c.args.p.0 (delivered (found m) c.args.p.0 c.args.signal))
+      tick-kept c.args.self.now.processes c.deliver.new.self (λ (m : Processes). after_delivery (found m) c.args.p.0 (delivered (found m) c.args.p.0 c.args.signal))
       (λ m tied. c.deliver.ensures.tied (found m) c.args.signal (tied_found m tied) (signal_found m tied))
       (λ m. delivery-tick (found m) c.args.p.0 c.args.signal ∙ broken-tick m c.args.p.0 (interrupted_count c.args.self.now.files.io c.args.p.0))
 
   -- they are those of the machine
-  found_is : (devices : Outside) (s : State) → Represents c.args.self.now devices s → found s.inner ≡ before_delivery s c.args.p.0
+  found_is : (devices : Outside) (s : State) → Represents c.args.self.now devices s → found s.processes ≡ before_delivery s c.args.p.0
   found_is devices s tied =
-      ap (λ (io : Io). broken_off s.inner c.args.p.0 (interrupted_count io c.args.p.0)) (sym tied.files.io)
+      ap (λ (io : Io). broken_off s.processes c.args.p.0 (interrupted_count io c.args.p.0)) (sym tied.files.io)
 
 pub returns-in-Ended-clause-event : goal.returns-in-Ended-clause-event
 returns-in-Ended-clause-event c devices =
@@ -73,21 +73,21 @@ returns-in-Ended-clause-event c devices =
     let act = Delivery c.args.signal in
     let next = c.requires.next in record {
       step = λ _ s tied.
-          let m = found here s.inner in
+          let m = found here s.processes in
           let d = delivered m p.0 c.args.signal in
-          let end = c.deliver.ensures.end m c.args.signal (tied_found here s.inner tied.inner) (signal_found here s.inner tied.inner) in
+          let end = c.deliver.ensures.end m c.args.signal (tied_found here s.processes tied.processes) (signal_found here s.processes tied.processes) in
           let before = found_is here devices s tied in
           let left = files_after_delivery s.files p.0 (delivered (before_delivery s p.0) p.0 c.args.signal) in
           let stands : StandsFor c.end.new.self devices.drives left = subst (λ (files : Files). StandsFor c.end.new.self devices.drives files)
-          (ended-so s.files p.0 ∙ files-ended-so d c.deliver.result end c.in-Ended.is s.files p.0 ∙ ap (λ (m : Inner). files_after_delivery s.files p.0 (delivered m p.0 c.args.signal)) before)
+          (ended-so s.files p.0 ∙ files-ended-so d c.deliver.result end c.in-Ended.is s.files p.0 ∙ ap (λ (m : Processes). files_after_delivery s.files p.0 (delivered m p.0 c.args.signal)) before)
           (c.end.ensures devices.drives (files_interrupted s.files p.0) (c.break_off.ensures.files devices.drives s.files tied.files)) in
           event-here old p act next devices s tied new _ (after_delivery m p.0 d) left c.break_off.ensures.chosen
-          c.break_off.ensures.clock (c.deliver.ensures.tied m c.args.signal (tied_found here s.inner tied.inner)
-          (signal_found here s.inner tied.inner)) stands (never-known new) (
-            ends-so d c.deliver.result end c.in-Ended.is ∙ ap (λ (m : Inner). delivery_end
+          c.break_off.ensures.clock (c.deliver.ensures.tied m c.args.signal (tied_found here s.processes tied.processes)
+          (signal_found here s.processes tied.processes)) stands (never-known new) (
+            ends-so d c.deliver.result end c.in-Ended.is ∙ ap (λ (m : Processes). delivery_end
                 (delivered m p.0 c.args.signal)) before,
             (λ i. record s {
-              inner = after_delivery (before i) p.0 (delivered (before i) p.0 c.args.signal);
+              processes = after_delivery (before i) p.0 (delivered (before i) p.0 c.args.signal);
               files =
                   left;
             }),
@@ -114,21 +114,21 @@ returns-in_default c =
     c.in_default.not-Ended in record {
       event = λ devices. record {
         step = λ _ s tied.
-            let m = found here s.inner in
+            let m = found here s.processes in
             let d = delivered m p.0 c.args.signal in
-            let end = c.deliver.ensures.end m c.args.signal (tied_found here s.inner tied.inner) (signal_found here s.inner tied.inner) in
+            let end = c.deliver.ensures.end m c.args.signal (tied_found here s.processes tied.processes) (signal_found here s.processes tied.processes) in
             let before = found_is here devices s tied in
             let left = files_after_delivery s.files p.0 (delivered (before_delivery s p.0) p.0 c.args.signal) in
             let stands : StandsFor c.break_off.new.self.files devices.drives left = subst (λ (files : Files). StandsFor c.break_off.new.self.files devices.drives files)
-            (files-goes-so d c.deliver.result end c.in_default.not-Ended s.files p.0 ∙ ap (λ (m : Inner). files_after_delivery s.files p.0 (delivered m p.0 c.args.signal)) before)
+            (files-goes-so d c.deliver.result end c.in_default.not-Ended s.files p.0 ∙ ap (λ (m : Processes). files_after_delivery s.files p.0 (delivered m p.0 c.args.signal)) before)
             (c.break_off.ensures.files devices.drives s.files tied.files) in
             event-here old p act next devices s tied new _ (after_delivery m p.0 d) left c.break_off.ensures.chosen
-            c.break_off.ensures.clock (c.deliver.ensures.tied m c.args.signal (tied_found here s.inner tied.inner)
-            (signal_found here s.inner tied.inner)) stands (never-known new) (
-              goes-so d c.deliver.result end c.in_default.not-Ended ∙ ap (λ (m : Inner). delivery_end
+            c.break_off.ensures.clock (c.deliver.ensures.tied m c.args.signal (tied_found here s.processes tied.processes)
+            (signal_found here s.processes tied.processes)) stands (never-known new) (
+              goes-so d c.deliver.result end c.in_default.not-Ended ∙ ap (λ (m : Processes). delivery_end
                   (delivered m p.0 c.args.signal)) before,
               (λ i. record s {
-                inner = after_delivery (before i) p.0 (delivered (before i) p.0 c.args.signal);
+                processes = after_delivery (before i) p.0 (delivered (before i) p.0 c.args.signal);
                 files = left;
               }),
             );
@@ -142,26 +142,26 @@ returns-in_default c =
       progress = λ _.
           let count = interrupted_count old.files.io p.0 in
           let places : length old.processes.own.items ≡ 33 = sym old.processes.own.ok.0 ∙ old.processes.places in
-          let within = living-within m.records p.0 (subst (λ (s : Inner). IsLiving s.records p.0) (sym there.is) next.lives) in
+          let within = living-within m.records p.0 (subst (λ (s : Processes). IsLiving s.records p.0) (sym there.is) next.lives) in
           let (regs, record_is) = broken-record m p.0 count within in
           let long : length (found here m).own ≡ length m.own = ap length (broken-own m p.0 count) in
-          let inside : p.0 < length (found here m).own = omega (arith, next.process.1, places, long, ap (λ (s : Inner). length s.own) there.is) in
+          let inside : p.0 < length (found here m).own = omega (arith, next.process.1, places, long, ap (λ (s : Processes). length s.own) there.is) in
           let within_found : p.0 < length (found here m).records = living-within (found here m).records p.0
-          (subst (λ (s : Inner). IsLiving s.records p.0) (sym (tied_found here m there).is)
+          (subst (λ (s : Processes). IsLiving s.records p.0) (sym (tied_found here m there).is)
           c.break_off.ensures.lives) in
           let no_call : is_waiting (record_at (found here m).records p.0).life ≡ false → (own_at (found here m) p.0).call ≡ None =
           (λ not. ap (λ (own : List Own). (slice_index_or own p.0 no_own).call) (broken-own m p.0 count) ∙ ap
-          (λ (s : Inner). (own_at s p.0).call) there.is ∙ call-is (slice_index_or old.processes.own.items p.0
+          (λ (s : Processes). (own_at s p.0).call) there.is ∙ call-is (slice_index_or old.processes.own.items p.0
           no_own).call (record_at old.processes.table p.0).signal
           (is_waiting (record_at old.processes.table p.0).life) c.args.signal next.next
-          (sym (ap (λ (s : Inner). is_waiting (record_at s.records p.0).life) there.is) ∙ sym
+          (sym (ap (λ (s : Processes). is_waiting (record_at s.records p.0).life) there.is) ∙ sym
           (ap (λ (r : Record). is_waiting r.life) record_is) ∙ not)) in
           let quiet = delivered-quiet (found here m) p.0 within_found inside no_call c.args.signal t ok in
-          let now : RepresentsProcesses c.deliver.new.self t = subst (λ (d : Result Inner ℕ). RepresentsProcesses
+          let now : RepresentsProcesses c.deliver.new.self t = subst (λ (d : Result Processes ℕ). RepresentsProcesses
           c.deliver.new.self (after_delivery (found here m) p.0 d)) ok (c.deliver.ensures.tied (found here m)
           c.args.signal (tied_found here m there) (signal_found here m there)) in
-          let nothing = nothing-pending c.deliver.new.self p.0 (sym (ap (λ (s : Inner). (own_at s p.0).call) now.is) ∙
-          quiet.call) (sym (ap (λ (s : Inner). (record_at s.records p.0).signal) now.is) ∙ quiet.signal) in
+          let nothing = nothing-pending c.deliver.new.self p.0 (sym (ap (λ (s : Processes). (own_at s p.0).call) now.is) ∙
+          quiet.call) (sym (ap (λ (s : Processes). (record_at s.records p.0).signal) now.is) ∙ quiet.signal) in
           omega (arith, nothing, delivery-pending old p c.args.signal next, pending-is old p new (c.break_off.ensures.chosen ∙ next.chosen));
       executed = c.break_off.ensures.executed;
     }

@@ -6,7 +6,7 @@ use Rattle.os9_base.specs.declared.call.CallEnd.{CallEnd}
 use Rattle.os9_base.specs.declared.call.CallEnd.TheVariants.{Wait}
 use Rattle.device_table.specs.Seen.{terminal_states}
 use Rattle.call_rules.specs.Attempts.{after_attempt}
-use Rattle.call_rules.specs.Inner.{Inner, no_own}
+use Rattle.call_rules.specs.Processes.{Processes, no_own}
 use Rattle.file_rules.specs.Attempts.{asker_of}
 use Rattle.file_rules.specs.Files.{Files}
 use Rattle.file_state.specs.Attempt.{Standing, standing}
@@ -52,10 +52,10 @@ begin-requires-clause-begins g c is done =
     let after : Standing = standing (λ box. (g.dyn-1.0.entry box.vtable).1) new.processes new.files c.try_load-end.new.devices in
     let (s, tied) = c.requires.stands in
     let (time, is_time) = some-time old _ s tied in
-    let it = c.try_load-end.ensures.call time s.inner s.files tied.inner tied.files tied.run.locked.state.running.kinds in (
+    let it = c.try_load-end.ensures.call time s.processes s.files tied.processes tied.files tied.run.locked.state.running.kinds in (
       subst (λ (end : CallEnd). LivesOn end new.processes.table p) done c.try_load-end.ensures.lives,
-      child-begins c.args.call s.inner s.files time terms p before after tied.run.locked.state.running.kept (places-there old.processes s.inner tied.inner)
-          (lives-there old c.args.p (Attempt c.args.code) c.requires.next _ s tied) is (subst (λ (end : CallEnd). LoadsSo c.args.call s.inner s.files time terms p end before after) done it),
+      child-begins c.args.call s.processes s.files time terms p before after tied.run.locked.state.running.kept (places-there old.processes s.processes tied.processes)
+          (lives-there old c.args.p (Attempt c.args.code) c.requires.next _ s tied) is (subst (λ (end : CallEnd). LoadsSo c.args.call s.processes s.files time terms p end before after) done it),
     )
 
 pub tell_end-requires-clause-lives : goal.tell_end-requires-clause-lives
@@ -77,27 +77,27 @@ returns-clause-event g c =
     let long : vec_len terms ≡ length before.terms = terms.ok.0 ∙ sym (simp length-map) in
     let (s0, tied0) = c.requires.stands in
     let (time0, is_time0) = some-time old before s0 tied0 in
-    let first = c.try_load-end.ensures.call time0 s0.inner s0.files tied0.inner tied0.files tied0.run.locked.state.running.kinds in
-    let told0 : Comes s0.inner p.0 first.result end c.begin.new.self.processes = subst (λ (processes : ProcState).
-    Comes s0.inner p.0 first.result end processes) (sym c.begin.ensures.processes) first.comes in
-    let (there0, same0) = c.tell_end.ensures.told s0.inner first.result told0 in
+    let first = c.try_load-end.ensures.call time0 s0.processes s0.files tied0.processes tied0.files tied0.run.locked.state.running.kinds in
+    let told0 : Comes s0.processes p.0 first.result end c.begin.new.self.processes = subst (λ (processes : ProcState).
+    Comes s0.processes p.0 first.result end processes) (sym c.begin.ensures.processes) first.comes in
+    let (there0, same0) = c.tell_end.ensures.told s0.processes first.result told0 in
     let over = sym (c.event_end.ensures ∙ ap event_end_of same0) in record {
       step = λ _ s tied.
           let (time, is_time) = some-time old before s tied in
-          let it = c.try_load-end.ensures.call time s.inner s.files tied.inner tied.files tied.run.locked.state.running.kinds in
-          let told : Comes s.inner p.0 it.result end c.begin.new.self.processes = subst (λ (processes : ProcState).
-          Comes s.inner p.0 it.result end processes) (sym c.begin.ensures.processes) it.comes in
-          let (there, same) = c.tell_end.ensures.told s.inner it.result told in
+          let it = c.try_load-end.ensures.call time s.processes s.files tied.processes tied.files tied.run.locked.state.running.kinds in
+          let told : Comes s.processes p.0 it.result end c.begin.new.self.processes = subst (λ (processes : ProcState).
+          Comes s.processes p.0 it.result end processes) (sym c.begin.ensures.processes) it.comes in
+          let (there, same) = c.tell_end.ensures.told s.processes it.result told in
           let left : Files = begun_on c.args.call it.left p.0 it.result in
           let begun : StandsFor c.begin.new.self.files after.drives left = subst (λ (files : Files). StandsFor
-          c.begin.new.self.files after.drives files) (begun-tied c.args.call s.inner p.0 it.left tried.processes
+          c.begin.new.self.files after.drives files) (begun-tied c.args.call s.processes p.0 it.left tried.processes
           it.result end it.comes) (c.begin.ensures.files after.drives it.left it.stands) in
           let stands : StandsFor new.files after.drives left = subst (λ (files : FileState). StandsFor files after.drives left) (sym c.tell_end.ensures.files) begun in
           let terms_here = terms-are old p act next before s tied in
-          let attempt : AttemptsLoad c.args.call s.inner (asker_of s.inner p.0 time) s.files (length s.terms) p.0
-          it.result it.left = subst (λ (n : ℕ). AttemptsLoad c.args.call s.inner (asker_of s.inner p.0 time)
+          let attempt : AttemptsLoad c.args.call s.processes (asker_of s.processes p.0 time) s.files (length s.terms) p.0
+          it.result it.left = subst (λ (n : ℕ). AttemptsLoad c.args.call s.processes (asker_of s.processes p.0 time)
           s.files n p.0 it.result it.left) (long ∙ sym (ap (λ terms. length terms) terms_here)) it.attempted in
-          event-then old p act next before s tied (forgets new) after _ (after_attempt s.inner p.0 it.result) left s.clock
+          event-then old p act next before s tied (forgets new) after _ (after_attempt s.processes p.0 it.result) left s.clock
           s.terms (c.tell_end.ensures.chosen ∙ c.begin.ensures.chosen ∙ c.try_load-end.ensures.chosen) there
           stands
           (clock-is old p act next before s tied ∙ sym (c.tell_end.ensures.clock ∙ c.begin.ensures.clock ∙ c.try_load-end.ensures.clock))
@@ -119,8 +119,8 @@ returns-clause-event g c =
           let waiting : end ≡ Wait = waits-so end (sym c.event_end.ensures ∙ is) in
           let standing_before : Standing = standing (λ box. (g.dyn-1.0.entry box.vtable).1) old.processes old.files c.args.devices.now in
           let standing_after : Standing = standing (λ box. (g.dyn-1.0.entry box.vtable).1) tried.processes tried.files c.try_load-end.new.devices in
-          let at_wait : LoadsSo c.args.call s0.inner s0.files time0 (vec_len terms) p.0 Wait standing_before
-          standing_after = subst (λ (end : CallEnd). LoadsSo c.args.call s0.inner s0.files time0 (vec_len terms)
+          let at_wait : LoadsSo c.args.call s0.processes s0.files time0 (vec_len terms) p.0 Wait standing_before
+          standing_after = subst (λ (end : CallEnd). LoadsSo c.args.call s0.processes s0.files time0 (vec_len terms)
           p.0 end standing_before standing_after) waiting first in record {
             p = p;
             chosen = next.chosen;
@@ -128,7 +128,8 @@ returns-clause-event g c =
             call = code-held (slice_index_or old.processes.own.items p.0 no_own).call
                 (is_waiting (record_at old.processes.table p.0).life) (record_at old.processes.table p.0).signal
                 c.args.code next.next;
-            first = λ fresh. rests-there new c.args.code p.0 c.args.call c.requires.serves (loads-rest c.args.call s0.inner s0.files time0 (vec_len terms) p.0 standing_before standing_after at_wait);
+            first = λ fresh. rests-there new c.args.code p.0 c.args.call c.requires.serves
+                (loads-rest c.args.call s0.processes s0.files time0 (vec_len terms) p.0 standing_before standing_after at_wait);
           };
       going = λ ran. (
         p,
@@ -137,14 +138,14 @@ returns-clause-event g c =
         lives-so end new.processes.table p.0 (sym c.event_end.ensures ∙ ran) c.tell_end.ensures.lives,
       );
       count = λ _.
-          sym (ap (λ (m : Inner). m.tick) there0.is)
-          ∙ load-tick c.args.call s0.inner (asker_of s0.inner p.0 time0) s0.files (vec_len terms) p.0 first.result first.left (lives-there old p act next before s0 tied0) first.attempted
-          ∙ ap (λ (m : Inner). m.tick) tied0.inner.is;
+          sym (ap (λ (m : Processes). m.tick) there0.is)
+          ∙ load-tick c.args.call s0.processes (asker_of s0.processes p.0 time0) s0.files (vec_len terms) p.0 first.result first.left (lives-there old p act next before s0 tied0) first.attempted
+          ∙ ap (λ (m : Processes). m.tick) tied0.processes.is;
       calls = λ s now tied is.
           let service = load_in_machine c.args.call in
           attempt-within old p c.args.code next before s tied service c.requires.serves now after
-          (subst (λ (n : ℕ). CalledAtMost (service_calls service s.inner p.0 now s.files n) before.drives
-          after.drives) long (c.try_load-end.ensures.call now s.inner s.files tied.inner tied.files
+          (subst (λ (n : ℕ). CalledAtMost (service_calls service s.processes p.0 now s.files n) before.drives
+          after.drives) long (c.try_load-end.ensures.call now s.processes s.files tied.processes tied.files
           tied.run.locked.state.running.kinds).calls);
       images = keeps-media old before after first.media_kept;
     }
@@ -157,11 +158,12 @@ returns-clause-progress g c ran =
     let end = c.try_load-end.result in
     let (s, tied) = c.requires.stands in
     let (time, is_time) = some-time old _ s tied in
-    let it = c.try_load-end.ensures.call time s.inner s.files tied.inner tied.files tied.run.locked.state.running.kinds in
-    let told : Comes s.inner p.0 it.result end c.begin.new.self.processes = subst (λ (processes : ProcState). Comes s.inner p.0 it.result end processes) (sym c.begin.ensures.processes) it.comes in
-    let (there, same) = c.tell_end.ensures.told s.inner it.result told in
-    let (t, regs, is) = goes-on it.result (sym (c.event_end.ensures ∙ ap event_end_of same) ∙ ran) s.inner p.0 in
-    let none = no-call new.processes t p.0 regs c.requires.next.process.1 (subst (λ (m : Inner). RepresentsProcesses new.processes m) is there) in
+    let it = c.try_load-end.ensures.call time s.processes s.files tied.processes tied.files tied.run.locked.state.running.kinds in
+    let told : Comes s.processes p.0 it.result end c.begin.new.self.processes =
+        subst (λ (processes : ProcState). Comes s.processes p.0 it.result end processes) (sym c.begin.ensures.processes) it.comes in
+    let (there, same) = c.tell_end.ensures.told s.processes it.result told in
+    let (t, regs, is) = goes-on it.result (sym (c.event_end.ensures ∙ ap event_end_of same) ∙ ran) s.processes p.0 in
+    let none = no-call new.processes t p.0 regs c.requires.next.process.1 (subst (λ (m : Processes). RepresentsProcesses new.processes m) is there) in
     attempt-lowers old p c.args.code c.requires.next new (c.tell_end.ensures.chosen ∙ c.begin.ensures.chosen ∙ c.try_load-end.ensures.chosen) none
 
 pub returns-clause-terminals : goal.returns-clause-terminals
@@ -176,5 +178,5 @@ returns-clause-drives g c =
     let now = c.try_load-end.new.devices.drives in
     let view = boxed_seen (λ box. (g.dyn-1.0.entry box.vtable).1) in
     now.ok.0 ∙ sym (length-map now.items view)
-    ∙ (c.try_load-end.ensures.call time s.inner s.files tied.inner tied.files tied.run.locked.state.running.kinds).calls.as_many
+    ∙ (c.try_load-end.ensures.call time s.processes s.files tied.processes tied.files tied.run.locked.state.running.kinds).calls.as_many
     ∙ length-map was.items view ∙ sym was.ok.0

@@ -1,7 +1,7 @@
 use Rattle.std.proofs.Common.{◌≡◌, ◌≤◌, ◌<◌, ◌∙◌, ℕ, refl, sym, ap, subst, arith}
 use Rattle.std.specs.Prelude.{option_and_then}
 use Rattle.os9_sched.specs.declared.member.Wait.{Wait}
-use Rattle.call_rules.specs.Inner.{Inner}
+use Rattle.call_rules.specs.Processes.{Processes}
 use Rattle.call_rules.specs.IoReady.{has_io}
 use Rattle.process_choice.specs.Active.{AreActiveAt}
 use Rattle.os9_kernel.specs.Causes.{awaited}
@@ -22,12 +22,12 @@ returns-clause-represents c devices s there =
     let settled = c.settle.new.s in
     let known = c.asked-self.result in
     let until = c.min-self.result in
-    let kept = tick-kept old.processes settled (λ (m : Inner). m) c.settle.ensures.tied (λ m. refl) in
+    let kept = tick-kept old.processes settled (λ (m : Processes). m) c.settle.ensures.tied (λ m. refl) in
     let goes : (p : ℕ) → p < 33 → has_io known.ready p ≡ may_go_in old.files settled.tick p =
     (λ p few. c.asked-self.ensures.may_go there.known p few ∙ ap (λ (tick : ℕ). may_go_in old.files tick p) (sym kept)) in
     let early : until ≤ known.until = omega (arith, c.min-self.ensures) in
     let sooner : until ≤ c.next_sleep.result = omega (arith, c.min-self.ensures) in record {
-      inner = c.settle.ensures.tied s.inner there.inner;
+      processes = c.settle.ensures.tied s.processes there.processes;
       files = there.files;
       is = there.is;
       run = there.run;
@@ -46,7 +46,7 @@ returns-clause-active c devices s there =
     let old = c.args.self.now in
     let settled = c.settle.new.s in
     let known = c.asked-self.result in
-    let kept = tick-kept old.processes settled (λ (m : Inner). m) c.settle.ensures.tied (λ m. refl) in
+    let kept = tick-kept old.processes settled (λ (m : Processes). m) c.settle.ensures.tied (λ m. refl) in
     let goes : (p : ℕ) → p < 33 → has_io known.ready p ≡ may_go_in old.files settled.tick p =
     (λ p few. c.asked-self.ensures.may_go there.known p few ∙ ap (λ (tick : ℕ). may_go_in old.files tick p) (sym kept)) in
     active-there old devices s there settled (subst (λ (tick : ℕ). AreActiveAt (may_go_in old.files tick) tick settled) kept
@@ -54,4 +54,4 @@ returns-clause-active c devices s there =
 
 pub returns-clause-count : goal.returns-clause-count
 returns-clause-count c =
-    tick-kept c.args.self.now.processes c.settle.new.s (λ (m : Inner). m) c.settle.ensures.tied (λ m. refl)
+    tick-kept c.args.self.now.processes c.settle.new.s (λ (m : Processes). m) c.settle.ensures.tied (λ m. refl)

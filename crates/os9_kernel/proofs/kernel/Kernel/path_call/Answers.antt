@@ -9,7 +9,7 @@ use Rattle.os9_sched.specs.Members.{member_of, wait_at}
 use Rattle.os9_sched.specs.declared.member.Cause.{Cause}
 use Rattle.call_rules.specs.Attempts.{after_attempt}
 use Rattle.call_rules.specs.CallResult.{CallResult}
-use Rattle.call_rules.specs.Inner.{Inner, no_own}
+use Rattle.call_rules.specs.Processes.{Processes, no_own}
 use Rattle.call_rules.specs.declared.proc_call.ProcCall.{ProcCall}
 use Rattle.file_rules.specs.Memory.{LacksEntry, LacksMemory}
 use Rattle.file_dispatch.specs.Attempts.{MayAttempt}
@@ -94,19 +94,19 @@ returns-clause-event g c =
     let (time, is_time) = time-shown old before s0 tied0 in
     let fits = time-for old.clock old.processes.tick c.args.call made time c.time_for-time.ensures is_time in record {
       step = λ ran s tied.
-          let it = ((c.attempt-end.ensures.call time fits s.inner s.files tied.inner tied.files tied.run.locked.state.running.kinds).attempted (other ran)).attempts in
-          let (there, same) = c.tell_end.ensures.told s.inner it.result it.comes in
-          let attempt : FileAttempts c.args.call s.inner s.files time p.0 it.result it.left s.terms after.terms =
-          subst (λ (terms : List TerminalState). FileAttempts c.args.call s.inner s.files time p.0 it.result
+          let it = ((c.attempt-end.ensures.call time fits s.processes s.files tied.processes tied.files tied.run.locked.state.running.kinds).attempted (other ran)).attempts in
+          let (there, same) = c.tell_end.ensures.told s.processes it.result it.comes in
+          let attempt : FileAttempts c.args.call s.processes s.files time p.0 it.result it.left s.terms after.terms =
+          subst (λ (terms : List TerminalState). FileAttempts c.args.call s.processes s.files time p.0 it.result
           it.left terms after.terms) (sym (terms-are old p act next before s tied)) it.attempt in
           let stands : StandsFor new.files after.drives it.left = subst (λ (files : FileState). StandsFor files after.drives it.left) (sym settled_is) it.stands in
           let rest : Rest = record { files = it.left; clock = s.clock; terms = after.terms } in
-          let t : State = record s { inner = after_attempt s.inner p.0 it.result; files = it.left; terms = after.terms } in
-          let ticks_kept = sym (ap (λ (m : Inner). m.tick) there.is)
-          ∙ attempt-tick c.args.call s.inner s.files time p.0 it.result it.left s.terms after.terms attempt
-          ∙ ap (λ (m : Inner). m.tick) tied.inner.is in
-          let lives : IsLiving t.inner.records p.0 = subst (λ (m : Inner). IsLiving m.records p.0) (sym there.is)
-          (path-lives c.attempt-end.result c.args.call s.inner s.files time p.0 it.result it.left s.terms after.terms attempt same new.processes.table c.tell_end.ensures.lives) in
+          let t : State = record s { processes = after_attempt s.processes p.0 it.result; files = it.left; terms = after.terms } in
+          let ticks_kept = sym (ap (λ (m : Processes). m.tick) there.is)
+          ∙ attempt-tick c.args.call s.processes s.files time p.0 it.result it.left s.terms after.terms attempt
+          ∙ ap (λ (m : Processes). m.tick) tied.processes.is in
+          let lives : IsLiving t.processes.records p.0 = subst (λ (m : Processes). IsLiving m.records p.0) (sym there.is)
+          (path-lives c.attempt-end.result c.args.call s.processes s.files time p.0 it.result it.left s.terms after.terms attempt same new.processes.table c.tell_end.ensures.lives) in
           let marked : (q : ℕ) (cause : Cause) → Concerns c.marks_with-self.result q cause → Concerns new.known.marks q cause =
           (λ q cause. subst (λ (known : Known). Concerns known.marks q cause) (sym c.tell_end.ensures.known)) in
           let known-then : Event s c.event_end.result t → IsKnown new = (λ event.
@@ -116,10 +116,10 @@ returns-clause-event g c =
           (ap (λ (known : Known). known.ready) c.tell_end.ensures.known) (ap (λ (known : Known). known.until) c.tell_end.ensures.known) ticks_kept
           (λ q cause concerned. marked q cause (c.marks_with-self.ensures.kept q cause concerned))
           (λ cause. marked p.0 cause (c.marks_with-self.ensures.own cause))
-          (λ q cause now named. marked q cause (c.marks_with-self.ensures.waiters s.inner now q cause tied.inner
-          (ap (λ (io : Io). named_cause io p.0 (number_in c.args.call (asker_of s.inner p.0 now))) (sym tied.files.io) ∙ named)))
+          (λ q cause now named. marked q cause (c.marks_with-self.ensures.waiters s.processes now q cause tied.processes
+          (ap (λ (io : Io). named_cause io p.0 (number_in c.args.call (asker_of s.processes p.0 now))) (sym tied.files.io) ∙ named)))
           tied.known) in
-          event-then old p act next before s tied new after _ (after_attempt s.inner p.0 it.result) it.left s.clock
+          event-then old p act next before s tied new after _ (after_attempt s.processes p.0 it.result) it.left s.clock
           after.terms c.tell_end.ensures.chosen there stands (clock-is old p act next before s tied ∙ sym
           c.tell_end.ensures.clock) refl
           (λ event. known-then event) (
@@ -141,16 +141,17 @@ returns-clause-event g c =
             now = time;
             is_now = now-here old before s tied time is_time;
             lacks =
-                elim ((c.attempt-end.ensures.call time fits s.inner s.files tied.inner tied.files tied.run.locked.state.running.kinds).memory is) [
+                elim ((c.attempt-end.ensures.call time fits s.processes s.files tied.processes tied.files tied.run.locked.state.running.kinds).memory is) [
                   | inl byte ↦
                       inl (record {
-                        lacks = subst (λ (terms : List TerminalState). LacksMemory c.args.call s.inner s.files time p.0 terms after.terms) (sym (terms-are old p act next before s tied)) byte.lacks;
+                        lacks = subst (λ (terms : List TerminalState). LacksMemory c.args.call s.processes s.files time p.0 terms after.terms) (sym (terms-are old p act next before s tied))
+                            byte.lacks;
                         drives = holds-still old before s tied after byte.views;
                       })
                   | inr entry ↦
                       inr (record {
                         done = entry.done;
-                        lacks = subst (λ (terms : List TerminalState). LacksEntry c.args.call s.inner s.files time p.0
+                        lacks = subst (λ (terms : List TerminalState). LacksEntry c.args.call s.processes s.files time p.0
                             entry.done terms after.terms) (sym (terms-are old p act next before s tied)) entry.lacks;
                         drives = holds-mounted (record s { files = entry.done }) after.drives entry.drives c.attempt-end.new.files.disks entry.mounted;
                       })
@@ -159,13 +160,13 @@ returns-clause-event g c =
       waits = λ is.
           let waiting = waits-so c.attempt-end.result (sym c.event_end.ensures ∙ is) in
           let now = c.attempt-end.new.s in
-          let it = ((c.attempt-end.ensures.call time fits s0.inner s0.files tied0.inner tied0.files
+          let it = ((c.attempt-end.ensures.call time fits s0.processes s0.files tied0.processes tied0.files
           tied0.run.locked.state.running.kinds).attempted (λ out. let no : Wait ≡ NoMemory = sym waiting ∙ out in cc)).attempts in
           let effect = io_effect it.attempt.effect in
-          let came : Comes s0.inner p.0 (result_of s0.inner p.0 effect) Wait now = subst
-          (λ (result : CallResult). Comes s0.inner p.0 result Wait now) it.attempt.result_is
-          (subst (λ (end : CallEnd). Comes s0.inner p.0 it.result end now) waiting it.comes) in
-          let same : old.processes.table ≡ now.table = sym (records-kept s0.inner p.0 effect now came ∙ ap (λ (m : Inner). m.records) tied0.inner.is) in record {
+          let came : Comes s0.processes p.0 (result_of s0.processes p.0 effect) Wait now = subst
+          (λ (result : CallResult). Comes s0.processes p.0 result Wait now) it.attempt.result_is
+          (subst (λ (end : CallEnd). Comes s0.processes p.0 it.result end now) waiting it.comes) in
+          let same : old.processes.table ≡ now.table = sym (records-kept s0.processes p.0 effect now came ∙ ap (λ (m : Processes). m.records) tied0.processes.is) in record {
             p = p;
             chosen = next.chosen;
             code = c.args.code;
@@ -187,15 +188,15 @@ returns-clause-event g c =
           };
       going = λ ran. (p, c.tell_end.ensures.chosen ∙ next.chosen, lives-so c.attempt-end.result new.processes.table p.0 (sym c.event_end.ensures ∙ ran) c.tell_end.ensures.lives);
       count = λ ran.
-          let it = ((c.attempt-end.ensures.call time fits s0.inner s0.files tied0.inner tied0.files tied0.run.locked.state.running.kinds).attempted (other ran)).attempts in
-          let (there, same) = c.tell_end.ensures.told s0.inner it.result it.comes in
-          sym (ap (λ (m : Inner). m.tick) there.is)
-          ∙ attempt-tick c.args.call s0.inner s0.files time p.0 it.result it.left before.terms after.terms it.attempt
-          ∙ ap (λ (m : Inner). m.tick) tied0.inner.is;
+          let it = ((c.attempt-end.ensures.call time fits s0.processes s0.files tied0.processes tied0.files tied0.run.locked.state.running.kinds).attempted (other ran)).attempts in
+          let (there, same) = c.tell_end.ensures.told s0.processes it.result it.comes in
+          sym (ap (λ (m : Processes). m.tick) there.is)
+          ∙ attempt-tick c.args.call s0.processes s0.files time p.0 it.result it.left before.terms after.terms it.attempt
+          ∙ ap (λ (m : Processes). m.tick) tied0.processes.is;
       calls = λ s now tied is.
           elim (cases-memory c.attempt-end.result) [
             | inl out ↦
-                elim ((c.attempt-end.ensures.call time fits s.inner s.files tied.inner tied.files tied.run.locked.state.running.kinds).memory out) [
+                elim ((c.attempt-end.ensures.call time fits s.processes s.files tied.processes tied.files tied.run.locked.state.running.kinds).memory out) [
                   | inl byte ↦ leaves-drives old before after byte.views s now tied is
                   | inr entry ↦
                       attempt-within-at old p c.args.code next before s tied (on_paths c.args.call) c.requires.serves time now after (now-here old before s tied time is_time) is entry.calls
@@ -203,13 +204,13 @@ returns-clause-event g c =
             | inr there ↦
                 attempt-within-at old p c.args.code next before s tied (on_paths c.args.call) c.requires.serves time
                 now after (now-here old before s tied time is_time) is
-                ((c.attempt-end.ensures.call time fits s.inner s.files tied.inner tied.files
+                ((c.attempt-end.ensures.call time fits s.processes s.files tied.processes tied.files
                 tied.run.locked.state.running.kinds).attempted there).calls
           ];
       images = λ s drive tied unasked.
           elim (cases-memory c.attempt-end.result) [
             | inl out ↦
-                elim ((c.attempt-end.ensures.call time fits s.inner s.files tied.inner tied.files tied.run.locked.state.running.kinds).memory out) [
+                elim ((c.attempt-end.ensures.call time fits s.processes s.files tied.processes tied.files tied.run.locked.state.running.kinds).memory out) [
                   | inl byte ↦ keeps-drives old before after byte.views s drive tied unasked
                   | inr entry ↦
                       keeps-attempt old p c.args.code next before s tied c.args.call c.requires.serves time
@@ -219,7 +220,7 @@ returns-clause-event g c =
             | inr there ↦
                 keeps-attempt old p c.args.code next before s tied c.args.call c.requires.serves time
                 (now-here old before s tied time is_time) c.attempt-end.result after drive
-                ((c.attempt-end.ensures.call time fits s.inner s.files tied.inner tied.files
+                ((c.attempt-end.ensures.call time fits s.processes s.files tied.processes tied.files
                 tied.run.locked.state.running.kinds).attempted there).drives unasked
           ];
     }
@@ -233,10 +234,10 @@ returns-clause-progress g c ran =
     let (time, is_time) = time-shown old _ s tied in
     let fits = time-for old.clock old.processes.tick c.args.call c.time_for-time.result time c.time_for-time.ensures is_time in
     let other : c.attempt-end.result ≢ NoMemory = (λ out. let no : EventEnd.Ran ≡ EventEnd.NoMemory = sym ran ∙ c.event_end.ensures ∙ ap event_end_of out in cc) in
-    let it = ((c.attempt-end.ensures.call time fits s.inner s.files tied.inner tied.files tied.run.locked.state.running.kinds).attempted other).attempts in
-    let (there, same) = c.tell_end.ensures.told s.inner it.result it.comes in
-    let (t, regs, is) = goes-on it.result (sym (c.event_end.ensures ∙ ap event_end_of same) ∙ ran) s.inner p.0 in
-    let none = no-call new.processes t p.0 regs c.requires.next.process.1 (subst (λ (m : Inner). RepresentsProcesses new.processes m) is there) in
+    let it = ((c.attempt-end.ensures.call time fits s.processes s.files tied.processes tied.files tied.run.locked.state.running.kinds).attempted other).attempts in
+    let (there, same) = c.tell_end.ensures.told s.processes it.result it.comes in
+    let (t, regs, is) = goes-on it.result (sym (c.event_end.ensures ∙ ap event_end_of same) ∙ ran) s.processes p.0 in
+    let none = no-call new.processes t p.0 regs c.requires.next.process.1 (subst (λ (m : Processes). RepresentsProcesses new.processes m) is there) in
     attempt-lowers old p c.args.code c.requires.next new c.tell_end.ensures.chosen none
 
 pub returns-clause-drives : goal.returns-clause-drives
@@ -249,7 +250,7 @@ returns-clause-drives g c =
     let view = boxed_seen (λ box. (g.dyn-1.0.entry box.vtable).1) in
     elim (cases-memory c.attempt-end.result) [
       | inl out ↦
-          elim ((c.attempt-end.ensures.call time fits s.inner s.files tied.inner tied.files tied.run.locked.state.running.kinds).memory out) [
+          elim ((c.attempt-end.ensures.call time fits s.processes s.files tied.processes tied.files tied.run.locked.state.running.kinds).memory out) [
             | inl byte ↦
                 now.ok.0 ∙ sym (length-map now.items view) ∙ ap length byte.views ∙ length-map was.items view ∙ sym was.ok.0
             | inr entry ↦
@@ -257,6 +258,6 @@ returns-clause-drives g c =
           ]
       | inr other ↦
           now.ok.0 ∙ sym (length-map now.items view)
-          ∙ ((c.attempt-end.ensures.call time fits s.inner s.files tied.inner tied.files tied.run.locked.state.running.kinds).attempted other).calls.as_many
+          ∙ ((c.attempt-end.ensures.call time fits s.processes s.files tied.processes tied.files tied.run.locked.state.running.kinds).attempted other).calls.as_many
           ∙ length-map was.items view ∙ sym was.ok.0
     ]

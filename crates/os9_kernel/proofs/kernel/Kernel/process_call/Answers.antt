@@ -4,7 +4,7 @@ use Rattle.os9_base.specs.declared.call.CallEnd.{CallEnd}
 use Rattle.os9_sched.specs.Members.{member_of, wait_at}
 use Rattle.call_dispatch.specs.Waits.{waits_for}
 use Rattle.call_rules.specs.Attempts.{attempted, after_attempt}
-use Rattle.call_rules.specs.Inner.{Inner, no_own}
+use Rattle.call_rules.specs.Processes.{Processes, no_own}
 use Rattle.call_rules.specs.declared.proc_call.ProcCall.{ProcCall}
 use Rattle.file_rules.specs.Files.{Files}
 use Rattle.file_state.specs.Tie.{StandsFor}
@@ -39,22 +39,22 @@ returns-clause-event c devices =
     let p = c.args.p in
     let act = Attempt c.args.code in
     let next = c.requires.next in
-    let ticks_kept = tick-kept old.processes c.attempt-end.new.s (λ (m : Inner). after_attempt m p.0 (attempted c.args.call m p.0))
+    let ticks_kept = tick-kept old.processes c.attempt-end.new.s (λ (m : Processes). after_attempt m p.0 (attempted c.args.call m p.0))
     (λ m there. (c.attempt-end.ensures.call m there).0) (λ m. attempt-tick m p.0 c.args.call) in
     let known_then : (s : State) → Represents old devices s → IsKnown new =
     (λ s tied. c.follow.ensures.known (known-still old (record old { processes = c.attempt-end.new.s }) refl refl refl ticks_kept tied.known)) in record {
       step = λ _ s tied.
-          let (there, ends) = c.attempt-end.ensures.call s.inner tied.inner in
+          let (there, ends) = c.attempt-end.ensures.call s.processes tied.processes in
           let (time, is_time) = some-time old devices s tied in
-          let result = attempted c.args.call s.inner p.0 in
+          let result = attempted c.args.call s.processes p.0 in
           let left = files_after_call s.files p.0 result in
-          let now : RepresentsProcesses new.processes (after_attempt s.inner p.0 result) = subst
-          (λ (processes : ProcState). RepresentsProcesses processes (after_attempt s.inner p.0 result))
+          let now : RepresentsProcesses new.processes (after_attempt s.processes p.0 result) = subst
+          (λ (processes : ProcState). RepresentsProcesses processes (after_attempt s.processes p.0 result))
           (sym c.follow.ensures.processes) there in
           let stands : StandsFor new.files devices.drives left = subst (λ (files : Files). StandsFor new.files
           devices.drives files) (ap (λ (end : CallEnd). files_then end s.files p.0) ends ∙ files-tied s.files p.0
           result) (c.follow.ensures.files devices.drives s.files tied.files) in
-          event-here old p act next devices s tied new _ (after_attempt s.inner p.0 result) left c.follow.ensures.chosen c.follow.ensures.clock now stands (known_then s tied) (
+          event-here old p act next devices s tied new _ (after_attempt s.processes p.0 result) left c.follow.ensures.chosen c.follow.ensures.clock now stands (known_then s tied) (
             result,
             with_files s left,
             (
@@ -109,6 +109,6 @@ returns-clause-progress c ran =
     let (m, there) = some-machine old.processes in
     let (now, ends) = c.attempt-end.ensures.call m there in
     let (t, regs, is) = goes-on (attempted c.args.call m p.0) (sym (c.event_end.ensures ∙ ap event_end_of ends) ∙ ran) m p.0 in
-    let none = no-call c.attempt-end.new.s t p.0 regs c.requires.next.process.1 (subst (λ (x : Inner). RepresentsProcesses c.attempt-end.new.s x) is now) in
+    let none = no-call c.attempt-end.new.s t p.0 regs c.requires.next.process.1 (subst (λ (x : Processes). RepresentsProcesses c.attempt-end.new.s x) is now) in
     attempt-lowers old p c.args.code c.requires.next c.follow.new.self c.follow.ensures.chosen
     (ap (λ (processes : ProcState). (slice_index_or processes.own.items p.0 no_own).call) c.follow.ensures.processes ∙ none)

@@ -2,7 +2,7 @@ use Rattle.std.proofs.Common.{refl, sym, subst}
 use Rattle.os9_base.specs.declared.errors.TheConstants.{E_UNKSVC}
 use Rattle.call_rules.specs.Attempts.{after_attempt, goes_on, refused_regs}
 use Rattle.call_rules.specs.CallResult.{refused}
-use Rattle.call_rules.specs.Inner.{Inner, regs_at}
+use Rattle.call_rules.specs.Processes.{Processes, regs_at}
 use Rattle.machine_model.specs.Services.{Serves, Service}
 use Rattle.machine_model.specs.State.{rest_of}
 use Rattle.os9_kernel.specs.declared.act.Act.TheVariants.{Attempt}
@@ -22,10 +22,10 @@ returns-clause-event c devices =
     let p = c.args.p in
     let act = Attempt c.args.code in
     let next = c.requires.next in
-    let ticks_kept = tick-kept old.processes c.refuse.new.self (λ (m : Inner). goes_on m p.0 (refused_regs (regs_at m p.0) E_UNKSVC)) c.refuse.ensures.tied (λ m. refl) in record {
+    let ticks_kept = tick-kept old.processes c.refuse.new.self (λ (m : Processes). goes_on m p.0 (refused_regs (regs_at m p.0) E_UNKSVC)) c.refuse.ensures.tied (λ m. refl) in record {
       step = λ _ s tied.
           let (now, is_now) = some-time old devices s tied in
-          event-here old p act next devices s tied new _ (after_attempt s.inner p.0 (refused E_UNKSVC)) s.files refl refl (c.refuse.ensures.tied s.inner tied.inner) tied.files
+          event-here old p act next devices s tied new _ (after_attempt s.processes p.0 (refused E_UNKSVC)) s.files refl refl (c.refuse.ensures.tied s.processes tied.processes) tied.files
           (known-still old new refl refl refl ticks_kept tied.known)
           (refused E_UNKSVC, rest_of s, (now, is_now, subst (λ (service : Service). Serves service s now p.0 (refused E_UNKSVC) (rest_of s)) (sym c.requires.serves) (refl, refl)), refl, refl);
       memory = λ is. cc;

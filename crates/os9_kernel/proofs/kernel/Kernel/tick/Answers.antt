@@ -14,7 +14,7 @@ returns-in-Ok-true-clause-tick g c =
     let kept = ap (λ drives. drive_views (λ box. (g.dyn-1.0.entry box.vtable).1) drives.items) c.arrive_keys.ensures.drives in
     let known : Known = record old.known { marks = Everyone } in record {
       step = λ ok s tied.
-          let (next, arrives, there) = c.in-Ok-true.ensures.arrived refl (raised old _ s tied) (record { memory = tied.inner.memory; is = raised-is old _ s tied }) in
+          let (next, arrives, there) = c.in-Ok-true.ensures.arrived refl (raised old _ s tied) (record { memory = tied.processes.memory; is = raised-is old _ s tied }) in
           tick-then old _ s tied c.arrive_keys.new.s c.arrive_keys.new.io 0 known (λ tick from below. absurd (omega (arith, below)))
           (λ tick p cause from below few waits clear. absurd (clear tt)) after next kept arrives there;
       broken = λ err. cc;
@@ -29,7 +29,7 @@ returns-in-Ok-false-clause-tick g c =
     let kept = ap (λ drives. drive_views (λ box. (g.dyn-1.0.entry box.vtable).1) drives.items) c.arrive_keys.ensures.drives in
     let (same, same_io) = c.in-Ok-false.ensures.quiet (ap Ok c.in-Ok-false.field-0-test) in record {
       step = λ ok s tied.
-          let (next, arrives, there) = c.in-Ok-false.ensures.arrived refl (raised old _ s tied) (record { memory = tied.inner.memory; is = raised-is old _ s tied }) in
+          let (next, arrives, there) = c.in-Ok-false.ensures.arrived refl (raised old _ s tied) (record { memory = tied.processes.memory; is = raised-is old _ s tied }) in
           let looked = looked-after old _ s tied c.arrive_keys.new.s c.arrive_keys.new.io c.arrive_keys.ensures.tick same_io _ same (λ may tick active. active) in
           let known = known-after-tick old _ s tied c.arrive_keys.new.s c.arrive_keys.new.io c.arrive_keys.ensures.tick same_io in
           tick-then old _ s tied c.arrive_keys.new.s c.arrive_keys.new.io old.looked_until old.known looked known after next kept arrives there;
@@ -45,7 +45,7 @@ returns-in-Err-clause-tick g c =
     let kept = ap (λ drives. drive_views (λ box. (g.dyn-1.0.entry box.vtable).1) drives.items) c.arrive_keys.ensures.drives in record {
       step = λ ok. cc;
       broken = λ err s tied.
-          let (polled, between, arrives, there, breaks) = c.in-Err.ensures.broken refl (raised old _ s tied) (record { memory = tied.inner.memory; is = raised-is old _ s tied }) in
+          let (polled, between, arrives, there, breaks) = c.in-Err.ensures.broken refl (raised old _ s tied) (record { memory = tied.processes.memory; is = raised-is old _ s tied }) in
           (tick-breaks old _ s tied polled between _ _ arrives breaks, holds-still old _ s tied after kept);
       drives = kept;
       count = c.arrive_keys.ensures.tick;

@@ -1,6 +1,6 @@
 use Rattle.std.proofs.Common.{sym, ap}
-use Rattle.call_rules.specs.Inner.{Inner}
+use Rattle.call_rules.specs.Processes.{Processes}
 use Rattle.os9_kernel.proofs.kernel.Kernel.ticks.Goals as goal
 
 pub returns-clause-machine : goal.returns-clause-machine
-returns-clause-machine c devices s tied = sym (ap (λ (m : Inner). m.tick) tied.inner.is)
+returns-clause-machine c devices s tied = sym (ap (λ (m : Processes). m.tick) tied.processes.is)

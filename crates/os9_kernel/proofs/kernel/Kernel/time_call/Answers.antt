@@ -1,6 +1,6 @@
 use Rattle.std.proofs.Common.{refl, sym, ap, ◌∙◌, subst}
 use Rattle.call_rules.specs.Attempts.{after_attempt}
-use Rattle.call_rules.specs.Inner.{Inner}
+use Rattle.call_rules.specs.Processes.{Processes}
 use Rattle.file_state.specs.Tie.{StandsFor}
 use Rattle.file_state.specs.declared.state.FileState.{FileState}
 use Rattle.proc_state.specs.Tie.{Represents as RepresentsProcesses}
@@ -40,23 +40,23 @@ returns-clause-event c devices =
     let act = Attempt c.args.code in
     let next = c.requires.next in
     let (devices0, (s0, tied0)) = c.requires.stands in
-    let first = c.attempt-end.ensures.call s0.inner tied0.inner in
-    let (there0, same0) = c.tell_end.ensures.told s0.inner first.attempts.result first.attempts.comes in
+    let first = c.attempt-end.ensures.call s0.processes tied0.processes in
+    let (there0, same0) = c.tell_end.ensures.told s0.processes first.attempts.result first.attempts.comes in
     let ended = sym (c.event_end.ensures ∙ ap event_end_of same0) in
-    let ticks_kept = sym (ap (λ (m : Inner). m.tick) there0.is) ∙ time-tick s0.inner p.0 c.args.call old.clock first.now
-    first.attempts.result clock first.attempts.attempt ∙ ap (λ (m : Inner). m.tick) tied0.inner.is in record {
+    let ticks_kept = sym (ap (λ (m : Processes). m.tick) there0.is) ∙ time-tick s0.processes p.0 c.args.call old.clock first.now
+    first.attempts.result clock first.attempts.attempt ∙ ap (λ (m : Processes). m.tick) tied0.processes.is in record {
       step = λ _ s tied.
-          let it = c.attempt-end.ensures.call s.inner tied.inner in
+          let it = c.attempt-end.ensures.call s.processes tied.processes in
           let result = it.attempts.result in
-          let (there, same) = c.tell_end.ensures.told s.inner result it.attempts.comes in
+          let (there, same) = c.tell_end.ensures.told s.processes result it.attempts.comes in
           let clock_here = sym (clock-is old p act next devices s tied) in
           let stands : StandsFor new.files devices.drives s.files = subst (λ (files : FileState). StandsFor files devices.drives s.files) (sym c.tell_end.ensures.files) tied.files in
-          let is_now : IsNow s.clock s.inner.tick it.now = subst (λ (k : Clock). IsNow k s.inner.tick it.now) clock_here it.is in
-          let attempt : TimeAttempts c.args.call s.inner s.clock it.now p.0 result clock = subst
-          (λ (k : Clock). TimeAttempts c.args.call s.inner k it.now p.0 result clock) clock_here
+          let is_now : IsNow s.clock s.processes.tick it.now = subst (λ (k : Clock). IsNow k s.processes.tick it.now) clock_here it.is in
+          let attempt : TimeAttempts c.args.call s.processes s.clock it.now p.0 result clock = subst
+          (λ (k : Clock). TimeAttempts c.args.call s.processes k it.now p.0 result clock) clock_here
           it.attempts.attempt in
           let rest : Rest = record (rest_of s) { clock = clock } in
-          event-then old p act next devices s tied new devices _ (after_attempt s.inner p.0 result) s.files clock
+          event-then old p act next devices s tied new devices _ (after_attempt s.processes p.0 result) s.files clock
           s.terms c.tell_end.ensures.chosen there stands (sym c.tell_end.ensures.clock)
           (terms-are old p act next devices s tied)
           (λ event. known-still old new c.tell_end.ensures.known (ap (λ (files : FileState). files.io)
@@ -75,7 +75,7 @@ returns-clause-event c devices =
             refl,
           );
       memory = λ out. absurd (never-wants first.attempts.result (ended ∙ out));
-      waits = λ is. absurd (time-answers s0.inner p.0 c.args.call old.clock first.now first.attempts.result clock first.attempts.attempt (ended ∙ is));
+      waits = λ is. absurd (time-answers s0.processes p.0 c.args.call old.clock first.now first.attempts.result clock first.attempts.attempt (ended ∙ is));
       going = λ ran. (p, c.tell_end.ensures.chosen ∙ next.chosen, lives-so c.attempt-end.result new.processes.table p.0 (sym c.event_end.ensures ∙ ran) c.tell_end.ensures.lives);
       count = λ _. ticks_kept;
       calls = leaves-drives old devices devices refl;
@@ -88,8 +88,8 @@ returns-clause-progress c ran =
     let new = c.tell_end.new.self in
     let p = c.args.p in
     let (devices, (s, tied)) = c.requires.stands in
-    let it = c.attempt-end.ensures.call s.inner tied.inner in
-    let (there, same) = c.tell_end.ensures.told s.inner it.attempts.result it.attempts.comes in
-    let (t, regs, is) = goes-on it.attempts.result (sym (c.event_end.ensures ∙ ap event_end_of same) ∙ ran) s.inner p.0 in
-    let none = no-call new.processes t p.0 regs c.requires.next.process.1 (subst (λ (m : Inner). RepresentsProcesses new.processes m) is there) in
+    let it = c.attempt-end.ensures.call s.processes tied.processes in
+    let (there, same) = c.tell_end.ensures.told s.processes it.attempts.result it.attempts.comes in
+    let (t, regs, is) = goes-on it.attempts.result (sym (c.event_end.ensures ∙ ap event_end_of same) ∙ ran) s.processes p.0 in
+    let none = no-call new.processes t p.0 regs c.requires.next.process.1 (subst (λ (m : Processes). RepresentsProcesses new.processes m) is there) in
     attempt-lowers old p c.args.code c.requires.next new c.tell_end.ensures.chosen none

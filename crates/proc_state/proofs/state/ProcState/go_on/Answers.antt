@@ -1,15 +1,15 @@
 use Rattle.std.proofs.Common.{false, None, subst}
 use Rattle.proc_rules.specs.declared.own.Own.{Own}
 use Rattle.proc_rules.specs.Records.{with_waiting}
-use Rattle.call_rules.specs.Inner.{Inner, with_own, with_records, with_regs_of}
+use Rattle.call_rules.specs.Processes.{Processes, with_own, with_records, with_regs_of}
 use Rattle.proc_state.specs.Tie.{Represents}
 use Rattle.proc_state.proofs.state.ProcState.go_on.Goals as goal
 
 pub returns-clause-tied : goal.returns-clause-tied
 returns-clause-tied c m before =
     let p = c.args.p.0 in
-    let set : Inner = with_regs_of m p c.args.regs in
-    let runs : Inner = with_records set (with_waiting set.records p false) in
+    let set : Processes = with_regs_of m p c.args.regs in
+    let runs : Processes = with_records set (with_waiting set.records p false) in
     let is = c.run.ensures.tied set (c.set_regs.ensures.tied m before) in
     subst (λ (own : Own). Represents c.set_own.new.self (with_own runs p (record own { call = None; until = None; woken = false })))
     (c.own-own.ensures.tied runs is) (c.set_own.ensures.tied runs is)

@@ -1,5 +1,5 @@
 use Rattle.std.proofs.Common.{◌∙◌, sym, ap}
-use Rattle.call_rules.specs.Inner.{Inner}
+use Rattle.call_rules.specs.Processes.{Processes}
 use Rattle.proc_state.specs.First.{living_count}
 use Rattle.proc_state.proofs.LivingTurns.{turns-living}
 use Rattle.proc_state.proofs.state.ProcState.living.Goals as goal
@@ -15,4 +15,4 @@ returns-clause-tied c m tied =
     let s = c.args.self.now in
     c.count.ensures.count
     ∙ turns-living s.sched.order s.table c.count.ensures.shape.once (λ p. c.count.ensures.shape.same p ∙ s.turns.members p)
-    ∙ ap (λ (m : Inner). living_count m.records) (sym tied.is)
+    ∙ ap (λ (m : Processes). living_count m.records) (sym tied.is)

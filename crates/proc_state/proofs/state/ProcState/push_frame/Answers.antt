@@ -1,7 +1,7 @@
 use Rattle.std.proofs.Common.{subst}
 use Rattle.proc_model.specs.MemoryChanges.{stored}
 use Rattle.call_rules.specs.Delivery.{interrupted}
-use Rattle.call_rules.specs.Inner.{Inner, with_memory}
+use Rattle.call_rules.specs.Processes.{Processes, with_memory}
 use Rattle.proc_state.specs.Tie.{Represents}
 use Rattle.proc_state.proofs.Delivering.{frame-pushed}
 use Rattle.proc_state.proofs.state.ProcState.push_frame.Goals as goal
@@ -9,7 +9,7 @@ use Rattle.proc_state.proofs.state.ProcState.push_frame.Goals as goal
 pub returns-clause-tied : goal.returns-clause-tied
 returns-clause-tied c m before =
     let p = c.args.p.0 in
-    let there : Inner = with_memory m (stored m.memory p c.args.frame c.frame_bytes.result) in
+    let there : Processes = with_memory m (stored m.memory p c.args.frame c.frame_bytes.result) in
     subst (Represents c.set_regs.new.self)
     (frame-pushed m p c.args.signal c.args.intercept c.args.frame c.interrupted_regs-regs.result c.routine_regs.result c.frame_bytes.result
     (c.interrupted_regs-regs.ensures.tied m before) c.frame_bytes.ensures c.routine_regs.ensures)

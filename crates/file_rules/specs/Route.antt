@@ -1,6 +1,6 @@
--- The way of a path list to a file: where it starts, and the walk from there (System Programmer's Manual, "Path lists";
--- Level Two manual, device descriptors). It starts at the root of the drive that the list names. Without a device it
--- starts at the execution directory of the process if the mode is for execution, else at its data directory.
+-- The route of a path list to a file: where it starts, and the walk from there (System Programmer's Manual, "Path
+-- lists"; Level Two manual, device descriptors). It starts at the root of the drive that the list names. Without a
+-- device it starts at the execution directory of the process if the mode is for execution, else at its data directory.
 -- Errors, in this order: E$BPAddr, E$BMode (of the call's mode), E$BPNam, E$MNF; then on the drive E$FNA and E$PNNF at
 -- the first name that fails.
 use Rattle.std.specs.Prelude.{ℕ, ◌-◌, ◌==◌, ◌&&◌, ◌||◌, Bool, true, false, Option, Some, None, Result, Ok, Err, List, length, take, slice_get, if◌then◌else◌}
@@ -22,48 +22,48 @@ use Rattle.lock_model.specs.declared.place.FilePlace.{FilePlace}
 
 -- ---- where it starts
 
-pub data Way : Type 0 where
+pub data Route : Type 0 where
   -- along these names from a directory
-  along : FilePlace → List (List ℕ) → Way
+  along : FilePlace → List (List ℕ) → Route
   -- to a terminal or a pipe
-  to_device : Way
+  to_device : Route
   -- nowhere: the call is refused with this number
-  nowhere : ℕ → Way
+  nowhere : ℕ → Route
 
 -- a list that starts at a process's directory; without a directory nothing is found
-abbrev pub way_from : Option FilePlace → List (List ℕ) → Way
-way_from None names = nowhere E_PNNF
-way_from (Some place) names = along place names
+abbrev pub route_from : Option FilePlace → List (List ℕ) → Route
+route_from None names = nowhere E_PNNF
+route_from (Some place) names = along place names
 
 -- the root of a drive's volume
 abbrev pub root_of : ℕ → DiskVolume → FilePlace
 root_of drive v = record { drive = drive; number = (shape v).root }
 
 -- a list that starts at a drive, with a volume or without
-abbrev pub way_on_drive : ℕ → List (List ℕ) → Option DiskVolume → Way
-way_on_drive drive names None = nowhere E_MNF
-way_on_drive drive names (Some v) = along (root_of drive v) names
+abbrev pub route_on_drive : ℕ → List (List ℕ) → Option DiskVolume → Route
+route_on_drive drive names None = nowhere E_MNF
+route_on_drive drive names (Some v) = along (root_of drive v) names
 
 -- no slash may follow a terminal or a pipe
-abbrev pub to_device_of : PathList → Way
+abbrev pub to_device_of : PathList → Route
 to_device_of list = if has_slash_behind_device list then nowhere E_BPNAM else to_device
 
 -- a list that starts at a device
-abbrev pub way_of_device : Files → PathList → Option Dev → Way
-way_of_device files list None = nowhere E_MNF
-way_of_device files list (Some (Drive drive)) = way_on_drive drive list.names (volume_at files drive)
-way_of_device files list (Some (Term terminal)) = to_device_of list
-way_of_device files list (Some Pipe) = to_device_of list
+abbrev pub route_of_device : Files → PathList → Option Dev → Route
+route_of_device files list None = nowhere E_MNF
+route_of_device files list (Some (Drive drive)) = route_on_drive drive list.names (volume_at files drive)
+route_of_device files list (Some (Term terminal)) = to_device_of list
+route_of_device files list (Some Pipe) = to_device_of list
 
 -- a list on a machine with `terms` terminals, by the name of its device
-abbrev pub way_by : Asker → Files → ℕ → Bool → PathList → Option (List ℕ) → Way
-way_by asker files terms execute list None =
-    way_from (directory_of files asker.caller.process.0 execute) list.names
-way_by asker files terms execute list (Some device) =
-    way_of_device files list (device_of (length files.drives) terms device)
+abbrev pub route_by : Asker → Files → ℕ → Bool → PathList → Option (List ℕ) → Route
+route_by asker files terms execute list None =
+    route_from (directory_of files asker.caller.process.0 execute) list.names
+route_by asker files terms execute list (Some device) =
+    route_of_device files list (device_of (length files.drives) terms device)
 
-abbrev pub way_of : Asker → Files → ℕ → Bool → PathList → Way
-way_of asker files terms execute list = way_by asker files terms execute list list.device
+abbrev pub route_of : Asker → Files → ℕ → Bool → PathList → Route
+route_of asker files terms execute list = route_by asker files terms execute list list.device
 
 -- the device is a drive, with a volume or without
 abbrev pub is_drive : Option Dev → Bool
@@ -78,12 +78,12 @@ is_root files terms list =
     (length list.names == 0)
     && option_map_or (λ device. is_drive (device_of (length files.drives) terms device)) list.device false
 
--- the way to a place for a new file: nothing is made at a root, or with the name of a directory itself or of the one
+-- the route to a place for a new file: nothing is made at a root, or with the name of a directory itself or of the one
 -- above it
-abbrev pub way_to_new : Asker → Files → ℕ → Bool → PathList → Way
-way_to_new asker files terms execute list =
+abbrev pub route_to_new : Asker → Files → ℕ → Bool → PathList → Route
+route_to_new asker files terms execute list =
     if ends_in_dots list || is_root files terms list then nowhere E_BPNAM
-    else way_of asker files terms execute list
+    else route_of asker files terms execute list
 
 -- ---- the list
 

@@ -11,7 +11,7 @@ use Rattle.proc_rules.specs.declared.turn.Turn.{Turn}
 use Rattle.proc_rules.specs.Records.{record_at, with_regs}
 
 -- memory, and the data of each process
-pub record Inner : Type 0 where
+pub record Processes : Type 0 where
   pub memory : MemoryState
   pub records : List (Option Record)  -- by process number, from 0 to 32
   pub own : List Own  -- by process number: its data other than its record and its memory
@@ -23,30 +23,30 @@ abbrev pub no_own : Own
 no_own = record { size = 0; primary = None; links = replicate 8 0; call = None; until = None; woken = false }
 
 -- the data of a process other than its record and its memory
-abbrev pub own_at : Inner → ℕ → Own
+abbrev pub own_at : Processes → ℕ → Own
 own_at s p = slice_index_or s.own p no_own
 
 -- the registers of a process
-abbrev pub regs_at : Inner → ℕ → Regs
+abbrev pub regs_at : Processes → ℕ → Regs
 regs_at s p = (record_at s.records p).regs
 
 -- the user of a process
-abbrev pub user_at : Inner → ℕ → ℕ
+abbrev pub user_at : Processes → ℕ → ℕ
 user_at s p = (record_at s.records p).user
 
 -- the bytes that a process sees
-abbrev pub cells_at : Inner → ℕ → Cells
+abbrev pub cells_at : Processes → ℕ → Cells
 cells_at s p = object_cells s.memory.objects (map_at s.memory p).places
 
 -- the state with another memory, with other records, with other registers of a process, or with other data of its own
-abbrev pub with_memory : Inner → MemoryState → Inner
+abbrev pub with_memory : Processes → MemoryState → Processes
 with_memory s memory = record s { memory = memory }
 
-abbrev pub with_records : Inner → List (Option Record) → Inner
+abbrev pub with_records : Processes → List (Option Record) → Processes
 with_records s records = record s { records = records }
 
-abbrev pub with_regs_of : Inner → ℕ → Regs → Inner
+abbrev pub with_regs_of : Processes → ℕ → Regs → Processes
 with_regs_of s p regs = with_records s (with_regs s.records p regs)
 
-abbrev pub with_own : Inner → ℕ → Own → Inner
+abbrev pub with_own : Processes → ℕ → Own → Processes
 with_own s p own = record s { own = slice_set s.own p own }
