@@ -6,8 +6,7 @@ ghost use Rattle.asm_model.specs.Placement as model;
 ghost use Rattle.asm_lines.specs.Lines.{action_said};
 
 use crate::Action;
-use asm_terms::{Numbers, value_of};
-use asm_text::{low_byte, shape_length};
+use asm_text::{Numbers, low_byte, shape_length, value_of};
 use os9_base::call::OutOfMemory;
 
 /// The number of bytes of a module's CRC.

@@ -1,6 +1,19 @@
 //! The lines of an assembler source, read as statements; their labels and offsets, and the first line
-//! that breaks a rule.
+//! that breaks a rule; the texts of instructions as a relation, and laws that exactly the texts of the
+//! relation are read.
 #![tactic(auto)]
+
+mod cuts;
+mod faults;
+pub mod laws;
+mod lengths;
+mod line;
+mod operands;
+mod reached;
+mod source;
+mod table;
+mod values;
+mod words;
 
 pub use faults::{SourceFault, first_fault, is_filled};
 pub use lengths::{
@@ -12,14 +25,3 @@ pub use reached::{Reached, reached_by};
 pub use source::read_lines;
 pub use table::Labels;
 pub use values::{Place, value_at};
-
-mod cuts;
-mod faults;
-mod lengths;
-mod line;
-mod operands;
-mod reached;
-mod source;
-mod table;
-mod values;
-mod words;

@@ -5,7 +5,7 @@ ghost use Rattle.asm_model.specs.Statements.{is_skipped as is_skipped_model, aft
 ghost use Rattle.asm_lines.specs.Lines.{action_said, line_said};
 
 use crate::operands::{Action, action_of};
-use asm_terms::is_label;
+use asm_text::is_label;
 use text_values::{behind_word, first_word, without_spaces};
 
 /// A label, if there is one, and an action.

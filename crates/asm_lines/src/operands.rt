@@ -8,8 +8,7 @@ ghost use Rattle.asm_lines.specs.Lines.{action_said, fields_said, list_said, are
 use crate::cuts::{cut_at_comma, quoted};
 use crate::words::directive_of;
 use asm_model::directive::Directive;
-use asm_terms::{is_constant_expression, is_expression};
-use asm_text::{Shape, shape_of};
+use asm_text::{Shape, is_constant_expression, is_expression, shape_of};
 use text_values::first_word;
 
 /// The operands of `mod`, as texts.

@@ -3,7 +3,7 @@ ghost use Rattle.asm_model.specs.Placement as model;
 ghost use Rattle.asm_lines.specs.Labels.{expression_in, is_term_in, names_in, term_in};
 
 use crate::table::Labels;
-use asm_terms::{Meaning, Term, TermTest, every_term, value_of};
+use asm_text::{Meaning, Term, TermTest, every_term, value_of};
 
 // A value that a label or `*` can have: one that fits 64 bits with a sign.
 fn held(value: i128) -> Option<i64>

@@ -2,7 +2,7 @@ ghost use Rattle.std.specs.Prelude.{◌≡◌};
 ghost use Rattle.asm_model.specs.Statements as model;
 
 use asm_model::directive::Directive;
-use asm_terms::is_same_word;
+use asm_text::is_same_word;
 
 // The directive of this word in any case of letters.
 pub(crate) fn directive_of(word: &[u8]) -> Option<Directive>

@@ -1,3 +1,9 @@
+pub mod DigitLemmas
+pub mod Folds
+pub mod Sums
+pub mod Tests
+pub mod Constants
+pub mod Lone
 pub mod FoundLemmas
 pub mod Ranges
 pub mod Parts

@@ -1,3 +1,4 @@
+pub mod Terms
 pub mod Views
 pub mod Tails
 pub mod Cuts

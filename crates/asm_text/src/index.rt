@@ -8,9 +8,9 @@ ghost use Rattle.asm_text.specs.Offsets.{offset_as, offset_size as offset_size_m
 use crate::cuts::{before_bracket, has_comma, two_parts};
 use crate::operand::{Operand, plain_operand, valued};
 use crate::register::index_number;
+use crate::{is_same_word, lone_value};
 use asm_model::operand::{Field, Size, Wanted, Width};
 use asm_print::is_bare_operand;
-use asm_terms::{is_same_word, lone_value};
 
 /// The postbyte with an offset of a byte from X.
 const OFFSET8: u8 = 0x88;

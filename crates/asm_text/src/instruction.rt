@@ -9,9 +9,9 @@ ghost use Rattle.asm_model.specs.Laws.{HasBytes};
 ghost use Rattle.asm_model.specs.Print.{printed};
 ghost use Rattle.asm_text.specs.Views.{shape_as};
 
+use crate::Numbers;
 use crate::shape::{Shape, shape_length, shape_of};
 use crate::tail::tail_with;
-use asm_terms::Numbers;
 use cpu_model::instruction::Instr;
 use text_values::{behind_word, first_word, without_spaces};
 

@@ -3,9 +3,9 @@ ghost use Rattle.asm_model.specs.Operands.{valued as valued_model, immediate_ope
 ghost use Rattle.asm_text.specs.Views.{operand_of, pair_operand as pair_operand_model};
 
 use crate::index::indexed_operand;
+use crate::is_expression;
 use crate::register::{register_mask, register_pair};
 use asm_model::operand::{Field, Wanted};
-use asm_terms::is_expression;
 use cpu_model::rows::{Mode, Operation, Row, Stack};
 
 /// An operand without the value of its expression.

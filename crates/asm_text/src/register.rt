@@ -5,7 +5,7 @@ ghost use Rattle.asm_model.specs.Operands.{index_number as index_number_model, m
 ghost use Rattle.asm_model.specs.Print.{mask_registers, register_word};
 
 use crate::cuts::two_parts;
-use asm_terms::is_same_word;
+use crate::is_same_word;
 use cpu_model::rows::Stack;
 
 /// The number of an index register in its postbytes.

@@ -3,8 +3,8 @@ ghost use Rattle.cpu_model.specs.Flags.{signed16 as signed16_model};
 ghost use Rattle.asm_model.specs.Operands.{modulo, if_between as if_between_model, distance as distance_model, filled as filled_model};
 ghost use Rattle.asm_text.specs.Tails.{tail_by};
 
+use crate::{Meaning, value_of};
 use asm_model::operand::{Field, Wanted};
-use asm_terms::{Meaning, value_of};
 use cpu_model::instruction::Tail;
 
 /// A whole number modulo 256.

@@ -11,7 +11,7 @@ use Rattle.os9_words.proofs.Prefixes.{GainsPrefix-front, GainsPrefix-then}
 use Rattle.os9_outer.specs.Stream.{stream_with, emptied, GainsPrefix}
 use Rattle.device_table.proofs.StreamLemmas.{appended-twice}
 use Rattle.os9_outer.specs.TerminalState.{TerminalState, ChangesOneTerminal}
-use Rattle.event_rules.specs.Console.{put_bytes, console_bytes, without_bytes}
+use Rattle.machine_model.specs.Console.{put_bytes, console_bytes, without_bytes}
 use Rattle.os9_base.specs.Count.{Rose}
 use Rattle.os9_outer.specs.Host.{OnFailed, UnlessFailed}
 use Rattle.os9_outer.specs.declared.host.HostFault.{HostFault}

@@ -3,3 +3,12 @@ pub mod DroppedLemmas
 pub mod ConsoleLemmas
 pub mod RunLemmas
 pub mod MachineLemmas
+pub mod BootFileLemmas
+pub mod DriveLemmas
+pub mod ImageLemmas
+pub mod ImageRunLemmas
+pub mod NoteLemmas
+pub mod ReadLemmas
+pub mod FileLemmas
+pub mod OutputLemmas
+pub mod ChangeLemmas

@@ -6,7 +6,7 @@ use Rattle.std.specs.declared.dyn_box.DynBox.{DynBox}
 use Rattle.std.proofs.lemmas.List.{length-map}
 use Rattle.std.proofs.lemmas.List.Elements.{All-cons, All-head, All-tail}
 use Rattle.std.proofs.lemmas.Option.{get_or_from_slice_get, none-some}
-use Rattle.civil_time.specs.CivilTime.{is_time_packet}
+use Rattle.time_rules.specs.CivilTime.{is_time_packet}
 use Rattle.os9_outer.specs.TerminalState.{TerminalState}
 use Rattle.os9_outer.specs.declared.drive.BlockDriver.{Ghosts}
 use Rattle.script_text.specs.declared.script.ScriptKey.{ScriptKey}
@@ -17,16 +17,16 @@ use Rattle.file_rules.specs.Files.{DriveState, NoneFailed}
 use Rattle.file_drives.specs.Drives.{DriveView, boxed_seen, drive_states, drive_views, media_at, media_of, unused_drive}
 use Rattle.file_drives.specs.Mounted.{DriveHolds}
 use Rattle.file_state.specs.Tie.{StandsFor}
-use Rattle.file_start.proofs.FirstLemmas.{some-volume}
-use Rattle.file_start.specs.Start.{HaveImages, HaveVolumes, StartsDrives}
-use Rattle.file_start.specs.declared.fault.StartFault.{StartFault}
-use Rattle.event_rules.specs.Start.{Refuses}
-use Rattle.event_rules.specs.State.{living_count}
-use Rattle.event_rules.specs.declared.ends.BootFault.{BootFault}
-use Rattle.event_rules.specs.declared.ends.BootFault.TheVariants.{OutOfMemory, BadModule, NoFirst, TooLarge}
+use Rattle.cold_start.proofs.FirstLemmas.{some-volume}
+use Rattle.cold_start.specs.Start.{HaveImages, HaveVolumes, StartsDrives}
+use Rattle.cold_start.specs.declared.fault.StartFault.{StartFault}
+use Rattle.machine_model.specs.ProcessStart.{Refuses}
+use Rattle.machine_model.specs.Living.{living_count}
+use Rattle.machine_model.specs.declared.ends.BootFault.{BootFault}
+use Rattle.machine_model.specs.declared.ends.BootFault.TheVariants.{OutOfMemory, BadModule, NoFirst, TooLarge}
 use Rattle.machine_model.specs.Start.{Boot as Begun, Starts}
 use Rattle.machine_model.specs.State.{State, has_living}
-use Rattle.wake_laws.proofs.OpenRuns.{start-open}
+use Rattle.lock_laws.proofs.OpenRuns.{start-open}
 use Rattle.os9_kernel.specs.declared.kernel.Kernel.{Kernel}
 use Rattle.os9_kernel.specs.declared.new.Config.{Config}
 use Rattle.os9_kernel.specs.declared.new.StartError.{StartError}

@@ -8,11 +8,11 @@ use Rattle.os9_outer.specs.Stream.{stream_with, GainsPrefix}
 use Rattle.os9_outer.specs.TerminalState.{TerminalState}
 use Rattle.device_table.proofs.StreamLemmas.{appended-twice, appended-nothing}
 use Rattle.file_drives.specs.Drives.{DriveView}
-use Rattle.event_rules.specs.declared.ends.SliceEnd.{SliceEnd}
-use Rattle.event_rules.specs.Console.{terminals_emptied, console_bytes}
-use Rattle.event_rules.specs.State.{living_count}
-use Rattle.event_rules.specs.Terminals.{TerminalsOnlyGain}
-use Rattle.event_rules.proofs.TerminalLaws.{gain-emptied}
+use Rattle.machine_model.specs.declared.ends.SliceEnd.{SliceEnd}
+use Rattle.machine_model.specs.Console.{terminals_emptied, console_bytes}
+use Rattle.machine_model.specs.Living.{living_count}
+use Rattle.machine_model.specs.Terminals.{TerminalsOnlyGain}
+use Rattle.machine_model.proofs.TerminalLaws.{gain-emptied}
 use Rattle.machine_model.specs.Run.{BeginsSlice, Run, Slice}
 use Rattle.machine_model.specs.State.{State, has_living}
 use Rattle.machine_model.proofs.Gains.{slice-gains}

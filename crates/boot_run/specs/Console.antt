@@ -1,7 +1,7 @@
 -- The bytes that were put on terminals.
 use Rattle.std.specs.Prelude.{◌≡◌, ℕ, IsSome, IfSome, List, ◌++◌, take, drop}
 use Rattle.os9_outer.specs.TerminalState.{TerminalState}
-use Rattle.event_rules.specs.Console.{terminals_emptied, without_bytes}
+use Rattle.machine_model.specs.Console.{terminals_emptied, without_bytes}
 
 -- the bytes that were put on the terminal are observed
 abbrev pub IsObserved : TerminalState → Type 0

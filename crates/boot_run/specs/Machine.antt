@@ -4,15 +4,15 @@ use Rattle.std.specs.Option.{option_map_or}
 use Rattle.os9_base.specs.declared.limits.TheConstants.{LAST_TICK}
 use Rattle.os9_base.specs.declared.registers.TimePacket.{TimePacket}
 use Rattle.os9_outer.specs.Stream.{stream_with}
-use Rattle.civil_time.specs.CivilTime.{is_time_packet}
+use Rattle.time_rules.specs.CivilTime.{is_time_packet}
 use Rattle.file_drives.specs.Drives.{drive_states, media_of}
 use Rattle.file_rules.specs.Files.{NoneFailed, OneFailed}
-use Rattle.file_start.specs.Start.{HaveImages, HaveVolumes}
+use Rattle.cold_start.specs.Start.{HaveImages, HaveVolumes}
 use Rattle.boot_run.specs.Loaded.{AreUnloaded, loaded}
 use Rattle.lock_model.specs.Records.{Records}
 use Rattle.lock_model.specs.declared.history.Entry.{Entry}
-use Rattle.event_rules.specs.Start.{Refuses}
-use Rattle.event_rules.specs.declared.ends.BootFault.{BootFault}
+use Rattle.machine_model.specs.ProcessStart.{Refuses}
+use Rattle.machine_model.specs.declared.ends.BootFault.{BootFault}
 use Rattle.script_text.specs.declared.script.ScriptKey.{ScriptKey}
 use Rattle.machine_model.specs.Run.{Run}
 use Rattle.machine_model.specs.Start.{Boot, Starts}

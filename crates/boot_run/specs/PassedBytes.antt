@@ -3,7 +3,7 @@ use Rattle.std.specs.Prelude.{◌≡◌, ◌≢◌, ℕ, Result, [], OnOk, OnErr
 use Rattle.os9_outer.specs.Host.{OnFailed, UnlessFailed}
 use Rattle.os9_outer.specs.Stream.{stream_with, GainsPrefix}
 use Rattle.os9_outer.specs.declared.host.HostFault.{HostFault}
-use Rattle.event_rules.specs.Console.{console_bytes, terminals_emptied}
+use Rattle.machine_model.specs.Console.{console_bytes, terminals_emptied}
 use Rattle.boot_run.specs.Console.{IsObserved, emptied_front}
 use Rattle.boot_run.specs.World.{World, HasNoFault, FailsToWrite}
 

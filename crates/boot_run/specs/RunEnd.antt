@@ -1,5 +1,5 @@
 -- The end of a run whose machine did not start.
-use Rattle.event_rules.specs.declared.ends.BootFault.TheVariants.{OutOfMemory, BadModule, NoFirst, TooLarge}
+use Rattle.machine_model.specs.declared.ends.BootFault.TheVariants.{OutOfMemory, BadModule, NoFirst, TooLarge}
 use Rattle.os9_kernel.specs.declared.new.StartError.{StartError}
 use Rattle.os9_kernel.specs.declared.new.StartError.TheVariants.{Boot, Drive}
 use Rattle.boot_run.specs.declared.machine.RunEnd.{RunEnd}

@@ -1,8 +1,8 @@
 -- What is left after slices were run.
 use Rattle.std.specs.Prelude.{◌≡◌, ◌≢◌, ◌⊎◌, ◌++◌, ℕ, true, Option, Some, Result, List, [], take, slice_get, OnOk, OnErr, All}
 use Rattle.os9_outer.specs.Stream.{stream_with, GainsPrefix}
-use Rattle.event_rules.specs.Console.{console_bytes}
-use Rattle.event_rules.specs.declared.ends.SliceEnd.{SliceEnd}
+use Rattle.machine_model.specs.Console.{console_bytes}
+use Rattle.machine_model.specs.declared.ends.SliceEnd.{SliceEnd}
 use Rattle.machine_model.specs.Run.{BeginsSlice, Run, Slice}
 use Rattle.machine_model.specs.State.{State, has_living}
 use Rattle.os9_kernel.specs.Calls.{StopsSlice}

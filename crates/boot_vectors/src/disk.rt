@@ -3,8 +3,8 @@ ghost use Rattle.std.specs.Bool.{OnTrue};
 ghost use Rattle.boot_vectors.specs.Stops.{KeepsEnds};
 
 use crate::tree::tree_text;
-use rbf_reach::sector;
 use rbf_sector::read_ident;
+use rbf_sector_rules::sector;
 use std::alloc::{AllocError, Global};
 
 /// The bytes of a sector.

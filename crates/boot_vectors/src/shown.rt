@@ -1,5 +1,5 @@
-ghost use Rattle.boot_images.specs.Drives.{HaveRoom};
-ghost use Rattle.boot_images.specs.Ready.{AreFree};
+ghost use Rattle.boot_run.specs.Drives.{HaveRoom};
+ghost use Rattle.boot_run.specs.Ready.{AreFree};
 ghost use Rattle.os9_kernel.specs.Outside.{outside};
 ghost use Rattle.file_drives.specs.Drives.{drive_views};
 ghost use Rattle.boot_run.specs.Loaded.{HasNoKeys};

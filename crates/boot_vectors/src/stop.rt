@@ -1,7 +1,7 @@
 ghost use Rattle.std.specs.Prelude.{◌≡◌, IfOk, IfSome};
 ghost use Rattle.std.specs.Bool.{OnTrue};
 ghost use Rattle.rbf_model.specs.Geometry.{sector as sector_of};
-ghost use Rattle.boot_images.specs.BootFile.{IsVolume};
+ghost use Rattle.boot_run.specs.BootFile.{IsVolume};
 ghost use Rattle.boot_vectors.specs.Stops.{KeepsEnds};
 
 use crate::disk::{Disk, SECTOR, keep_ends};
@@ -12,7 +12,7 @@ use crate::tree::{line, node_of};
 use os9_outer::drive::DriveFault;
 use os9_outer::ram_drive::PlannedFault;
 use rbf_check::{CheckError, Node, Nodes, Tree, check};
-use rbf_reach::sector;
+use rbf_sector_rules::sector;
 use std::alloc::{AllocError, Global};
 
 /// Runs a row with a stop at each call of a drive in turn, with this fault, until no call fails in

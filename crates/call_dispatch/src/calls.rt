@@ -2,28 +2,28 @@
 
 ghost use Rattle.std.specs.Prelude.{◌≡◌, IfSome, slice_index_or};
 ghost use Rattle.proc_rules.specs.Records.{IsLiving};
-ghost use Rattle.call_rules.specs.Attempts.{attempted, after_attempt, attempt_end};
-ghost use Rattle.call_rules.specs.Processes.{Processes, no_own};
+ghost use Rattle.proc_rules.specs.Attempts.{attempted, after_attempt, attempt_end};
+ghost use Rattle.proc_rules.specs.Processes.{Processes, no_own};
 ghost use Rattle.proc_state.specs.Tie.{Represents, Comes};
 ghost use Rattle.proc_calls.specs.Telling.{LivesOn, KeepsTurns, WaitsFor};
 ghost use Rattle.call_dispatch.specs.Waits as model;
 
 use crate::waits::waits_for;
-use call_rules::proc_call::ProcCall;
 use fork_calls::chain::f_chain;
 use fork_calls::fork::f_fork;
-use module_calls::crc::f_crc;
-use module_calls::links::{f_link, f_unload};
-use module_calls::memory::f_mem;
-use module_calls::unlink::f_unlink;
 use os9_base::call::CallEnd;
 use os9_base::registers::Pid;
 use proc_calls::children::{f_exit, f_wait};
+use proc_calls::crc::f_crc;
+use proc_calls::links::{f_link, f_unload};
+use proc_calls::memory::f_mem;
 use proc_calls::names::{f_cmpnam, f_prsnam};
 use proc_calls::records::{f_id, f_sprior, f_suser};
 use proc_calls::signals::{f_icpt, f_send};
 use proc_calls::sleep::f_sleep;
 use proc_calls::telling::tell;
+use proc_calls::unlink::f_unlink;
+use proc_rules::proc_call::ProcCall;
 use proc_state::state::ProcState;
 
 /// An attempt of a call by a living process (System Programmer's Manual, "User mode service

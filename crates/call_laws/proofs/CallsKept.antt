@@ -24,31 +24,31 @@ use Rattle.proc_rules.specs.declared.record.SendFault.TheVariants.{NoProcess, Pe
 use Rattle.proc_rules.specs.Ends.{ended_child, orphaned, reaped, after_exit, after_reap}
 use Rattle.proc_rules.specs.Records.{record_of, record_at, is_waiting, with_record, with_regs, without_record, with_priority}
 use Rattle.proc_rules.specs.Signals.{is_reached, wake_signal, with_signal}
-use Rattle.user_names.specs.declared.name_fault.NameFault.{NameFault}
-use Rattle.user_names.specs.declared.name_fault.NameFault.TheVariants.{Unreadable, NoName}
-use Rattle.user_names.specs.UserNames.{name_at, user_cell}
-use Rattle.call_rules.specs.declared.proc_call.ProcCall.TheVariants as Call
-use Rattle.call_rules.specs.Attempts.{after_attempt, done_regs, refused_regs, goes_on}
-use Rattle.call_rules.specs.CallResult.{CallResult, done, refused, waits, needs, refuses, changes, reads_name}
-use Rattle.call_rules.specs.CmpNam.{f_cmpnam, same_names}
-use Rattle.call_rules.specs.Crc.{f_crc, crc_continued}
-use Rattle.call_rules.specs.End.{ended, without_process}
-use Rattle.call_rules.specs.Processes.{Processes, no_own, own_at, regs_at, user_at, cells_at, with_memory, with_records, with_regs_of, with_own}
-use Rattle.call_rules.specs.Link.{Mapped, f_link, mapped_group, links_at, after_link}
-use Rattle.call_rules.specs.Mem.{f_mem, sets_pages, resized, with_size, size_regs}
-use Rattle.call_rules.specs.ModuleLinks.{Entered, entered_at, found_entry, module_at, still_primary, without_module_link}
-use Rattle.call_rules.specs.Program.{page_count, most_pages, blocks_of_pages}
-use Rattle.call_rules.specs.PrsNam.{f_prsnam, parses_name, past_slash, name_regs}
-use Rattle.call_rules.specs.SPrior.{f_sprior}
-use Rattle.call_rules.specs.Send.{f_send, is_asleep, after_signal}
-use Rattle.call_rules.specs.Sleep.{f_sleep, falls_asleep, may_wake, ticks_left}
-use Rattle.call_rules.specs.UnLink.{f_unlink, after_unlink, without_group_link, with_links_left}
-use Rattle.call_rules.specs.UnLoad.{f_unload}
-use Rattle.call_rules.specs.UserBytes.{user_bytes, d_of}
-use Rattle.call_rules.specs.Wait.{f_wait, reaped_regs}
-use Rattle.event_rules.specs.declared.ends.EventEnd.{EventEnd}
-use Rattle.event_rules.specs.declared.ends.EventEnd.TheVariants.{Ran, Waits, Ended}
-use Rattle.event_rules.specs.Event.{call_event_end}
+use Rattle.os9_base.specs.declared.name_fault.NameFault.{NameFault}
+use Rattle.os9_base.specs.declared.name_fault.NameFault.TheVariants.{Unreadable, NoName}
+use Rattle.os9_base.specs.UserNames.{name_at, user_cell}
+use Rattle.proc_rules.specs.declared.proc_call.ProcCall.TheVariants as Call
+use Rattle.proc_rules.specs.Attempts.{after_attempt, done_regs, refused_regs, goes_on}
+use Rattle.proc_rules.specs.CallResult.{CallResult, done, refused, waits, needs, refuses, changes, reads_name}
+use Rattle.proc_rules.specs.CmpNam.{f_cmpnam, same_names}
+use Rattle.proc_rules.specs.Crc.{f_crc, crc_continued}
+use Rattle.proc_rules.specs.End.{ended, without_process}
+use Rattle.proc_rules.specs.Processes.{Processes, no_own, own_at, regs_at, user_at, cells_at, with_memory, with_records, with_regs_of, with_own}
+use Rattle.proc_rules.specs.Link.{Mapped, f_link, mapped_group, links_at, after_link}
+use Rattle.proc_rules.specs.Mem.{f_mem, sets_pages, resized, with_size, size_regs}
+use Rattle.proc_rules.specs.ModuleLinks.{Entered, entered_at, found_entry, module_at, still_primary, without_module_link}
+use Rattle.proc_rules.specs.Program.{page_count, most_pages, blocks_of_pages}
+use Rattle.proc_rules.specs.PrsNam.{f_prsnam, parses_name, past_slash, name_regs}
+use Rattle.proc_rules.specs.SPrior.{f_sprior}
+use Rattle.proc_rules.specs.Send.{f_send, is_asleep, after_signal}
+use Rattle.proc_rules.specs.Sleep.{f_sleep, falls_asleep, may_wake, ticks_left}
+use Rattle.proc_rules.specs.UnLink.{f_unlink, after_unlink, without_group_link, with_links_left}
+use Rattle.proc_rules.specs.UnLoad.{f_unload}
+use Rattle.proc_rules.specs.UserBytes.{user_bytes, d_of}
+use Rattle.proc_rules.specs.Wait.{f_wait, reaped_regs}
+use Rattle.machine_model.specs.declared.ends.EventEnd.{EventEnd}
+use Rattle.machine_model.specs.declared.ends.EventEnd.TheVariants.{Ran, Waits, Ended}
+use Rattle.machine_model.specs.ProcessEvent.{call_event_end}
 use Rattle.call_laws.specs.Others.{AttemptsCall, CallsOn, GetsSignal, GetsWake, KeepsOwn}
 use Rattle.call_laws.specs.Links.{ChangesLinks, GainsLink, LosesLink, LosesPrimary}
 use Rattle.call_laws.specs.NewObjects.{IsParameter}

@@ -1,10 +1,10 @@
 -- What an attempt of a call on paths leaves of the other processes.
 use Rattle.std.proofs.Common.{ℕ, refl, inl}
 use Rattle.proc_model.specs.MemoryChanges.{stored, writes_from}
-use Rattle.call_rules.specs.Processes.{Processes}
+use Rattle.proc_rules.specs.Processes.{Processes}
 use Rattle.io_rules.specs.Attempts.{result_by}
 use Rattle.io_rules.specs.Step.{IoEffect, IoEnd, answers, fails, keeps}
-use Rattle.event_rules.specs.declared.ends.EventEnd.TheVariants.{Ran, Waits}
+use Rattle.machine_model.specs.declared.ends.EventEnd.TheVariants.{Ran, Waits}
 use Rattle.call_laws.proofs.MemoryKept.{itself-written, kept-written}
 use Rattle.call_laws.proofs.OthersKept.{changed-self}
 use Rattle.call_laws.proofs.CallsKept.{AttemptLeft, left-done, left-refused, left-waits, regs-changed}

@@ -10,11 +10,11 @@ use Rattle.proc_rules.specs.declared.record.Intercept.{Intercept}
 use Rattle.proc_rules.specs.declared.record.Record.{Record}
 use Rattle.proc_rules.specs.Records.{record_of, record_at, is_waiting, with_regs}
 use Rattle.proc_rules.specs.Signals.{with_signal}
-use Rattle.call_rules.specs.Attempts.{goes_on}
-use Rattle.call_rules.specs.Delivery.{delivered, after_delivery, has_no_room, interrupted_regs, frame_bytes, routine_begun, stack_top, with_frame}
-use Rattle.call_rules.specs.Processes.{Processes, regs_at, cells_at, with_records}
-use Rattle.event_rules.specs.declared.ends.EventEnd.TheVariants.{Ran}
-use Rattle.event_rules.specs.Event.{after_instruction, broken_off, delivery_end, instruction_end, next_instruction}
+use Rattle.proc_rules.specs.Attempts.{goes_on}
+use Rattle.proc_rules.specs.Delivery.{delivered, after_delivery, has_no_room, interrupted_regs, frame_bytes, routine_begun, stack_top, with_frame}
+use Rattle.proc_rules.specs.Processes.{Processes, regs_at, cells_at, with_records}
+use Rattle.machine_model.specs.declared.ends.EventEnd.TheVariants.{Ran}
+use Rattle.machine_model.specs.ProcessEvent.{after_instruction, broken_off, delivery_end, instruction_end, next_instruction}
 use Rattle.call_laws.proofs.MemoryKept.{itself-written, kept-written}
 use Rattle.call_laws.proofs.OthersKept.{changed-self, record-other, own-other}
 use Rattle.call_laws.proofs.CallsKept.{Left, left-by, ended-left, ended-from, regs-changed, same}

@@ -8,12 +8,12 @@ use Rattle.proc_model.specs.Memory.{MemoryState}
 use Rattle.proc_model.specs.MemoryChanges.{started}
 use Rattle.proc_rules.specs.declared.record.Record.{Record}
 use Rattle.proc_rules.specs.Records.{IsLiving, after_make, free_process, new_record, record_at, with_record}
-use Rattle.call_rules.specs.CallResult.{CallResult, done, refused, waits, ends, needs, refuses, changes}
-use Rattle.call_rules.specs.Fork.{f_fork, forked_regs, with_child, with_child_record}
-use Rattle.call_rules.specs.Processes.{Processes, regs_at, cells_at, with_regs_of}
-use Rattle.call_rules.specs.ModuleLinks.{Entered, found_entry}
-use Rattle.call_rules.specs.Program.{Program, area_pages, asks_for_program, blocks_of_pages, most_pages, program_kind, is_unreadable, module_name, name_at_x, reads_program}
-use Rattle.call_rules.specs.UserBytes.{user_bytes}
+use Rattle.proc_rules.specs.CallResult.{CallResult, done, refused, waits, ends, needs, refuses, changes}
+use Rattle.proc_rules.specs.Fork.{f_fork, forked_regs, with_child, with_child_record}
+use Rattle.proc_rules.specs.Processes.{Processes, regs_at, cells_at, with_regs_of}
+use Rattle.proc_rules.specs.ModuleLinks.{Entered, found_entry}
+use Rattle.proc_rules.specs.Program.{Program, area_pages, asks_for_program, blocks_of_pages, most_pages, program_kind, is_unreadable, module_name, name_at_x, reads_program}
+use Rattle.proc_rules.specs.UserBytes.{user_bytes}
 use Rattle.call_laws.proofs.OthersKept.{living-within, record-put}
 
 -- the result of F$Fork names the child

@@ -18,12 +18,12 @@ use Rattle.proc_rules.specs.Ends.{is_child, is_ended_child, ended_child, ended_r
 use Rattle.proc_rules.specs.Records.{IsLiving, new_record, record_of, record_at, record_passes, has_ended, is_living, with_record, with_regs, without_record, free_process}
 use Rattle.proc_rules.specs.Signals.{is_reached}
 use Rattle.proc_rules.specs.Turns.{with_turn, without_turn}
-use Rattle.call_rules.specs.declared.proc_call.ProcCall.TheVariants as Call
-use Rattle.call_rules.specs.Attempts.{goes_on, waiting}
-use Rattle.call_rules.specs.Processes.{Processes, no_own, own_at, with_own}
-use Rattle.call_rules.specs.ModuleLinks.{still_primary}
-use Rattle.event_rules.specs.declared.ends.EventEnd.{EventEnd}
-use Rattle.event_rules.specs.declared.ends.EventEnd.TheVariants.{Ended}
+use Rattle.proc_rules.specs.declared.proc_call.ProcCall.TheVariants as Call
+use Rattle.proc_rules.specs.Attempts.{goes_on, waiting}
+use Rattle.proc_rules.specs.Processes.{Processes, no_own, own_at, with_own}
+use Rattle.proc_rules.specs.ModuleLinks.{still_primary}
+use Rattle.machine_model.specs.declared.ends.EventEnd.{EventEnd}
+use Rattle.machine_model.specs.declared.ends.EventEnd.TheVariants.{Ended}
 use Rattle.call_laws.specs.Others.{turns_of_others, AttemptsCall, GetsWake, KeepsRecord, KeepsOwn, Goes, ComesOf}
 use Rattle.call_laws.specs.Links.{ChangesLinks}
 use Rattle.call_laws.specs.NewObjects.{IsParameter}

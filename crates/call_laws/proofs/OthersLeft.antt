@@ -2,8 +2,8 @@
 use Rattle.std.proofs.Common.{ℕ, None, List, length, ap, ◌∙◌}
 use Rattle.std.proofs.lemmas.List.{get_or-set_other}
 use Rattle.os9_outer.specs.TerminalState.{TerminalState}
-use Rattle.call_rules.specs.CallResult.{CallResult}
-use Rattle.call_rules.specs.Processes.{Processes}
+use Rattle.proc_rules.specs.CallResult.{CallResult}
+use Rattle.proc_rules.specs.Processes.{Processes}
 use Rattle.io_model.specs.Path.{numbers_of}
 use Rattle.io_rules.specs.Attempts.{IoAttempts, caller_of, pending_in, step_of}
 use Rattle.io_rules.specs.Io.{Io, pending_at, open_path}

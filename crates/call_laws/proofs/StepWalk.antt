@@ -6,9 +6,9 @@ use Rattle.device_table.specs.Names.{is_there, named_device}
 use Rattle.device_table.specs.declared.devices.Dev.{Dev}
 use Rattle.os9_base.specs.declared.calls.TheConstants.{I_READ, I_READLN, I_WRITE, I_WRITLN, F_PERR}
 use Rattle.os9_base.specs.declared.errors.TheConstants.{E_BPADDR, E_BPNAM, E_BPNUM, E_BMODE, E_PTHFUL, E_NOTRDY, E_UNKSVC}
-use Rattle.user_names.specs.declared.name_fault.NameFault.{NameFault}
-use Rattle.user_names.specs.declared.name_fault.NameFault.TheVariants.{Unreadable, NoName}
-use Rattle.call_rules.specs.UserBytes.{user_bytes}
+use Rattle.os9_base.specs.declared.name_fault.NameFault.{NameFault}
+use Rattle.os9_base.specs.declared.name_fault.NameFault.TheVariants.{Unreadable, NoName}
+use Rattle.proc_rules.specs.UserBytes.{user_bytes}
 use Rattle.io_model.specs.Path.{slot_of, free_number, new_number, paths_after_begin, paths_after_dup}
 use Rattle.io_model.specs.Pipe.{free_pipe, pipes_after_begin}
 use Rattle.io_model.specs.declared.pending.PendingCall.{PendingCall}

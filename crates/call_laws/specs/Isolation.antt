@@ -2,8 +2,8 @@
 -- own.
 use Rattle.std.specs.Prelude.{◌≡◌, ◌≢◌, ℕ}
 use Rattle.proc_rules.specs.Records.{record_of}
-use Rattle.call_rules.specs.Processes.{Processes}
-use Rattle.event_rules.specs.declared.ends.EventEnd.{EventEnd}
+use Rattle.proc_rules.specs.Processes.{Processes}
+use Rattle.machine_model.specs.declared.ends.EventEnd.{EventEnd}
 use Rattle.call_laws.specs.NewObjects.{HoldNothingElse}
 use Rattle.call_laws.specs.Objects.{KeepsSizes, KeepsObjects, KeepsToItself}
 use Rattle.call_laws.specs.Others.{ComesOf, turns_of_others}

@@ -11,14 +11,14 @@ use Rattle.proc_rules.specs.declared.record.Record.{Record}
 use Rattle.proc_rules.specs.Records.{record_of, record_at, has_ended, free_process}
 use Rattle.proc_rules.specs.Signals.{is_reached, wake_signal}
 use Rattle.proc_rules.specs.declared.turn.Turn.{Turn}
-use Rattle.call_rules.specs.declared.proc_call.ProcCall.{ProcCall}
-use Rattle.call_rules.specs.Codes.{call_of}
-use Rattle.call_rules.specs.Processes.{Processes, own_at, regs_at, user_at}
-use Rattle.call_rules.specs.Ready.{attempts, act_of}
-use Rattle.call_rules.specs.Send.{is_asleep}
-use Rattle.event_rules.specs.declared.ends.EventEnd.{EventEnd}
-use Rattle.event_rules.specs.declared.ends.EventEnd.TheVariants.{Ended}
-use Rattle.call_rules.specs.declared.proc_call.ProcCall.TheVariants as Call
+use Rattle.proc_rules.specs.declared.proc_call.ProcCall.{ProcCall}
+use Rattle.proc_rules.specs.Codes.{call_of}
+use Rattle.proc_rules.specs.Processes.{Processes, own_at, regs_at, user_at}
+use Rattle.proc_rules.specs.Ready.{attempts, act_of}
+use Rattle.proc_rules.specs.Send.{is_asleep}
+use Rattle.machine_model.specs.declared.ends.EventEnd.{EventEnd}
+use Rattle.machine_model.specs.declared.ends.EventEnd.TheVariants.{Ended}
+use Rattle.proc_rules.specs.declared.proc_call.ProcCall.TheVariants as Call
 use Rattle.call_laws.specs.Objects.{IsNewOrShared}
 
 -- ---- what the process does

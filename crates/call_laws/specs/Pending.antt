@@ -3,7 +3,7 @@ use Rattle.std.specs.Prelude.{◌≡◌, ℕ, true, Some, IsSome, IsSomeAnd}
 use Rattle.os9_base.specs.Cells.{Cells, FitsIn}
 use Rattle.os9_base.specs.declared.registers.Regs.{Regs}
 use Rattle.proc_rules.specs.Records.{IsLiving, record_at, is_waiting}
-use Rattle.call_rules.specs.Processes.{Processes, own_at, regs_at, cells_at}
+use Rattle.proc_rules.specs.Processes.{Processes, own_at, regs_at, cells_at}
 use Rattle.io_model.specs.declared.pending.PendingCall.{PendingCall}
 use Rattle.io_rules.specs.Again.{IsPending}
 use Rattle.io_rules.specs.Codes.{io_call_of, direction_of_call}
@@ -46,4 +46,4 @@ pub record WaitsInCall (processes : Processes) (io : Io) (p : ℕ) : Type 0 wher
 abbrev pub AreInCalls : Processes → Io → Type 0
 AreInCalls processes io =
     (p : ℕ) → IsLiving processes.records p → is_waiting (record_at processes.records p).life ≡ true
-        → WaitsInCall processes io p
+    → WaitsInCall processes io p

@@ -1,8 +1,8 @@
 //! One attempt of a call on terminals, pipes and paths.
 
 ghost use Rattle.std.specs.Prelude.{◌≡◌, ◌≢◌, ℕ, List};
-ghost use Rattle.call_rules.specs.CallResult.{CallResult};
-ghost use Rattle.call_rules.specs.Processes.{Processes};
+ghost use Rattle.proc_rules.specs.CallResult.{CallResult};
+ghost use Rattle.proc_rules.specs.Processes.{Processes};
 ghost use Rattle.call_laws.specs.PathOthers.{LeavesPaths};
 ghost use Rattle.io_rules.specs.Attempts.{IoAttempts};
 ghost use Rattle.io_rules.specs.declared.io_call.IoCall.{IoCall};

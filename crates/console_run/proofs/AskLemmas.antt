@@ -1,13 +1,13 @@
 -- What is typed before a slice.
 use Rattle.std.proofs.Common.{◌≡◌, ◌≢◌, ◌⊎◌, ◌↔◌, IsSome, ◌+◌, ℕ, Some, None, Option, List, [], ◌∷◌, ◌++◌, drop, length, take, refl, sym, ap, ◌∙◌, subst, append-nil, inl, inr}
 use Rattle.os9_outer.specs.TerminalState.{TerminalState}
-use Rattle.event_rules.specs.declared.ends.SliceEnd.{SliceEnd}
+use Rattle.machine_model.specs.declared.ends.SliceEnd.{SliceEnd}
 use Rattle.machine_model.specs.State.{State}
 use Rattle.os9_kernel.specs.Outside.{Outside}
 use Rattle.os9_kernel.specs.Tie.{Represents, ticks}
 use Rattle.os9_kernel.specs.declared.kernel.Kernel.{Kernel}
-use Rattle.session_text.specs.Typed.{kept_keys, keys_typed}
-use Rattle.session_text.specs.declared.typed.Typed.{Typed}
+use Rattle.console_run.specs.Typed.{kept_keys, keys_typed}
+use Rattle.console_run.specs.declared.typed.Typed.{Typed}
 use Rattle.console_run.specs.Kept.{IsKept}
 use Rattle.console_run.specs.Keyboard.{FailsToGive, GivesEnd, KeyboardState, TakesLines, line_list, shown_for}
 use Rattle.console_run.specs.Lines.{line_bytes}

@@ -4,7 +4,7 @@ use Rattle.std.specs.Prelude.{Result, Ok, Err, replicate}
 use Rattle.os9_outer.specs.Stream.{stream_with}
 use Rattle.os9_outer.specs.TerminalState.{TerminalState}
 use Rattle.boot_run.specs.Loaded.{HasNoKeys, keys_for}
-use Rattle.event_rules.specs.declared.ends.SliceEnd.{SliceEnd}
+use Rattle.machine_model.specs.declared.ends.SliceEnd.{SliceEnd}
 use Rattle.machine_model.specs.Run.{Run}
 use Rattle.machine_model.specs.State.{State, has_living}
 use Rattle.run_laws.specs.Session.{keys_loaded, with_keys}
@@ -20,8 +20,8 @@ use Rattle.boot_run.specs.World.{World, FailsToWrite, HasNoFault}
 use Rattle.boot_run.specs.declared.run.RunFault.{RunFault}
 use Rattle.boot_run.specs.declared.run.RunFault.TheVariants.{Output, NoMemory}
 use Rattle.console_run.specs.Kept.{IsKept, load_of, with_typed}
-use Rattle.session_text.specs.Typed.{kept_keys, kept_slices}
-use Rattle.session_text.specs.declared.typed.TheConstants.{SLICE}
+use Rattle.console_run.specs.Typed.{kept_keys, kept_slices}
+use Rattle.console_run.specs.declared.typed.TheConstants.{SLICE}
 use Rattle.script_text.specs.declared.script.ScriptKey.{ScriptKey}
 use Rattle.file_drives.specs.Drives.{DriveView}
 use Rattle.console_run.specs.Keyboard.{KeyboardState, line_list, shown_for}
@@ -30,7 +30,7 @@ use Rattle.console_run.specs.Session.{RunsSession, StopsFor, at_start}
 use Rattle.console_run.specs.Turn.{AllWait, ConsoleState, LosesLine, MeetsEnd}
 use Rattle.console_run.specs.TypedTurn.{last_end, lines_of, shown_at, turn_of}
 use Rattle.console_run.specs.Waiting.{IsOver, WaitsForLine}
-use Rattle.session_text.specs.declared.typed.Typed.{Typed}
+use Rattle.console_run.specs.declared.typed.Typed.{Typed}
 use Rattle.console_run.specs.declared.turns.Stop.{Stop}
 use Rattle.console_run.proofs.KeyLemmas.{IsOfTerm, count-loaded, keys-still, loaded-typed}
 use Rattle.console_run.proofs.LineLemmas.{takes-then}

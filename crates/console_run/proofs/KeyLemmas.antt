@@ -15,10 +15,10 @@ use Rattle.script_text.specs.declared.script.ScriptKey.{ScriptKey}
 use Rattle.script_text.specs.Script.{key_at}
 use Rattle.run_laws.specs.Session.{AreLater, Keys, keys_loaded, keys_then}
 use Rattle.console_run.specs.Kept.{IsKept, load_of}
-use Rattle.session_text.specs.Typed.{kept_keys, keys_of_parts, keys_typed, part_bytes}
+use Rattle.console_run.specs.Typed.{kept_keys, keys_of_parts, keys_typed, part_bytes}
 use Rattle.console_run.specs.Waiting.{term_keys}
-use Rattle.session_text.specs.declared.typed.Typed.{Typed}
-use Rattle.session_text.specs.declared.typed.TypedPart.{TypedPart}
+use Rattle.console_run.specs.declared.typed.Typed.{Typed}
+use Rattle.console_run.specs.declared.typed.TypedPart.{TypedPart}
 
 -- a key of TERM that is due in this tick
 pub record IsTyped (tick : ℕ) (key : ScriptKey) : Type 0 where

@@ -1,3 +1,6 @@
+pub mod TextLemmas
+mod FitLemmas
+mod PushLemmas
 pub mod AskLemmas
 pub mod EndLemmas
 pub mod KeyLemmas

@@ -2,7 +2,7 @@
 use Rattle.std.proofs.Common.{◌≡◌, List, [], ◌∷◌, ◌++◌, length, sym, ap, ◌∙◌, subst, All}
 use Rattle.std.proofs.lemmas.List.Elements.{All-cons, All-head, All-tail}
 use Rattle.os9_outer.specs.TerminalState.{TerminalState}
-use Rattle.wake_laws.proofs.OpenRuns.{terminals-open}
+use Rattle.lock_laws.proofs.OpenRuns.{terminals-open}
 use Rattle.machine_model.specs.State.{State}
 use Rattle.run_laws.specs.Session.{Keys, keys_loaded, with_keys}
 use Rattle.os9_kernel.specs.declared.kernel.Kernel.{Kernel}

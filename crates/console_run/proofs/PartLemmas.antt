@@ -6,8 +6,8 @@ use Rattle.std.proofs.lemmas.Bool.{ltb-false, ltb-true}
 use Rattle.std.proofs.lemmas.List.{drop-drop, drop_all, length-drop, length-take-le, map-append, take_all, take_more}
 use Rattle.std.proofs.lemmas.List.Concat.{flat_map-append}
 use Rattle.script_text.specs.declared.script.ScriptKey.{ScriptKey}
-use Rattle.session_text.specs.Typed.{IsUntyped, kept_bytes, kept_keys, keys_typed}
-use Rattle.session_text.specs.declared.typed.Typed.{Typed}
+use Rattle.console_run.specs.Typed.{IsUntyped, kept_bytes, kept_keys, keys_typed}
+use Rattle.console_run.specs.declared.typed.Typed.{Typed}
 use Rattle.console_run.specs.Kept.{IsKept}
 use Rattle.console_run.specs.Keyboard.{FailsToGive, GivesEnd, KeyboardState, TakesLines, line_list, shown_for}
 use Rattle.console_run.specs.Lines.{AreTyped, GaveLines, KeepsLines, LacksKeys, TypesIf, asked_bytes, last_bytes, left_after, line_bytes}

@@ -3,8 +3,8 @@ use Rattle.std.proofs.Common.{◌≡◌, ◌≢◌, ℕ, List, [], sym, ap, ◌�
 use Rattle.os9_outer.specs.Stream.{stream_with, GainsPrefix}
 use Rattle.os9_outer.specs.TerminalState.{TerminalState}
 use Rattle.file_drives.specs.Drives.{DriveView}
-use Rattle.event_rules.specs.Console.{console_bytes, terminals_emptied}
-use Rattle.event_rules.specs.declared.ends.SliceEnd.{SliceEnd}
+use Rattle.machine_model.specs.Console.{console_bytes, terminals_emptied}
+use Rattle.machine_model.specs.declared.ends.SliceEnd.{SliceEnd}
 use Rattle.machine_model.specs.Run.{BeginsSlice}
 use Rattle.machine_model.specs.State.{State}
 use Rattle.os9_kernel.specs.Calls.{HasSlice, StopsSlice}
@@ -17,7 +17,7 @@ use Rattle.boot_run.specs.Console.{IsObserved, emptied_front}
 use Rattle.boot_run.specs.World.{World, HasNoFault}
 use Rattle.boot_run.proofs.RunLemmas.{observed-slice, represents-taken, terms-standing}
 use Rattle.console_run.specs.Turn.{PassesSlice, StopsTurn}
-use Rattle.session_text.specs.declared.typed.TheConstants.{SLICE}
+use Rattle.console_run.specs.declared.typed.TheConstants.{SLICE}
 
 -- the devices before a slice, where it was run, and at the end
 module _ (old new : Kernel) (before after : World) (sliced : Outside) (end : SliceEnd) (slice : HasSlice SLICE old new before.devices sliced end) where

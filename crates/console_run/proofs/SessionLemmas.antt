@@ -8,9 +8,9 @@ use Rattle.boot_run.specs.Loaded.{HasNoKeys, loaded}
 use Rattle.lock_model.specs.declared.history.Entry.{Entry}
 use Rattle.file_rules.specs.Files.{DriveState, NoneFailed}
 use Rattle.file_drives.specs.Drives.{drive_states}
-use Rattle.file_start.specs.Start.{StartsDrives}
-use Rattle.event_rules.specs.State.{living_count}
-use Rattle.event_rules.specs.declared.ends.BootFault.TheVariants.{OutOfMemory, BadModule, NoFirst, TooLarge}
+use Rattle.cold_start.specs.Start.{StartsDrives}
+use Rattle.machine_model.specs.Living.{living_count}
+use Rattle.machine_model.specs.declared.ends.BootFault.TheVariants.{OutOfMemory, BadModule, NoFirst, TooLarge}
 use Rattle.machine_model.specs.Run.{Run}
 use Rattle.machine_model.specs.Start.{Starts}
 use Rattle.machine_model.specs.State.{State, has_living}
@@ -35,10 +35,10 @@ use Rattle.console_run.specs.Kept.{load_of}
 use Rattle.console_run.specs.Keyboard.{KeyboardState}
 use Rattle.console_run.specs.Session.{AsksKeyboard, HasPart, IsPartTo, IsSessionTo, LeadsSession, RunsSession, StopsSession, StopsWithin, untyped, with_bytes}
 use Rattle.console_run.specs.TypedTurn.{TypedTurn}
-use Rattle.session_text.specs.Typed.{kept_keys, kept_slices, keys_of_parts, keys_typed, part_bytes}
-use Rattle.session_text.specs.declared.typed.TheConstants.{SLICE}
-use Rattle.session_text.specs.declared.typed.Typed.{Typed}
-use Rattle.session_text.specs.declared.typed.TypedPart.{TypedPart}
+use Rattle.console_run.specs.Typed.{kept_keys, kept_slices, keys_of_parts, keys_typed, part_bytes}
+use Rattle.console_run.specs.declared.typed.TheConstants.{SLICE}
+use Rattle.console_run.specs.declared.typed.Typed.{Typed}
+use Rattle.console_run.specs.declared.typed.TypedPart.{TypedPart}
 use Rattle.console_run.specs.declared.session.SessionEnd.TheVariants.{LineLost, OfRun}
 use Rattle.console_run.specs.declared.turns.Stop.{Stop}
 use Rattle.console_run.proofs.KeyLemmas.{IsOfTerm, all-typed, loaded-none, loaded-typed, of-term}

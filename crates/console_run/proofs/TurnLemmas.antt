@@ -11,10 +11,10 @@ use Rattle.boot_run.specs.Loaded.{keys_for}
 use Rattle.script_text.specs.declared.script.ScriptKey.{ScriptKey}
 use Rattle.device_table.proofs.StreamLemmas.{appended-twice, appended-nothing}
 use Rattle.file_drives.specs.Drives.{DriveView}
-use Rattle.call_rules.specs.Processes.{Processes}
-use Rattle.event_rules.specs.Console.{console_bytes, terminals_emptied}
-use Rattle.event_rules.specs.State.{living_count}
-use Rattle.event_rules.specs.declared.ends.SliceEnd.{SliceEnd}
+use Rattle.proc_rules.specs.Processes.{Processes}
+use Rattle.machine_model.specs.Console.{console_bytes, terminals_emptied}
+use Rattle.machine_model.specs.Living.{living_count}
+use Rattle.machine_model.specs.declared.ends.SliceEnd.{SliceEnd}
 use Rattle.file_rules.specs.Attempts.{asker_of, file_step}
 use Rattle.machine_model.specs.Run.{BeginsSlice, Run, Slice}
 use Rattle.machine_model.specs.State.{State, has_living}
@@ -32,15 +32,15 @@ use Rattle.boot_run.specs.World.{World, HasNoFault}
 use Rattle.boot_run.specs.declared.run.RunFault.{RunFault}
 use Rattle.boot_run.proofs.RunLemmas.{images-later, observed-emptied, observed-slice, run-append, run-slice, some-living}
 use Rattle.console_run.specs.Kept.{load_of}
-use Rattle.session_text.specs.Typed.{IsUntyped, kept_keys, kept_slices, keys_typed}
+use Rattle.console_run.specs.Typed.{IsUntyped, kept_keys, kept_slices, keys_typed}
 use Rattle.console_run.specs.Keyboard.{KeyboardState, TakesLines, line_list, shown_for}
 use Rattle.console_run.specs.Lines.{TypesIf, left_after}
 use Rattle.console_run.specs.Session.{HasPart, at_start, with_bytes}
 use Rattle.console_run.specs.Turn.{ConsoleState, PassesSlice, RunsTurn, StopsTurn, TypesLine}
 use Rattle.console_run.specs.TypedTurn.{KeepsTurns, TypedTurn, TypedTurns, last_end, left_of, lines_of, shown_at, turn_keys, turn_of}
 use Rattle.console_run.specs.Waiting.{WaitsForLine}
-use Rattle.session_text.specs.declared.typed.TheConstants.{SLICE}
-use Rattle.session_text.specs.declared.typed.Typed.{Typed}
+use Rattle.console_run.specs.declared.typed.TheConstants.{SLICE}
+use Rattle.console_run.specs.declared.typed.Typed.{Typed}
 use Rattle.console_run.proofs.KeyLemmas.{all-typed, count-loaded, keys-more, load-later, loaded-none, none-kept, then-then}
 use Rattle.console_run.proofs.LineLemmas.{takes-none, takes-then}
 use Rattle.console_run.proofs.LoadLemmas.{observed-loaded, represents-loaded}
@@ -582,7 +582,7 @@ module _ (start : List DriveView) (first : Option (List ℕ)) (was place : Conso
   partly-typed fault origin out none made =
       let load : List ScriptKey = keys_typed (ticks kernel + 1) made.bytes in
       let due : AreLater m.processes.tick (load_of load) =
-          subst (λ (tick : ℕ). AreLater tick (load_of load)) (sym tick-here) (load-later (ticks kernel) load (all-typed (ticks kernel + 1) made.bytes)) in
+      subst (λ (tick : ℕ). AreLater tick (load_of load)) (sym tick-here) (load-later (ticks kernel) load (all-typed (ticks kernel + 1) made.bytes)) in
       let part : RunsPartly (kept_slices old ++ SLICE ∷ [])
       (with_keys s ((keys_for 0 (kept_keys old) ++ keys_for 0 load) ∷ [])) origin now = comes-partly start
       (keys_for 0 (kept_keys old)) (keys_for 0 load) (kept_slices old) s m here.written kernel after before now

@@ -4,7 +4,7 @@ use Rattle.boot_run.specs.Loaded.{keys_for, loaded}
 use Rattle.script_text.specs.declared.script.ScriptKey.{ScriptKey}
 use Rattle.run_laws.specs.Session.{Keys}
 use Rattle.boot_run.specs.World.{World}
-use Rattle.session_text.specs.declared.typed.Typed.{Typed}
+use Rattle.console_run.specs.declared.typed.Typed.{Typed}
 
 -- these keys of TERM, as they are loaded
 abbrev pub load_of : List ScriptKey → Keys

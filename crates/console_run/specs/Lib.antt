@@ -1,3 +1,5 @@
+pub mod Texts
+pub mod Typed
 pub mod Keyboard
 pub mod Kept
 pub mod Lines

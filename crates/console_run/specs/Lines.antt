@@ -1,8 +1,8 @@
 -- The lines of a keyboard, and what is typed of them.
 use Rattle.std.specs.Prelude.{◌≡◌, ◌≢◌, ◌⊎◌, ◌↔◌, ℕ, IsSome, Option, Some, None, List, [], ◌∷◌, ◌++◌, drop, length, take}
 use Rattle.std.specs.List.{flat_map}
-use Rattle.session_text.specs.Typed.{kept_bytes}
-use Rattle.session_text.specs.declared.typed.Typed.{Typed}
+use Rattle.console_run.specs.Typed.{kept_bytes}
+use Rattle.console_run.specs.declared.typed.Typed.{Typed}
 use Rattle.console_run.specs.Keyboard.{FailsToGive, GivesEnd, KeyboardState, TakesLines}
 use Rattle.console_run.specs.declared.part.TheConstants.{PART}
 

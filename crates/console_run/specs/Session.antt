@@ -3,8 +3,8 @@ use Rattle.std.specs.Prelude.{◌≡◌, ◌≢◌, ◌⊎◌, ◌+◌, ◌++◌
 use Rattle.std.specs.List.{flat_map}
 use Rattle.os9_outer.specs.Stream.{stream_with}
 use Rattle.lock_model.specs.declared.history.Entry.{Entry}
-use Rattle.file_start.specs.Start.{HaveImages}
-use Rattle.event_rules.specs.declared.ends.SliceEnd.{SliceEnd}
+use Rattle.cold_start.specs.Start.{HaveImages}
+use Rattle.machine_model.specs.declared.ends.SliceEnd.{SliceEnd}
 use Rattle.machine_model.specs.Run.{Run}
 use Rattle.machine_model.specs.State.{State, has_living}
 use Rattle.run_laws.specs.Session.{Session, with_keys}
@@ -20,15 +20,15 @@ use Rattle.boot_run.specs.declared.machine.RunEnd.{RunEnd}
 use Rattle.boot_run.specs.declared.machine.RunEnd.TheVariants.{Ended, Living, Refused, DriveFailed, OutputFailed, NoMemory}
 use Rattle.boot_run.specs.declared.run.RunFault.{RunFault}
 use Rattle.console_run.specs.Kept.{load_of, with_typed}
-use Rattle.session_text.specs.Typed.{kept_keys, kept_slices, keys_typed}
+use Rattle.console_run.specs.Typed.{kept_keys, kept_slices, keys_typed}
 use Rattle.console_run.specs.Keyboard.{GivesEnd, KeyboardState, TakesLines, line_list, shown_for}
 use Rattle.console_run.specs.Lines.{KeepsLines, LacksKeys, TypesIf}
 use Rattle.console_run.specs.Shown.{shown_length}
 use Rattle.console_run.specs.Turn.{StopsTurn}
 use Rattle.console_run.specs.TypedTurn.{KeepsTurns, TypedTurn, TypedTurns, last_end, left_of, lines_of, shown_at, turn_keys, turn_of}
 use Rattle.console_run.specs.Waiting.{IsOver, WaitsForLine}
-use Rattle.session_text.specs.declared.typed.TheConstants.{SLICE}
-use Rattle.session_text.specs.declared.typed.Typed.{Typed}
+use Rattle.console_run.specs.declared.typed.TheConstants.{SLICE}
+use Rattle.console_run.specs.declared.typed.Typed.{Typed}
 use Rattle.console_run.specs.declared.session.SessionEnd.{SessionEnd}
 use Rattle.console_run.specs.declared.session.SessionEnd.TheVariants.{OfRun, LineLost}
 use Rattle.console_run.specs.declared.turns.Stop.{Stop}

@@ -3,8 +3,8 @@ use Rattle.std.specs.Prelude.{◌≡◌, ◌≢◌, ◌⊎◌, ◌↔◌, ℕ, �
 use Rattle.os9_outer.specs.Stream.{stream_with}
 use Rattle.os9_outer.specs.TerminalState.{TerminalState}
 use Rattle.script_text.specs.declared.script.ScriptKey.{ScriptKey}
-use Rattle.event_rules.specs.Console.{console_bytes, terminals_emptied}
-use Rattle.event_rules.specs.declared.ends.SliceEnd.{SliceEnd}
+use Rattle.machine_model.specs.Console.{console_bytes, terminals_emptied}
+use Rattle.machine_model.specs.declared.ends.SliceEnd.{SliceEnd}
 use Rattle.machine_model.specs.Run.{BeginsSlice, Slice}
 use Rattle.machine_model.specs.State.{State}
 use Rattle.run_laws.specs.Session.{keys_loaded}
@@ -19,7 +19,7 @@ use Rattle.boot_run.specs.Slices.{BreaksOutput}
 use Rattle.boot_run.specs.World.{World, FailsToWrite, HasNoFault}
 use Rattle.boot_run.specs.declared.run.RunFault.{RunFault}
 use Rattle.console_run.specs.Kept.{IsKept, load_of}
-use Rattle.session_text.specs.Typed.{kept_keys, keys_typed}
+use Rattle.console_run.specs.Typed.{kept_keys, keys_typed}
 use Rattle.console_run.specs.Keyboard.{GivesEnd, KeyboardState, TakesLines, keyboard_state, line_list, shown_for}
 use Rattle.console_run.specs.Lines.{LacksKeys, TypesIf, asked_bytes, left_after}
 use Rattle.console_run.specs.Shown.{shown_length}
@@ -27,8 +27,8 @@ use Rattle.console_run.specs.declared.console.Console.{Console}
 use Rattle.console_run.specs.declared.keyboard.Keyboard.{Ghosts}
 use Rattle.console_run.specs.declared.part.TheConstants.{PART}
 use Rattle.console_run.specs.Waiting.{WaitsForLine}
-use Rattle.session_text.specs.declared.typed.TheConstants.{SLICE}
-use Rattle.session_text.specs.declared.typed.Typed.{Typed}
+use Rattle.console_run.specs.declared.typed.TheConstants.{SLICE}
+use Rattle.console_run.specs.declared.typed.Typed.{Typed}
 use Rattle.console_run.specs.declared.asking.Asked.{Asked}
 use Rattle.console_run.specs.declared.asking.Asked.TheVariants.{GoesOn, AtEnd, NoMemory}
 

@@ -2,19 +2,19 @@
 use Rattle.std.specs.Prelude.{◌≡◌, ℕ, ◌+◌, ◌++◌, true, Option, List, [], ◌∷◌, length}
 use Rattle.std.specs.List.{flat_map}
 use Rattle.os9_outer.specs.Stream.{stream_with}
-use Rattle.event_rules.specs.Console.{console_bytes, terminals_emptied}
-use Rattle.event_rules.specs.declared.ends.SliceEnd.{SliceEnd}
+use Rattle.machine_model.specs.Console.{console_bytes, terminals_emptied}
+use Rattle.machine_model.specs.declared.ends.SliceEnd.{SliceEnd}
 use Rattle.script_text.specs.declared.script.ScriptKey.{ScriptKey}
 use Rattle.machine_model.specs.Run.{Slice}
 use Rattle.machine_model.specs.State.{State, has_living}
 use Rattle.run_laws.specs.Session.{Turn, with_keys}
 use Rattle.console_run.specs.Kept.{load_of}
-use Rattle.session_text.specs.Typed.{kept_keys, keys_typed}
+use Rattle.console_run.specs.Typed.{kept_keys, keys_typed}
 use Rattle.console_run.specs.Keyboard.{line_list, shown_for}
 use Rattle.console_run.specs.Lines.{TypesIf, left_after}
 use Rattle.console_run.specs.Waiting.{WaitsForLine}
-use Rattle.session_text.specs.declared.typed.Typed.{Typed}
-use Rattle.session_text.specs.declared.typed.TheConstants.{SLICE}
+use Rattle.console_run.specs.declared.typed.Typed.{Typed}
+use Rattle.console_run.specs.declared.typed.TheConstants.{SLICE}
 
 -- a turn: a line or a part of one is typed or nothing, and then a slice is run
 pub record TypedTurn : Type 0 where

@@ -1,7 +1,7 @@
 ghost use Rattle.std.specs.Prelude.{◌≡◌};
-ghost use Rattle.session_text.specs.Typed.{IsUntyped};
+ghost use Rattle.console_run.specs.Typed.{IsUntyped};
 
-use session_text::typed::Typed;
+use crate::typed::Typed;
 use std::alloc::Global;
 
 /// The place of a person who types at a machine.

@@ -3,14 +3,14 @@
 ghost use Rattle.std.specs.Prelude.{◌≡◌, ◌<◌, ◌∷◌, [], IfOk, OnErr, OnOk, IsFalse, IsTrue, length, map, vec_len};
 ghost use Rattle.device_table.specs.Seen.{terminals_seen};
 ghost use Rattle.run_laws.specs.Session.{keys_loaded};
-ghost use Rattle.session_text.specs.Typed.{keys_typed, part_bytes};
+ghost use Rattle.console_run.specs.Typed.{keys_typed, part_bytes};
 ghost use Rattle.console_run.specs.Kept.{IsKept};
 ghost use Rattle.console_run.specs.Turn.{LoadsKeys};
 ghost use Rattle.console_run.specs.Waiting.{term_keys};
 
+use crate::typed::{Typed, TypedPart};
 use device_table::devices::Devices;
 use os9_outer::terminal::{CharDriver, Key};
-use session_text::typed::{Typed, TypedPart};
 use std::alloc::{AllocError, Global};
 
 /// The terminal at which a person types.

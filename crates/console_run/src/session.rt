@@ -5,7 +5,7 @@ ghost use Rattle.os9_kernel.specs.Outside.{outside};
 ghost use Rattle.os9_words.specs.Notes.{notes_of};
 ghost use Rattle.boot_run.specs.Machine.{CanRun, history_left};
 ghost use Rattle.boot_run.specs.World.{OnWorld};
-ghost use Rattle.session_text.specs.Typed.{IsUntyped};
+ghost use Rattle.console_run.specs.Typed.{IsUntyped};
 ghost use Rattle.console_run.specs.Keyboard.{keyboard_state};
 ghost use Rattle.console_run.specs.Seen.{AreAsMany};
 ghost use Rattle.console_run.specs.Session.{SessionRuns};

@@ -9,13 +9,13 @@ ghost use Rattle.boot_run.specs.World.{OnWorld};
 ghost use Rattle.console_run.specs.Seen.{AreAsMany};
 ghost use Rattle.console_run.specs.Turn.{RunsTurn};
 
+use crate::typed::SLICE;
 use boot_run::{RunFault, pass_on};
 use device_table::devices::Devices;
 use os9_kernel::{Kernel, SliceEnd};
 use os9_outer::drive::BlockDriver;
 use os9_outer::host::{Host, HostFault};
 use os9_outer::terminal::CharDriver;
-use session_text::typed::SLICE;
 
 /// Runs a slice, and passes what it writes to the output stream.
 ///

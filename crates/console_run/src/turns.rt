@@ -7,7 +7,7 @@ ghost use Rattle.boot_run.specs.World.{OnWorld};
 ghost use Rattle.os9_kernel.specs.Outside.{outside};
 ghost use Rattle.os9_kernel.specs.Tie.{Stands, ticks};
 ghost use Rattle.os9_words.specs.Notes.{notes_of};
-ghost use Rattle.session_text.specs.Typed.{IsUntyped};
+ghost use Rattle.console_run.specs.Typed.{IsUntyped};
 ghost use Rattle.console_run.specs.Keyboard.{keyboard_state};
 ghost use Rattle.console_run.specs.Seen.{AreAsMany};
 ghost use Rattle.console_run.specs.Session.{RunsTurns};

@@ -4,7 +4,7 @@ use Rattle.os9_base.specs.Cells.{Cells, FitsIn}
 use Rattle.os9_base.specs.declared.call.CallEnd.{CallEnd}
 use Rattle.os9_base.specs.declared.registers.Regs.{Regs}
 use Rattle.proc_model.specs.MemoryChanges.{stored}
-use Rattle.call_rules.specs.Processes.{Processes, regs_at, with_memory, with_regs_of}
+use Rattle.proc_rules.specs.Processes.{Processes, regs_at, with_memory, with_regs_of}
 use Rattle.io_model.specs.Pending.{count_left, moved_on}
 use Rattle.io_model.specs.Path.{PathTable}
 use Rattle.io_model.specs.Pipe.{read_answer, read_line_answer, bytes_moved}
@@ -48,7 +48,7 @@ pub may-wait-on : (paths : PathTable) (p : ℕ) (call new : PendingCall) (count 
     → call.moved + count ≤ call.count → MayWait paths p call → new.moved ≢ new.count → MayWait paths p new
 may-wait-on paths p call new count is few may =
     subst (λ (k : PendingCall). k.moved ≢ k.count → MayWait paths p k) (sym is)
-        (λ differ. record { moves = moves-on paths call count may.moves; left = omega arith; held = may.held; reads = may.reads })
+    (λ differ. record { moves = moves-on paths call count may.moves; left = omega arith; held = may.held; reads = may.reads })
 
 -- a range that fits has parts that fit
 pub fits-behind : (cells : Cells) (at count moved most : ℕ) → FitsIn cells at count → moved + most ≤ count → FitsIn cells (at + moved) most

@@ -8,9 +8,9 @@ use Rattle.std.proofs.lemmas.List.Quantifiers.{position-Some}
 use Rattle.std.proofs.lemmas.Option.{none-some, same_Some}
 use Rattle.os9_base.specs.Cells.{Cells}
 use Rattle.os9_base.specs.declared.registers.Regs.{Regs}
-use Rattle.user_names.specs.UserLines as User
-use Rattle.user_names.specs.UserNames.{user_cell}
-use Rattle.call_rules.specs.UserBytes.{byte_before, user_bytes}
+use Rattle.os9_base.specs.UserLines as User
+use Rattle.os9_base.specs.UserNames.{user_cell}
+use Rattle.proc_rules.specs.UserBytes.{byte_before, user_bytes}
 use Rattle.io_model.specs.Line.{line_length, return_place}
 use Rattle.io_model.specs.declared.keys.TheConstants.{RETURN}
 use Rattle.io_model.specs.declared.pending.PendingCall.{PendingCall}

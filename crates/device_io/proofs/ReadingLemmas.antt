@@ -11,8 +11,8 @@ use Rattle.os9_base.specs.declared.errors.TheConstants.{E_BMODE, E_BPNUM}
 use Rattle.os9_base.specs.declared.registers.Pid.{Pid}
 use Rattle.os9_base.specs.declared.registers.Regs.{Regs}
 use Rattle.os9_outer.specs.TerminalState.{TerminalState}
-use Rattle.user_names.specs.UserNames.{user_cell}
-use Rattle.call_rules.specs.UserBytes.{byte_before, user_bytes}
+use Rattle.os9_base.specs.UserNames.{user_cell}
+use Rattle.proc_rules.specs.UserBytes.{byte_before, user_bytes}
 use Rattle.io_model.specs.Pipe.{added_to, answer_unmoved, moved_count, pipe_room, write_answer}
 use Rattle.io_model.specs.declared.pending.PendingCall.{PendingCall}
 use Rattle.io_model.specs.declared.path.Target.{Target}

@@ -5,8 +5,8 @@ use Rattle.os9_base.specs.declared.call.CallEnd.{CallEnd}
 use Rattle.os9_base.specs.declared.call.CallEnd.TheVariants.{Done, Error, Wait, Ended, NoMemory}
 use Rattle.os9_base.specs.declared.registers.Regs.{Regs}
 use Rattle.os9_outer.specs.TerminalState.{TerminalState}
-use Rattle.call_rules.specs.CallResult.{CallResult}
-use Rattle.call_rules.specs.Processes.{Processes, regs_at, with_regs_of}
+use Rattle.proc_rules.specs.CallResult.{CallResult}
+use Rattle.proc_rules.specs.Processes.{Processes, regs_at, with_regs_of}
 use Rattle.io_rules.specs.Attempts.{caller_of, result_of, step_of}
 use Rattle.io_rules.specs.Io.{Io, with_call}
 use Rattle.io_rules.specs.Step.{IoEffect, IoStep, refused, comes, needs, refuses, done, leaves, fails, answers}

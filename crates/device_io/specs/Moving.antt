@@ -5,7 +5,7 @@ use Rattle.os9_base.specs.declared.calls.TheConstants.{I_READ, I_READLN}
 use Rattle.os9_base.specs.declared.errors.TheConstants.{E_BMODE, E_BPADDR}
 use Rattle.os9_base.specs.declared.registers.Regs.{Regs}
 use Rattle.proc_rules.specs.Records.{record_at}
-use Rattle.call_rules.specs.UserBytes.{user_bytes}
+use Rattle.proc_rules.specs.UserBytes.{user_bytes}
 use Rattle.guest_memory.specs.Tie.{cells_of}
 use Rattle.io_model.specs.Path.{PathTable}
 use Rattle.io_model.specs.declared.pending.PendingCall.{PendingCall}

@@ -4,7 +4,7 @@ use Rattle.os9_base.specs.declared.call.CallEnd.{CallEnd}
 use Rattle.os9_base.specs.declared.call.CallEnd.TheVariants.{Done, Error, Wait, Ended, NoMemory}
 use Rattle.os9_base.specs.declared.registers.Regs.{Regs}
 use Rattle.os9_outer.specs.TerminalState.{TerminalState}
-use Rattle.call_rules.specs.Processes.{Processes, regs_at}
+use Rattle.proc_rules.specs.Processes.{Processes, regs_at}
 use Rattle.io_rules.specs.Attempts.{Does, caller_of, io_after, result_by, result_of, step_of}
 use Rattle.io_rules.specs.Io.{Io}
 use Rattle.io_rules.specs.Memory.{WantsMemory}

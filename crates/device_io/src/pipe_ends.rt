@@ -6,7 +6,7 @@ ghost use Rattle.io_rules.specs.Io.{with_call};
 ghost use Rattle.io_state.specs.Sound.{MayWait};
 ghost use Rattle.device_io.specs.Leaving.{ReadsNoTerminal};
 ghost use Rattle.proc_rules.specs.Records.{IsLiving};
-ghost use Rattle.call_rules.specs.Processes.{Processes, with_regs_of};
+ghost use Rattle.proc_rules.specs.Processes.{Processes, with_regs_of};
 ghost use Rattle.proc_state.specs.Tie.{Represents};
 
 use io_model::pending::PendingCall;

@@ -3,7 +3,7 @@
 ghost use Rattle.std.specs.Prelude.{◌≡◌, ◌≢◌, ℕ, ◌<◌, ◌≤◌, ◌+◌, ◌||◌, false, [], length, take};
 ghost use Rattle.os9_base.specs.Cells.{FitsIn};
 ghost use Rattle.proc_rules.specs.Records.{IsLiving};
-ghost use Rattle.call_rules.specs.Processes.{Processes, regs_at, with_memory};
+ghost use Rattle.proc_rules.specs.Processes.{Processes, regs_at, with_memory};
 ghost use Rattle.proc_model.specs.MemoryChanges.{stored};
 ghost use Rattle.guest_memory.specs.Tie.{cells_of};
 ghost use Rattle.io_model.specs.Pending.{is_complete};
@@ -197,7 +197,13 @@ fn is_over(taken: &[u8], alone: bool, call: PendingCall) -> bool
 }
 
 /// An I$ReadLn finds the pipe empty, and its process alone.
-fn end_of_file(s: &mut ProcState, io: &mut IoState, p: Pid, regs: Regs, call: PendingCall) -> CallEnd
+fn end_of_file(
+    s: &mut ProcState,
+    io: &mut IoState,
+    p: Pid,
+    regs: Regs,
+    call: PendingCall,
+) -> CallEnd
     requires lives { IsLiving s.old.table p.0 }
     requires no_read { ReadsNoTerminal io.old p.0 }
     ensures call { (m : Processes) (at : ℕ) → Represents s.old m → regs ≡ regs_at m p.0

@@ -41,7 +41,14 @@ pub fn write_pipe(io: &mut IoState, p: Pid, pipe: u8, call: PendingCall, bytes: 
 }
 
 /// An attempt to write the remaining bytes of a call.
-fn write_rest(io: &mut IoState, p: Pid, pipe: u8, alone: bool, call: PendingCall, rest: &[u8]) -> CallEnd
+fn write_rest(
+    io: &mut IoState,
+    p: Pid,
+    pipe: u8,
+    alone: bool,
+    call: PendingCall,
+    rest: &[u8],
+) -> CallEnd
     requires process { p.0 < 33 }
     requires pipe { IsPipe io.old.pipes pipe }
     requires left { call.moved + length rest.now ≡ call.count }

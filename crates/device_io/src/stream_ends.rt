@@ -6,12 +6,12 @@ ghost use Rattle.io_rules.specs.Io.{Io, pending_at, with_call};
 ghost use Rattle.io_rules.specs.Step.{IoEnd, leaves};
 ghost use Rattle.io_state.specs.Sound.{IsIo};
 ghost use Rattle.proc_rules.specs.Records.{IsLiving};
-ghost use Rattle.call_rules.specs.Processes.{Processes, with_regs_of};
+ghost use Rattle.proc_rules.specs.Processes.{Processes, with_regs_of};
 ghost use Rattle.device_io.specs.Leaving.{IsTold, ReadsNoTerminal};
 ghost use Rattle.proc_state.specs.Tie.{Comes, Represents};
 
-use io_model::pending::PendingCall;
 use io_model::path::SysPath;
+use io_model::pending::PendingCall;
 use io_state::state::IoState;
 use os9_base::call::CallEnd;
 use os9_base::registers::{Pid, Regs};

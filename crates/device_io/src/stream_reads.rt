@@ -3,7 +3,7 @@
 ghost use Rattle.std.specs.Prelude.{◌≡◌, ℕ, ◌<◌, Some, vec_len};
 ghost use Rattle.os9_base.specs.Cells.{FitsIn};
 ghost use Rattle.proc_rules.specs.Records.{IsLiving};
-ghost use Rattle.call_rules.specs.Processes.{Processes, regs_at};
+ghost use Rattle.proc_rules.specs.Processes.{Processes, regs_at};
 ghost use Rattle.guest_memory.specs.Tie.{cells_of};
 ghost use Rattle.io_model.specs.Pipe.{IsPipe};
 ghost use Rattle.io_rules.specs.Attempts.{caller_of};
@@ -23,8 +23,8 @@ use crate::pipe_reads::{read_pipe, read_pipe_line};
 use crate::stream_ends::{answer, call_now, refuse};
 use crate::terminals::read_terminal;
 use device_table::devices::Devices;
-use io_model::pending::PendingCall;
 use io_model::path::{Desc, SysPath, Target};
+use io_model::pending::PendingCall;
 use io_model::terminal::ReadKind;
 use io_state::state::IoState;
 use os9_base::call::CallEnd;

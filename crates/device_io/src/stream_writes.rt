@@ -2,7 +2,7 @@
 
 ghost use Rattle.std.specs.Prelude.{◌≡◌, ℕ, ◌<◌, IfSome, None, option_map, take, vec_len};
 ghost use Rattle.proc_rules.specs.Records.{IsLiving};
-ghost use Rattle.call_rules.specs.Processes.{Processes};
+ghost use Rattle.proc_rules.specs.Processes.{Processes};
 ghost use Rattle.io_rules.specs.Attempts.{caller_of};
 ghost use Rattle.io_rules.specs.Io.{pending_at};
 ghost use Rattle.io_rules.specs.Write as model;

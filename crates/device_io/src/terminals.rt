@@ -3,7 +3,7 @@
 ghost use Rattle.std.specs.Prelude.{◌≡◌, ◌<◌, ◌≤◌, take, vec_len};
 ghost use Rattle.os9_base.specs.Cells.{FitsIn};
 ghost use Rattle.proc_rules.specs.Records.{IsLiving};
-ghost use Rattle.call_rules.specs.Processes.{Processes, regs_at};
+ghost use Rattle.proc_rules.specs.Processes.{Processes, regs_at};
 ghost use Rattle.guest_memory.specs.Tie.{cells_of};
 ghost use Rattle.io_rules.specs.Attempts.{caller_of};
 ghost use Rattle.io_rules.specs.Step.{TerminalRead};

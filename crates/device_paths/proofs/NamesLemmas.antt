@@ -5,9 +5,9 @@ use Rattle.std.specs.Bool.{⊤}
 use Rattle.std.specs.List.{slice_get}
 use Rattle.std.specs.Option.{option_map_or}
 use Rattle.os9_base.specs.Cells.{Cells}
-use Rattle.user_names.specs.UserNames.{user_cell, name_at}
-use Rattle.user_names.specs.declared.name_fault.NameFault.{NameFault}
-use Rattle.user_names.specs.declared.name_fault.NameFault.TheVariants.{Unreadable}
+use Rattle.os9_base.specs.UserNames.{user_cell, name_at}
+use Rattle.os9_base.specs.declared.name_fault.NameFault.{NameFault}
+use Rattle.os9_base.specs.declared.name_fault.NameFault.TheVariants.{Unreadable}
 use Rattle.io_rules.specs.PathList.{Names, Behind, another, a_slash, nothing, unreadable, behind, behind_name, behind_slash, is_dots, is_marked, name_before, names_with, names_behind, names_at, names_from, device_list, relative_list, list_with, path_list}
 use Rattle.guest_memory.specs.Tie.{IsSame}
 use Rattle.guest_memory.specs.declared.memory.Memory.{Memory}

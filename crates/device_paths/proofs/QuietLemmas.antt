@@ -4,10 +4,10 @@ use Rattle.os9_base.specs.declared.call.CallEnd.{CallEnd}
 use Rattle.os9_base.specs.declared.registers.Regs.{Regs}
 use Rattle.proc_model.specs.MemoryChanges.{stored}
 use Rattle.os9_outer.specs.TerminalState.{TerminalState}
-use Rattle.call_rules.specs.Processes.{Processes, regs_at, cells_at, with_memory, with_regs_of}
+use Rattle.proc_rules.specs.Processes.{Processes, regs_at, cells_at, with_memory, with_regs_of}
 use Rattle.io_rules.specs.Attempts.{Does, step_of, caller_of, result_of}
 use Rattle.os9_base.specs.declared.errors.TheConstants.{E_BPNUM, E_PTHFUL, E_UNKSVC, E_BPADDR, E_NOTRDY}
-use Rattle.call_rules.specs.UserBytes.{user_bytes}
+use Rattle.proc_rules.specs.UserBytes.{user_bytes}
 use Rattle.io_model.specs.Path.{slot_of, free_number, paths_after_dup}
 use Rattle.io_model.specs.declared.path.SysPath.{SysPath}
 use Rattle.io_model.specs.declared.path.Target.{Target}

@@ -1,7 +1,7 @@
 -- Attempts that reach no device.
 use Rattle.std.specs.Prelude.{◌≡◌, ℕ, ⊤}
 use Rattle.os9_base.specs.declared.call.CallEnd.{CallEnd}
-use Rattle.call_rules.specs.Processes.{Processes}
+use Rattle.proc_rules.specs.Processes.{Processes}
 use Rattle.io_rules.specs.Attempts.{io_after, result_of}
 use Rattle.io_rules.specs.Io.{Io}
 use Rattle.io_rules.specs.Step.{IoEffect, IoStep, refused, comes, reads, writes, leaves, fails}

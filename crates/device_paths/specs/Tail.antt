@@ -1,8 +1,8 @@
 -- How the names of a path list end.
 use Rattle.std.specs.Prelude.{ℕ, ◌-◌, ◌<◌, ⊤, ◌+◌, Bool, true, false, Result, Ok, Err, List, length, slice_get}
 use Rattle.std.specs.Option.{option_map_or}
-use Rattle.user_names.specs.declared.name_fault.NameFault.{NameFault}
-use Rattle.user_names.specs.declared.name_fault.NameFault.TheVariants.{Unreadable}
+use Rattle.os9_base.specs.declared.name_fault.NameFault.{NameFault}
+use Rattle.os9_base.specs.declared.name_fault.NameFault.TheVariants.{Unreadable}
 use Rattle.io_rules.specs.PathList.{Names, is_dots}
 use Rattle.io_rules.specs.PathList as PathList
 use Rattle.device_paths.specs.declared.names.Behind.{Behind}

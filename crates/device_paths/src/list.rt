@@ -11,8 +11,8 @@ ghost use Rattle.device_paths.specs.Tail.{step_by};
 use crate::names::{Step, Tail, read_tail, step_over};
 use guest_memory::memory::Memory;
 use os9_base::name::Name;
+use os9_base::name_fault::NameFault;
 use os9_base::registers::Pid;
-use user_names::name_fault::NameFault;
 
 /// What a path list says about the place to which it leads.
 #[derive(Clone, Copy, Debug)]

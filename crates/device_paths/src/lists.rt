@@ -1,15 +1,15 @@
 //! The path lists of calls.
 
 ghost use Rattle.std.specs.Prelude.{◌≡◌, ◌<◌};
-ghost use Rattle.call_rules.specs.Processes.{Processes, cells_at};
+ghost use Rattle.proc_rules.specs.Processes.{Processes, cells_at};
 ghost use Rattle.io_rules.specs.PathList.{path_list};
 ghost use Rattle.device_paths.specs.Listed.{listed_of};
 ghost use Rattle.proc_state.specs.Tie.{Represents, IsSame};
 
 use crate::list::{Listed, read_path_list};
+use os9_base::name_fault::NameFault;
 use os9_base::registers::Pid;
 use proc_state::state::ProcState;
-use user_names::name_fault::NameFault;
 
 /// The path list at an address of a process.
 ///

@@ -8,8 +8,8 @@ ghost use Rattle.device_paths.specs.Standing.{IsFirstRead, NamesStand, NextIsBeh
 use crate::names::{Step, step_over};
 use guest_memory::memory::Memory;
 use os9_base::name::Name;
+use os9_base::name_fault::NameFault;
 use os9_base::registers::Pid;
-use user_names::name_fault::NameFault;
 
 /// A name of a path list.
 #[derive(Clone, Copy, Debug)]

@@ -8,8 +8,8 @@ ghost use Rattle.device_paths.specs.Tail.{behind_of, tail_of, tail_after, GoesUp
 
 use guest_memory::memory::Memory;
 use os9_base::name::Name;
+use os9_base::name_fault::NameFault;
 use os9_base::registers::Pid;
-use user_names::name_fault::NameFault;
 
 /// How the names from an address on end.
 #[derive(Clone, Copy, Debug, PartialEq, Eq)]

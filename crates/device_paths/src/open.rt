@@ -3,7 +3,7 @@
 ghost use Rattle.std.specs.Prelude.{◌≡◌, ◌<◌, not, None, Ok, IfOk, IsErr, List, length, vec_len};
 ghost use Rattle.os9_outer.specs.TerminalState.{TerminalState};
 ghost use Rattle.proc_rules.specs.Records.{IsLiving};
-ghost use Rattle.call_rules.specs.Processes.{Processes};
+ghost use Rattle.proc_rules.specs.Processes.{Processes};
 ghost use Rattle.io_rules.specs.Attempts.{caller_of};
 ghost use Rattle.io_rules.specs.Io.{Io, pending_at};
 ghost use Rattle.io_rules.specs.Lead.{lead_of};
@@ -27,9 +27,9 @@ use io_model::path::PathsFull;
 use io_state::state::IoState;
 use os9_base::call::CallEnd;
 use os9_base::errors::{E_BMODE, E_BPADDR, E_BPNAM, E_PTHFUL};
+use os9_base::name_fault::NameFault;
 use os9_base::registers::{Pid, Regs};
 use proc_state::state::ProcState;
-use user_names::name_fault::NameFault;
 
 /// What a path list names.
 #[derive(Clone, Copy, Debug, PartialEq, Eq)]

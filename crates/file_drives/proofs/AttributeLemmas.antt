@@ -13,8 +13,8 @@ use Rattle.rbf_access.specs.declared.volume.Volume.{Volume}
 use Rattle.rbf_walk.specs.Walk.{directory_fault}
 use Rattle.rbf_walk.specs.declared.error.DirError.{DirError}
 use Rattle.rbf_walk.specs.declared.error.DirError.TheVariants.{NotAllowed, BadPath, NotFound, Exists, File}
-use Rattle.rbf_delete.specs.Attributes.{AnswersOwner, attribute_calls, with_new_attributes}
-use Rattle.rbf_delete.specs.Becomes.{Becomes}
+use Rattle.rbf_entries.specs.Attributes.{AnswersOwner, attribute_calls, with_new_attributes}
+use Rattle.rbf_entries.specs.Becomes.{Becomes}
 use Rattle.file_rules.specs.Change.{sets_attributes}
 use Rattle.file_drives.proofs.IdentLemmas.{made-anyway}
 use Rattle.file_drives.proofs.SlotLemmas.{mounted-as, mounted-left, mounted-still}

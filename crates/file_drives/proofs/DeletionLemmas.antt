@@ -16,10 +16,10 @@ use Rattle.rbf_access.specs.Reading.{OnVolumeFile}
 use Rattle.rbf_access.specs.declared.faults.FileFault.{FileFault}
 use Rattle.rbf_access.specs.declared.faults.FileFault.TheVariants.{Device, NoCluster, TooManyRuns}
 use Rattle.rbf_access.specs.declared.volume.Volume.{Volume}
-use Rattle.rbf_delete.specs.Deletions.{IsDeletable}
-use Rattle.rbf_delete.specs.declared.deletion.Deletable.{Deletable}
-use Rattle.rbf_delete.proofs.Ends.{file_found, file_marks}
-use Rattle.rbf_delete.specs.Deleted.{AnswersDeletionOf, MayBeDeleted, file_deletion_calls}
+use Rattle.rbf_entries.specs.Deletions.{IsDeletable}
+use Rattle.rbf_entries.specs.declared.deletion.Deletable.{Deletable}
+use Rattle.rbf_entries.proofs.Ends.{file_found, file_marks}
+use Rattle.rbf_entries.specs.Deleted.{AnswersDeletionOf, MayBeDeleted, file_deletion_calls}
 use Rattle.file_rules.specs.Change.{deletes}
 use Rattle.lock_model.specs.declared.place.FilePlace.{FilePlace}
 use Rattle.file_drives.proofs.AttributeLemmas.{none-needed}

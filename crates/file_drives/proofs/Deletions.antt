@@ -6,8 +6,8 @@ use Rattle.rbf_change.specs.Faults.{before, gone}
 use Rattle.rbf_access.specs.Mounted.{Represents}
 use Rattle.rbf_access.specs.declared.faults.FileFault.{FileFault}
 use Rattle.rbf_access.specs.declared.faults.FileFault.TheVariants.{Device, NoCluster, TooManyRuns}
-use Rattle.rbf_create.specs.Entering.{widened}
-use Rattle.rbf_delete.specs.Deleted.{AnswersDeletionOf}
+use Rattle.rbf_entries.specs.Entering.{widened}
+use Rattle.rbf_entries.specs.Deleted.{AnswersDeletionOf}
 use Rattle.file_rules.specs.Change.{deletes}
 use Rattle.file_drives.specs.Left.{Leaves, numbered}
 

@@ -20,14 +20,14 @@ use Rattle.rbf_access.specs.Reading.{OnVolumeFile}
 use Rattle.rbf_access.specs.declared.faults.FileFault.{FileFault}
 use Rattle.rbf_access.specs.declared.faults.FileFault.TheVariants.{Device, NoCluster, TooManyRuns}
 use Rattle.rbf_access.specs.declared.volume.Volume.{Volume}
-use Rattle.rbf_create.specs.Entering.{AnswersEntering, Entering, EnteringStops, unchanged, took, entering_calls, refusal_of, widened}
-use Rattle.rbf_create.specs.Creating.{request}
-use Rattle.rbf_delete.specs.Deleted.{clusters_of}
-use Rattle.rbf_create.proofs.Entries.{listing_size}
-use Rattle.rbf_create.specs.Asked.{folder_request}
-use Rattle.rbf_create.specs.FolderMade.{folder_calls}
+use Rattle.rbf_entries.specs.Entering.{AnswersEntering, Entering, EnteringStops, unchanged, took, entering_calls, refusal_of, widened}
+use Rattle.rbf_entries.specs.Creating.{request}
+use Rattle.rbf_entries.specs.Deleted.{clusters_of}
+use Rattle.rbf_entries.proofs.Entries.{listing_size}
+use Rattle.rbf_entries.specs.Asked.{folder_request}
+use Rattle.rbf_entries.specs.FolderMade.{folder_calls}
 use Rattle.rbf_walk.specs.declared.error.DirError.TheVariants.{File}
-use Rattle.rbf_create.specs.declared.place.NewPlace.{NewPlace}
+use Rattle.rbf_entries.specs.declared.place.NewPlace.{NewPlace}
 use Rattle.file_rules.specs.Change.{creates, makes_directory}
 use Rattle.file_rules.specs.MakDir.{new_directory_size}
 use Rattle.file_drives.proofs.IdentLemmas.{made-anyway}

@@ -7,10 +7,10 @@ use Rattle.rbf_access.specs.Mounted.{HasFile, Represents}
 use Rattle.rbf_access.specs.Mounted as access
 use Rattle.rbf_access.specs.Reading.{OnFile, OnVolumeFile}
 use Rattle.rbf_access.specs.declared.volume.Volume.{Volume}
-use Rattle.rbf_create.specs.Places.{AnswersPlace, IsFoundFor, IsNewPlace, IsPlaceFor, place_calls, place_found}
-use Rattle.rbf_create.specs.declared.place.NewPlace.{NewPlace}
-use Rattle.rbf_delete.specs.Deletions.{IsDeletable, deletion_calls, descriptor_found}
-use Rattle.rbf_delete.specs.declared.deletion.Deletable.{Deletable}
+use Rattle.rbf_entries.specs.Places.{AnswersPlace, IsFoundFor, IsNewPlace, IsPlaceFor, place_calls, place_found}
+use Rattle.rbf_entries.specs.declared.place.NewPlace.{NewPlace}
+use Rattle.rbf_entries.specs.Deletions.{IsDeletable, deletion_calls, descriptor_found}
+use Rattle.rbf_entries.specs.declared.deletion.Deletable.{Deletable}
 use Rattle.rbf_walk.specs.Walk.{AnswersWalk, directory_fault}
 use Rattle.rbf_walk.specs.declared.error.DirError.{DirError}
 use Rattle.rbf_write.specs.Files.{IsLoaded}

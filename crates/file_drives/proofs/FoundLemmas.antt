@@ -2,8 +2,8 @@
 use Rattle.std.proofs.Common.{◌≡◌, ℕ, ◌∙◌, Option, Some, List, slice_get, sym, subst}
 use Rattle.std.proofs.lemmas.Option.{same_Some}
 use Rattle.rbf_access.specs.declared.volume.Volume.{Volume}
-use Rattle.rbf_create.specs.Places.{IsPlaceFor}
-use Rattle.rbf_create.specs.declared.place.NewPlace.{NewPlace}
+use Rattle.rbf_entries.specs.Places.{IsPlaceFor}
+use Rattle.rbf_entries.specs.declared.place.NewPlace.{NewPlace}
 use Rattle.lock_model.specs.declared.place.FilePlace.{FilePlace}
 use Rattle.file_drives.specs.Drives.{DriveView}
 use Rattle.file_drives.specs.Entries.{IsPlaceAt}

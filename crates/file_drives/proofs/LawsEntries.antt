@@ -9,10 +9,10 @@ use Rattle.rbf_access.specs.Mounted.{Represents}
 use Rattle.rbf_access.specs.declared.faults.FileFault.TheVariants.{Device, NoCluster, TooManyRuns}
 use Rattle.rbf_walk.specs.declared.error.DirError.{DirError}
 use Rattle.rbf_walk.specs.declared.error.DirError.TheVariants.{NotAllowed, BadPath, NotFound, Exists, File}
-use Rattle.rbf_delete.specs.Becomes.{RepresentsOne}
-use Rattle.rbf_create.specs.Entering.{Entering, AnswersEntering, IsEnteredOn, EnteringStops, unchanged, took}
-use Rattle.rbf_create.specs.Creating.{request}
-use Rattle.rbf_create.specs.Asked.{folder_request}
+use Rattle.rbf_entries.specs.Becomes.{RepresentsOne}
+use Rattle.rbf_entries.specs.Entering.{Entering, AnswersEntering, IsEnteredOn, EnteringStops, unchanged, took}
+use Rattle.rbf_entries.specs.Creating.{request}
+use Rattle.rbf_entries.specs.Asked.{folder_request}
 use Rattle.file_rules.specs.Change.{Change, Makes, MayLeave, creates, makes_directory}
 use Rattle.file_drives.specs.Left.{Leaves}
 

@@ -8,8 +8,8 @@ use Rattle.rbf_change.specs.NewFiles.{file_clusters}
 use Rattle.rbf_access.specs.MapMarks.{marking_sectors}
 use Rattle.rbf_access.specs.declared.faults.FileFault.{FileFault}
 use Rattle.rbf_access.specs.declared.faults.FileFault.TheVariants.{Device, NoCluster, TooManyRuns}
-use Rattle.rbf_create.specs.Entering.{entering_calls}
-use Rattle.rbf_delete.specs.Deleted.{clusters_of}
+use Rattle.rbf_entries.specs.Entering.{entering_calls}
+use Rattle.rbf_entries.specs.Deleted.{clusters_of}
 use Rattle.rbf_alloc.specs.Grown.{is_gained}
 use Rattle.rbf_walk.specs.declared.error.DirError.{DirError}
 use Rattle.rbf_write.specs.Outcomes.{write_calls}

@@ -11,11 +11,11 @@ use Rattle.rbf_change.specs.NewFiles.{entry_clusters, file_clusters, owns_file}
 use Rattle.rbf_access.specs.declared.faults.FileFault.{FileFault}
 use Rattle.rbf_access.specs.declared.faults.FileFault.TheVariants.{Device, NoCluster, TooManyRuns}
 use Rattle.rbf_access.specs.declared.volume.Volume.{Volume}
-use Rattle.rbf_create.specs.Entering.{AnswersEntering}
-use Rattle.rbf_create.specs.Creating.{request}
-use Rattle.rbf_delete.specs.Deleted.{AnswersDeletionOf}
-use Rattle.rbf_create.specs.Asked.{folder_request}
-use Rattle.rbf_delete.specs.Attributes.{with_new_attributes}
+use Rattle.rbf_entries.specs.Entering.{AnswersEntering}
+use Rattle.rbf_entries.specs.Creating.{request}
+use Rattle.rbf_entries.specs.Deleted.{AnswersDeletionOf}
+use Rattle.rbf_entries.specs.Asked.{folder_request}
+use Rattle.rbf_entries.specs.Attributes.{with_new_attributes}
 use Rattle.rbf_walk.specs.Walk.{directory_fault}
 use Rattle.rbf_walk.specs.declared.error.DirError.{DirError}
 use Rattle.rbf_walk.specs.declared.error.DirError.TheVariants.{NotAllowed, BadPath, NotFound, Exists, File}

@@ -1,9 +1,9 @@
 -- What is found in a directory of a mounted volume before one of its entries changes.
 use Rattle.std.specs.Prelude.{◌≡◌, ℕ, Bool, Some, List, slice_get}
-use Rattle.rbf_create.specs.Places.{IsPlaceFor}
-use Rattle.rbf_create.specs.declared.place.NewPlace.{NewPlace}
-use Rattle.rbf_delete.specs.Deletions.{IsDeletable}
-use Rattle.rbf_delete.specs.declared.deletion.Deletable.{Deletable}
+use Rattle.rbf_entries.specs.Places.{IsPlaceFor}
+use Rattle.rbf_entries.specs.declared.place.NewPlace.{NewPlace}
+use Rattle.rbf_entries.specs.Deletions.{IsDeletable}
+use Rattle.rbf_entries.specs.declared.deletion.Deletable.{Deletable}
 use Rattle.file_rules.specs.Change.{deletes}
 use Rattle.lock_model.specs.declared.place.FilePlace.{FilePlace}
 use Rattle.file_drives.specs.Changed.{Asked}

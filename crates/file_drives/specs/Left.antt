@@ -7,7 +7,7 @@ use Rattle.rbf_access.specs.declared.faults.FileFault.{FileFault}
 use Rattle.rbf_access.specs.declared.faults.FileFault.TheVariants.{Device, NoCluster, TooManyRuns}
 use Rattle.rbf_walk.specs.declared.error.DirError.{DirError}
 use Rattle.rbf_walk.specs.declared.error.DirError.TheVariants.{NotAllowed, BadPath, NotFound, Exists, File}
-use Rattle.rbf_delete.specs.Becomes.{RepresentsOne}
+use Rattle.rbf_entries.specs.Becomes.{RepresentsOne}
 use Rattle.file_rules.specs.Change.{Change, Makes, MayLeave}
 
 -- by its answer, if the old media represented the volume v: on success the changed volume, with a new file of the

@@ -6,12 +6,12 @@ use Rattle.rbf_model.specs.Walk.{step}
 use Rattle.rbf_change.specs.Names.{deletion_end}
 use Rattle.rbf_access.specs.declared.faults.FileFault.{FileFault}
 use Rattle.rbf_access.specs.declared.volume.Volume.{Volume}
-use Rattle.rbf_create.specs.Entering.{entering_calls, widened}
-use Rattle.rbf_create.specs.Places.{AnswersPlace, IsFoundFor, IsPlaceFor, place_calls, place_found}
-use Rattle.rbf_create.specs.declared.place.NewPlace.{NewPlace}
-use Rattle.rbf_delete.specs.Attributes.{attribute_calls}
-use Rattle.rbf_delete.specs.Deletions.{IsDeletable, deletion_calls, descriptor_found}
-use Rattle.rbf_delete.specs.declared.deletion.Deletable.{Deletable}
+use Rattle.rbf_entries.specs.Entering.{entering_calls, widened}
+use Rattle.rbf_entries.specs.Places.{AnswersPlace, IsFoundFor, IsPlaceFor, place_calls, place_found}
+use Rattle.rbf_entries.specs.declared.place.NewPlace.{NewPlace}
+use Rattle.rbf_entries.specs.Attributes.{attribute_calls}
+use Rattle.rbf_entries.specs.Deletions.{IsDeletable, deletion_calls, descriptor_found}
+use Rattle.rbf_entries.specs.declared.deletion.Deletable.{Deletable}
 use Rattle.rbf_walk.specs.Walk.{AnswersWalk, directory_fault, step_calls}
 use Rattle.rbf_walk.specs.declared.error.DirError.{DirError}
 use Rattle.file_rules.specs.Change.{writes, sizes, sets_attributes, creates, makes_directory, deletes}

@@ -8,14 +8,14 @@ ghost use Rattle.rbf_model.specs.Volume.{DiskVolume};
 ghost use Rattle.rbf_access.specs.Mounted.{Represents};
 ghost use Rattle.rbf_access.specs.declared.faults.FileFault.{FileFault};
 ghost use Rattle.rbf_walk.specs.declared.error.DirError.{DirError};
-ghost use Rattle.rbf_create.specs.Entering.{AnswersEntering, widened};
-ghost use Rattle.rbf_create.specs.Creating.{request};
-ghost use Rattle.rbf_create.specs.Asked.{folder_request};
-ghost use Rattle.rbf_delete.specs.Deleted.{AnswersDeletionOf};
+ghost use Rattle.rbf_entries.specs.Entering.{AnswersEntering, widened};
+ghost use Rattle.rbf_entries.specs.Creating.{request};
+ghost use Rattle.rbf_entries.specs.Asked.{folder_request};
+ghost use Rattle.rbf_entries.specs.Deleted.{AnswersDeletionOf};
 ghost use Rattle.file_rules.specs.Change.{creates, deletes, makes_directory};
 ghost use Rattle.file_drives.specs.Left.{Leaves, numbered};
 
-/// A creation by `create` or `create_at` of rbf_create leaves what the calls on files say of a
+/// A creation by `create` or `create_at` of rbf_entries leaves what the calls on files say of a
 /// creation (System Programmer's Manual, I$Create): on success, the volume with the new file, whose
 /// number is returned; after a fault of the drive, one of the volumes that a fault may leave; and
 /// after a refusal, the unchanged media.
@@ -27,7 +27,7 @@ pub fn a_creation_is_what_it_is_said_to_be()
         → Leaves (creates d name attributes) user now v old new answer }
 {}
 
-/// The same for a new directory by `make_dir` or `make_dir_at` of rbf_create (System Programmer's
+/// The same for a new directory by `make_dir` or `make_dir_at` of rbf_entries (System Programmer's
 /// Manual, I$MakDir).
 pub fn a_new_directory_is_what_it_is_said_to_be()
     ensures { (v : DiskVolume) (dir : DiskFile) (d attributes user : ℕ) (name : List ℕ)
@@ -37,7 +37,7 @@ pub fn a_new_directory_is_what_it_is_said_to_be()
         → Leaves (makes_directory d name attributes) user now v old new answer }
 {}
 
-/// A deletion of file n by `delete_at` of rbf_delete leaves what the calls on files say of a deletion
+/// A deletion of file n by `delete_at` of rbf_entries leaves what the calls on files say of a deletion
 /// (System Programmer's Manual, I$Delete): the volume without the file, or after a fault of the
 /// drive one of those that a fault may leave.
 pub fn a_deletion_is_what_it_is_said_to_be()

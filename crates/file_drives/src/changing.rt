@@ -7,7 +7,7 @@ ghost use Rattle.file_drives.specs.Slots.{HasDataFileOn, HasFileOn};
 use os9_base::registers::TimePacket;
 use os9_outer::drive::BlockDriver;
 use rbf_access::{FileFault, Volume};
-use rbf_delete::set_attr;
+use rbf_entries::set_attr;
 use rbf_walk::DirError;
 use rbf_write::{set_size, write_at};
 

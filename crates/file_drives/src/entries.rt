@@ -1,8 +1,8 @@
 // The calls on the entries of a directory, on one drive in its box and the state kept for it.
 
 ghost use Rattle.std.specs.Prelude.{◌≡◌, ℕ, ◌<◌, false};
-ghost use Rattle.rbf_create.specs.Places.{IsPlaceFor};
-ghost use Rattle.rbf_delete.specs.Deleted.{MayBeDeleted};
+ghost use Rattle.rbf_entries.specs.Places.{IsPlaceFor};
+ghost use Rattle.rbf_entries.specs.Deleted.{MayBeDeleted};
 ghost use Rattle.file_drives.specs.Drives.{boxed_seen, lent_seen};
 ghost use Rattle.file_drives.specs.SlotCalls.{CreatesOn, DeletesOn, FindsDeletableOn, FindsPlaceOn, MakesDirectoryOn};
 ghost use Rattle.file_drives.specs.Slots.{HasFileOn};
@@ -11,8 +11,9 @@ use os9_base::name::Name;
 use os9_base::registers::TimePacket;
 use os9_outer::drive::BlockDriver;
 use rbf_access::{FileFault, Volume};
-use rbf_create::{NewPlace, create_at, find_place, make_dir_at};
-use rbf_delete::{Deletable, delete_at, find_deletable};
+use rbf_entries::{
+    Deletable, NewPlace, create_at, delete_at, find_deletable, find_place, make_dir_at,
+};
 use rbf_walk::DirError;
 
 // The place in a directory for a new entry with a name, for a user.

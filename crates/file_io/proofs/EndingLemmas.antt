@@ -3,7 +3,7 @@ use Rattle.std.proofs.Common.{◌≡◌, ℕ, ◌+◌, false, Option, Some, None
 use Rattle.std.proofs.lemmas.Bool.{false≢true}
 use Rattle.os9_base.specs.declared.call.CallEnd.{CallEnd}
 use Rattle.os9_base.specs.declared.registers.Regs.{Regs}
-use Rattle.call_rules.specs.Processes.{Processes}
+use Rattle.proc_rules.specs.Processes.{Processes}
 use Rattle.io_model.specs.Path.{desc_of, with_desc}
 use Rattle.io_model.specs.declared.path.Desc.{Desc}
 use Rattle.io_rules.specs.Io.{Io, with_call, with_paths}

@@ -10,7 +10,7 @@ use Rattle.os9_base.specs.declared.errors.TheConstants.{E_FULL}
 use Rattle.os9_base.specs.declared.registers.Regs.{Regs}
 use Rattle.os9_base.specs.declared.registers.TimePacket.{TimePacket}
 use Rattle.os9_outer.specs.TerminalState.{TerminalState}
-use Rattle.call_rules.specs.Processes.{Processes}
+use Rattle.proc_rules.specs.Processes.{Processes}
 use Rattle.io_rules.specs.Io.{with_call}
 use Rattle.io_rules.specs.Step.{answers}
 use Rattle.lock_model.specs.Records.{with_waiting}

@@ -6,7 +6,7 @@ use Rattle.os9_base.specs.declared.call.CallEnd.{CallEnd}
 use Rattle.os9_base.specs.declared.registers.Regs.{Regs}
 use Rattle.os9_base.specs.declared.registers.TimePacket.{TimePacket}
 use Rattle.os9_outer.specs.TerminalState.{TerminalState}
-use Rattle.call_rules.specs.Processes.{Processes, regs_at}
+use Rattle.proc_rules.specs.Processes.{Processes, regs_at}
 use Rattle.io_rules.specs.Io.{Io, with_call}
 use Rattle.io_rules.specs.Step.{answers}
 use Rattle.proc_rules.specs.Records.{record_at}

@@ -4,7 +4,7 @@ use Rattle.os9_base.specs.declared.call.CallEnd.{CallEnd}
 use Rattle.os9_base.specs.declared.call.CallEnd.TheVariants.{Done, Error, NoMemory}
 use Rattle.os9_base.specs.declared.errors.TheConstants.{E_EOF}
 use Rattle.os9_base.specs.declared.registers.Regs.{Regs}
-use Rattle.call_rules.specs.Processes.{Processes, with_memory, with_regs_of}
+use Rattle.proc_rules.specs.Processes.{Processes, with_memory, with_regs_of}
 use Rattle.proc_model.specs.MemoryChanges.{stored}
 use Rattle.io_model.specs.declared.terminal.ReadKind.{ReadKind}
 use Rattle.io_rules.specs.Io.{Io, with_call}

@@ -1,7 +1,7 @@
 //! The ends of calls.
 
 ghost use Rattle.std.specs.Prelude.{◌≡◌, ◌<◌, None, Some};
-ghost use Rattle.call_rules.specs.Processes.{Processes, with_regs_of};
+ghost use Rattle.proc_rules.specs.Processes.{Processes, with_regs_of};
 ghost use Rattle.file_io.specs.Opened.{IsPathOf, ReadsNoTerminal, moved_to};
 ghost use Rattle.io_rules.specs.Io.{with_call};
 ghost use Rattle.proc_rules.specs.Records.{IsLiving};

@@ -1,7 +1,7 @@
 //! I$Read and I$ReadLn (System Programmer's Manual, I$Read and I$ReadLn).
 
 ghost use Rattle.std.specs.Prelude.{◌≡◌, ℕ, ◌+◌, ◌<◌, ◌≤◌, ◌^◌, IfOk, List, length, take};
-ghost use Rattle.call_rules.specs.Processes.{Processes};
+ghost use Rattle.proc_rules.specs.Processes.{Processes};
 ghost use Rattle.file_io.specs.Calls.{granted_read_calls, i_read_calls, reading_attempt_calls};
 ghost use Rattle.file_io.specs.Ending.{EndsFound, GivesLocked};
 ghost use Rattle.file_io.specs.Opened.{IsOnFile, IsOpened, IsPathOf, ReadsNoTerminal};

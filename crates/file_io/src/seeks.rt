@@ -1,7 +1,7 @@
 //! I$Seek (System Programmer's Manual, I$Seek).
 
 ghost use Rattle.std.specs.Prelude.{◌≡◌, ℕ, List};
-ghost use Rattle.call_rules.specs.Processes.{Processes};
+ghost use Rattle.proc_rules.specs.Processes.{Processes};
 ghost use Rattle.file_io.specs.Calls.{i_seek_calls};
 ghost use Rattle.file_io.specs.Opened.{IsOpened, ReadsNoTerminal};
 ghost use Rattle.file_drives.specs.Drives.{DriveView};

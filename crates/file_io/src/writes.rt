@@ -1,8 +1,8 @@
 //! I$Write, I$WritLn and F$PErr (System Programmer's Manual, I$Write, I$WritLn and F$PErr).
 
 ghost use Rattle.std.specs.Prelude.{◌≡◌, ◌≢◌, ℕ, ◌+◌, ◌<◌, ◌≤◌, ◌^◌, false, IfSome, IsOk, List, Ok, Some, length, option_map, take};
-ghost use Rattle.call_rules.specs.Processes.{Processes, cells_at};
-ghost use Rattle.call_rules.specs.UserBytes.{user_bytes};
+ghost use Rattle.proc_rules.specs.Processes.{Processes, cells_at};
+ghost use Rattle.proc_rules.specs.UserBytes.{user_bytes};
 ghost use Rattle.file_io.specs.Calls.{f_perr_calls, granted_write_calls, i_writln_calls, i_write_calls, writing_attempt_calls};
 ghost use Rattle.file_io.specs.Ending.{EndsWrite};
 ghost use Rattle.file_io.specs.Opened.{IsOpened, IsPathOf, MayBeWritten, ReadsNoTerminal};

@@ -6,8 +6,8 @@ use Rattle.std.proofs.lemmas.Bool.{eqb-false, false≢true, leb-true, ltb-true, 
 use Rattle.std.proofs.lemmas.Option.{none-some, same_Some}
 use Rattle.os9_base.specs.declared.errors.TheConstants.{E_BMID, E_BPADDR, E_BPNAM, E_FNA, E_MEMFUL, E_MNF, E_NEMOD, E_NORAM, E_PNNF, E_PRCFUL, E_PTHFUL, E_SHARE}
 use Rattle.os9_base.specs.declared.limits.TheConstants.{MOST_GROUP_BYTES}
-use Rattle.user_names.specs.declared.name_fault.NameFault.{NameFault}
-use Rattle.user_names.specs.declared.name_fault.NameFault.TheVariants.{Unreadable, NoName}
+use Rattle.os9_base.specs.declared.name_fault.NameFault.{NameFault}
+use Rattle.os9_base.specs.declared.name_fault.NameFault.TheVariants.{Unreadable, NoName}
 use Rattle.proc_model.specs.Memory.{MemoryState, free_blocks, map_at, wants_blocks}
 use Rattle.proc_model.specs.MemoryChanges.{has_most_links, started, started_with, with_first_slots}
 use Rattle.proc_model.specs.ModuleList.{ModuleEntry, free_number, module_entry_at}
@@ -15,13 +15,13 @@ use Rattle.proc_model.specs.Objects.{file_blocks}
 use Rattle.proc_model.specs.declared.memory.MemoryFault.TheVariants.{MemFull, NoRam}
 use Rattle.proc_model.specs.declared.memory.TheConstants.{MOST_LINKS}
 use Rattle.proc_rules.specs.Records.{free_process}
-use Rattle.call_rules.specs.CallResult.{CallResult, changes, done, needs as call_needs, refuses as call_refuses, refused as call_refused}
-use Rattle.call_rules.specs.Chain.{f_chain}
-use Rattle.call_rules.specs.Fork.{f_fork}
-use Rattle.call_rules.specs.Processes.{Processes, own_at, regs_at, with_memory}
-use Rattle.call_rules.specs.Link.{links_at, mapped_group}
-use Rattle.call_rules.specs.ModuleLinks.{Entered, entered_at}
-use Rattle.call_rules.specs.Program.{Program, asks_for_program, most_pages, program_kind}
+use Rattle.proc_rules.specs.CallResult.{CallResult, changes, done, needs as call_needs, refuses as call_refuses, refused as call_refused}
+use Rattle.proc_rules.specs.Chain.{f_chain}
+use Rattle.proc_rules.specs.Fork.{f_fork}
+use Rattle.proc_rules.specs.Processes.{Processes, own_at, regs_at, with_memory}
+use Rattle.proc_rules.specs.Link.{links_at, mapped_group}
+use Rattle.proc_rules.specs.ModuleLinks.{Entered, entered_at}
+use Rattle.proc_rules.specs.Program.{Program, asks_for_program, most_pages, program_kind}
 use Rattle.rbf_model.specs.Volume.{DiskVolume}
 use Rattle.rbf_model.specs.Walk.{WalkEnd, arrives, not_allowed, not_found, walk}
 use Rattle.io_rules.specs.PathList.{PathList}
@@ -142,7 +142,7 @@ module _ (asker : Asker) (files : Files) (terms : ℕ) (Tested : ℕ → Type 0)
       by_list : (read : Result PathList NameFault) → list_of asker ≡ read → K (reads_list read test (λ list. program_on_route asker files list (route_of asker files terms true list)))
       by_list (Ok list) is =
           tests (program_on_route asker files list (route_of asker files terms true list))
-              (k-way list (route_of asker files terms true list) (record { reads = refl; list = list; read = is; is = refl }))
+          (k-way list (route_of asker files terms true list) (record { reads = refl; list = list; read = is; is = refl }))
       by_list (Err Unreadable) is = opened E_BPADDR (λ same. omega (arith, same)) (bad_address refl (refl, is))
       by_list (Err NoName) is =
           tests (refused E_BPNAM) (opened E_BPNAM (λ same. omega (arith, same)) (no_name refl refl is))

@@ -4,8 +4,8 @@ use Rattle.std.specs.Prelude.{option_map, if◌then◌else◌}
 use Rattle.std.proofs.lemmas.Bool.{ltb-true}
 use Rattle.std.proofs.lemmas.Option.{none-some, same_Some}
 use Rattle.os9_base.specs.Cells.{Cells, FitsIn}
-use Rattle.user_names.specs.UserNames.{user_cell}
-use Rattle.call_rules.specs.UserBytes.{byte_before, user_bytes}
+use Rattle.os9_base.specs.UserNames.{user_cell}
+use Rattle.proc_rules.specs.UserBytes.{byte_before, user_bytes}
 use Rattle.io_model.specs.declared.keys.TheConstants.{RETURN}
 use Rattle.io_rules.specs.Transfer.{line_at, line_with}
 

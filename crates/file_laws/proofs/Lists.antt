@@ -1,7 +1,7 @@
 -- I$Open and I$Create of a path list that leads to a terminal or a pipe are those of terminals and pipes.
 use Rattle.std.proofs.Common.{◌≡◌, ℕ, Bool, true, false, Result, Ok, length, refl, sym, ap, ◌∙◌, inl, inr}
 use Rattle.os9_base.specs.declared.errors.TheConstants.{E_BMODE}
-use Rattle.user_names.specs.declared.name_fault.NameFault.{NameFault}
+use Rattle.os9_base.specs.declared.name_fault.NameFault.{NameFault}
 use Rattle.io_rules.specs.Lead.{Lead, a_new_place, lead_of, what_is_there}
 use Rattle.io_rules.specs.Modes.{can_write, is_mode}
 use Rattle.io_rules.specs.Open.{i_create as creates_device, i_open as opens_device, opens_lead, reads_list as reads_device_list}

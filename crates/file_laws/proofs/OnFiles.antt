@@ -7,7 +7,7 @@ use Rattle.os9_base.specs.declared.calls.TheConstants.{I_READ, I_READLN, I_WRITE
 use Rattle.io_model.specs.declared.terminal.ReadKind.{ReadKind}
 use Rattle.os9_base.specs.declared.errors.TheConstants.{E_BPADDR, E_BMODE, E_EOF, E_FNA, E_FULL, E_UNKSVC}
 use Rattle.os9_base.specs.declared.registers.Regs.{Regs}
-use Rattle.call_rules.specs.UserBytes.{user_bytes}
+use Rattle.proc_rules.specs.UserBytes.{user_bytes}
 use Rattle.io_model.specs.Line.{first_line}
 use Rattle.io_model.specs.Path.{desc_of, with_desc}
 use Rattle.io_model.specs.declared.path.Desc.{Desc}

@@ -4,8 +4,8 @@ use Rattle.std.specs.Prelude.{slice_index_or}
 use Rattle.os9_base.specs.declared.errors.TheConstants.{E_BPADDR, E_BPNAM, E_DEADLK, E_LOCK, E_MNF, E_FNA, E_PNNF}
 use Rattle.os9_base.specs.declared.registers.Regs.{Regs}
 use Rattle.os9_outer.specs.TerminalState.{TerminalState}
-use Rattle.user_names.specs.declared.name_fault.NameFault.{NameFault}
-use Rattle.user_names.specs.declared.name_fault.NameFault.TheVariants.{Unreadable, NoName}
+use Rattle.os9_base.specs.declared.name_fault.NameFault.{NameFault}
+use Rattle.os9_base.specs.declared.name_fault.NameFault.TheVariants.{Unreadable, NoName}
 use Rattle.lock_model.specs.Records.{Records, without_lock}
 use Rattle.lock_model.specs.declared.lock.Request.{Request}
 use Rattle.lock_model.specs.declared.lock.Grant.{Grant}

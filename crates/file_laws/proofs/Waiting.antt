@@ -9,11 +9,11 @@ use Rattle.os9_base.specs.declared.calls.TheConstants.{I_READ, I_READLN, I_WRITE
 use Rattle.os9_base.specs.declared.errors.TheConstants.{E_BPADDR, E_BPNUM, E_BMODE, E_NOTRDY, E_PTHFUL, E_UNKSVC}
 use Rattle.os9_base.specs.declared.registers.TimePacket.{TimePacket}
 use Rattle.os9_outer.specs.TerminalState.{TerminalState}
-use Rattle.user_names.specs.declared.name_fault.NameFault.{NameFault}
-use Rattle.user_names.specs.declared.name_fault.NameFault.TheVariants.{Unreadable, NoName}
-use Rattle.call_rules.specs.CallResult.{CallResult}
-use Rattle.call_rules.specs.Processes.{Processes, regs_at}
-use Rattle.call_rules.specs.UserBytes.{user_bytes}
+use Rattle.os9_base.specs.declared.name_fault.NameFault.{NameFault}
+use Rattle.os9_base.specs.declared.name_fault.NameFault.TheVariants.{Unreadable, NoName}
+use Rattle.proc_rules.specs.CallResult.{CallResult}
+use Rattle.proc_rules.specs.Processes.{Processes, regs_at}
+use Rattle.proc_rules.specs.UserBytes.{user_bytes}
 use Rattle.io_model.specs.Path.{free_number, new_number, slot_of}
 use Rattle.io_model.specs.Pipe.{free_pipe, pipes_after_begin}
 use Rattle.io_model.specs.declared.pending.PendingCall.{PendingCall}
@@ -223,7 +223,7 @@ device-waits : (call : PathCall) (device : IoCall) → device_call call ≡ Some
     result new before after → (pending : PendingCall) → pending_at new p ≡ Some pending → WaitsOnDevice call processes io p new
 device-waits call device device_is processes io new drives p result before after it pending is =
     by_effect (does-waits device (path_number device (regs_at processes p)) (caller_of processes p) io before after _ it.effect (step-waits (caller_of processes p) io device drives (length before))
-        it.does)
+    it.does)
   where
     by_effect : EffectWaits device (path_number device (regs_at processes p)) (caller_of processes p) io it.effect → WaitsOnDevice call processes io p new
     by_effect (inl over) =

@@ -10,9 +10,9 @@ use Rattle.proc_model.specs.ModuleList.{ModuleEntry}
 use Rattle.proc_model.specs.Objects.{file_blocks}
 use Rattle.proc_model.specs.declared.memory.TheConstants.{MOST_LINKS}
 use Rattle.proc_rules.specs.Records.{free_process}
-use Rattle.call_rules.specs.Processes.{Processes, own_at, regs_at}
-use Rattle.call_rules.specs.Link.{Mapped, links_at, mapped_group}
-use Rattle.call_rules.specs.Program.{asks_for_program, blocks_of_pages, most_pages, program_kind}
+use Rattle.proc_rules.specs.Processes.{Processes, own_at, regs_at}
+use Rattle.proc_rules.specs.Link.{Mapped, links_at, mapped_group}
+use Rattle.proc_rules.specs.Program.{asks_for_program, blocks_of_pages, most_pages, program_kind}
 use Rattle.io_rules.specs.declared.modes.TheConstants.{MODE_EXECUTE}
 use Rattle.file_rules.specs.Files.{Asker, Files}
 use Rattle.file_rules.specs.Load.{Loaded, Loads, first_entered}

@@ -6,8 +6,8 @@ use Rattle.os9_base.specs.declared.registers.Regs.{Regs}
 use Rattle.os9_base.specs.declared.registers.TimePacket.{TimePacket}
 use Rattle.os9_outer.specs.TerminalState.{TerminalState}
 use Rattle.proc_model.specs.MemoryChanges.{stored}
-use Rattle.call_rules.specs.CallResult.{CallResult, done, refused, waits}
-use Rattle.call_rules.specs.Processes.{Processes, with_memory, with_regs_of}
+use Rattle.proc_rules.specs.CallResult.{CallResult, done, refused, waits}
+use Rattle.proc_rules.specs.Processes.{Processes, with_memory, with_regs_of}
 use Rattle.lock_model.specs.declared.lock.Grant.TheVariants.{Wait}
 use Rattle.lock_model.specs.declared.lock.Request.{Request}
 use Rattle.lock_model.specs.Records.{with_waiting}

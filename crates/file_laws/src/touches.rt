@@ -4,8 +4,8 @@
 ghost use Rattle.std.specs.Prelude.{◌≡◌, ◌⊎◌, ℕ, Bool, false, Some, None, IsSome, List, length};
 ghost use Rattle.os9_base.specs.declared.registers.TimePacket.{TimePacket};
 ghost use Rattle.os9_outer.specs.TerminalState.{TerminalState};
-ghost use Rattle.call_rules.specs.CallResult.{CallResult, refused};
-ghost use Rattle.call_rules.specs.Processes.{Processes};
+ghost use Rattle.proc_rules.specs.CallResult.{CallResult, refused};
+ghost use Rattle.proc_rules.specs.Processes.{Processes};
 ghost use Rattle.io_rules.specs.Attempts.{IoAttempts};
 ghost use Rattle.io_rules.specs.Codes.{io_call_of};
 ghost use Rattle.io_rules.specs.Io.{Io, OpenPath, pending_at, open_path};

@@ -14,7 +14,7 @@ use Rattle.file_rules.specs.Route.{before_last, last_of}
 use Rattle.lock_model.specs.declared.place.FilePlace.{FilePlace}
 use Rattle.file_drives.specs.Drives.{DriveView, ReadsDrive}
 use Rattle.file_drives.specs.Mounted.{AreMounted, ArrivesOn, HasFileAt, OnDisks, StayMounted, mounted_at, number_arrived}
-use Rattle.user_names.specs.declared.name_fault.NameFault.{NameFault}
+use Rattle.os9_base.specs.declared.name_fault.NameFault.{NameFault}
 use Rattle.device_paths.specs.Standing.{IsFirstOf, IsFirstRead, NamesFrom, NamesStand, NextIsBehind}
 use Rattle.device_paths.specs.declared.named.Named.{Named}
 use Rattle.device_paths.proofs.StandingLemmas.{some-stand}

@@ -1,7 +1,7 @@
 -- The greatest number of drive calls in a call that walks along a path list (this project's own).
 use Rattle.std.specs.Prelude.{ℕ, ◌+◌, Bool, Option, Some, None, Result, Ok, Err, List}
 use Rattle.std.specs.Option.{option_map_or}
-use Rattle.user_names.specs.declared.name_fault.NameFault.{NameFault}
+use Rattle.os9_base.specs.declared.name_fault.NameFault.{NameFault}
 use Rattle.io_rules.specs.PathList.{PathList}
 use Rattle.rbf_model.specs.File.{DiskFile}
 use Rattle.rbf_model.specs.Volume.{DiskVolume}

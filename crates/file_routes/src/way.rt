@@ -20,8 +20,8 @@ use file_drives::disks::Disks;
 use guest_memory::memory::Memory;
 use lock_model::place::FilePlace;
 use os9_base::errors::{E_BMODE, E_BPADDR, E_BPNAM, E_MNF, E_PNNF};
+use os9_base::name_fault::NameFault;
 use os9_base::registers::Pid;
-use user_names::name_fault::NameFault;
 
 /// The purpose of a call with a path list.
 #[derive(Clone, Copy, Debug, PartialEq, Eq)]

@@ -6,8 +6,8 @@ use Rattle.os9_base.specs.declared.call.CallEnd.{CallEnd}
 use Rattle.os9_base.specs.declared.registers.Regs.{Regs}
 use Rattle.os9_base.specs.declared.registers.TimePacket.{TimePacket}
 use Rattle.os9_outer.specs.TerminalState.{TerminalState}
-use Rattle.call_rules.specs.CallResult.{CallResult}
-use Rattle.call_rules.specs.Processes.{Processes, user_at}
+use Rattle.proc_rules.specs.CallResult.{CallResult}
+use Rattle.proc_rules.specs.Processes.{Processes, user_at}
 use Rattle.io_rules.specs.Attempts.{caller_of, end_of, pending_in, regs_after, result_of}
 use Rattle.io_rules.specs.Dup.{i_dup}
 use Rattle.io_rules.specs.Io.{with_call}

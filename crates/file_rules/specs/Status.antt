@@ -8,7 +8,7 @@ use Rattle.std.specs.Prelude.{ℕ, ◌/◌, ◌%◌, ◌==◌, not, is_none, nat
 use Rattle.os9_base.specs.declared.calls.TheConstants.{I_SETSTT}
 use Rattle.os9_base.specs.declared.errors.TheConstants.{E_BPADDR, E_UNKSVC, E_BMODE, E_EOF, E_FNA}
 use Rattle.os9_base.specs.declared.registers.Regs.{Regs}
-use Rattle.call_rules.specs.UserBytes.{user_bytes, word_bytes}
+use Rattle.proc_rules.specs.UserBytes.{user_bytes, word_bytes}
 use Rattle.lock_model.specs.Records.{holding, without_lock, written_by}
 use Rattle.lock_model.specs.declared.lock.Held.{Held}
 use Rattle.lock_model.specs.declared.lock.Range.{Range}

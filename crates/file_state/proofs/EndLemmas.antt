@@ -8,7 +8,7 @@ use Rattle.rbf_model.specs.Volume.{DiskVolume, Vol}
 use Rattle.rbf_access.specs.declared.faults.FileFault.TheVariants.{Device, TooManyRuns}
 use Rattle.rbf_walk.specs.declared.error.DirError.TheVariants.{File}
 use Rattle.rbf_change.specs.Faults as ends
-use Rattle.call_rules.specs.Processes.{Processes}
+use Rattle.proc_rules.specs.Processes.{Processes}
 use Rattle.os9_base.specs.declared.call.CallEnd.{CallEnd}
 use Rattle.std.proofs.lemmas.Option.{none-some}
 use Rattle.io_model.specs.declared.pending.PendingCall.{PendingCall}

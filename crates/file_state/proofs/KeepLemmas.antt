@@ -12,7 +12,7 @@ use Rattle.rbf_model.specs.Volume.{DiskVolume}
 use Rattle.rbf_access.specs.declared.faults.FileFault.TheVariants.{Device}
 use Rattle.rbf_walk.specs.declared.error.DirError.{DirError}
 use Rattle.rbf_walk.specs.declared.error.DirError.TheVariants.{File}
-use Rattle.call_rules.specs.Processes.{Processes}
+use Rattle.proc_rules.specs.Processes.{Processes}
 use Rattle.file_rules.specs.Attempts.{asker_of, file_step, files_after, files_kept, io_effect}
 use Rattle.file_rules.specs.Files.{Asker, DriveState, Files, OneFailed, volume_at}
 use Rattle.file_rules.specs.Step.{Deed, FileStep, Step, VolumeChange, as_io, changes, deed_of, drive_of, leaves_so}

@@ -4,7 +4,7 @@ use Rattle.std.specs.Option.{unwrap_or}
 use Rattle.std.proofs.lemmas.List.{map-set, set-get_or}
 use Rattle.std.proofs.lemmas.Option.{unwrap_or-slice_get}
 use Rattle.os9_outer.specs.Drive.{sector_at}
-use Rattle.memory_laws.proofs.Objects.{slice_get-set_other}
+use Rattle.guest_memory.proofs.Objects.{slice_get-set_other}
 use Rattle.file_drives.proofs.DriveLemmas.{media-there}
 use Rattle.file_drives.specs.Drives.{ChangesOneDrive, DriveView, KeepsIdent, ReadsDrive, media_at, media_of, unused_drive}
 use Rattle.file_state.specs.Reached.{OthersStay}

@@ -15,9 +15,9 @@ use Rattle.rbf_access.specs.Faults.{file_error, file_fault}
 use Rattle.rbf_access.specs.declared.faults.FileFault.{FileFault}
 use Rattle.rbf_access.specs.declared.faults.FileFault.TheVariants.{Device, NoCluster, TooManyRuns}
 use Rattle.rbf_walk.specs.declared.error.DirError.{DirError}
-use Rattle.call_rules.specs.CallResult.{CallResult}
-use Rattle.call_rules.specs.CallResult as came
-use Rattle.call_rules.specs.Processes.{Processes}
+use Rattle.proc_rules.specs.CallResult.{CallResult}
+use Rattle.proc_rules.specs.CallResult as came
+use Rattle.proc_rules.specs.Processes.{Processes}
 use Rattle.lock_model.specs.Locks.{Locks, request_of}
 use Rattle.lock_model.specs.Records.{Records, with_waiting}
 use Rattle.lock_model.specs.declared.place.FilePlace.{FilePlace}

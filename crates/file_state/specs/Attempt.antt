@@ -8,8 +8,8 @@ use Rattle.os9_base.specs.declared.registers.TimePacket.{TimePacket}
 use Rattle.os9_outer.specs.TerminalState.{TerminalState}
 use Rattle.os9_outer.specs.declared.drive.BlockDriver.{Ghosts}
 use Rattle.device_table.specs.declared.devices.DeviceTable.{DeviceTable}
-use Rattle.call_rules.specs.CallResult.{CallResult}
-use Rattle.call_rules.specs.Processes.{Processes}
+use Rattle.proc_rules.specs.CallResult.{CallResult}
+use Rattle.proc_rules.specs.Processes.{Processes}
 use Rattle.lock_model.specs.Records.{Records, with_waiting}
 use Rattle.proc_state.specs.Tie.{Comes, Represents}
 use Rattle.proc_state.specs.declared.state.ProcState.{ProcState}
@@ -67,7 +67,7 @@ standing members processes files devices =
 abbrev pub OnEach : Standing → (Processes → Files → Type 0) → Type 0
 OnEach before fact =
     (m : Processes) (was : Files) → Represents before.processes m → StandsFor before.files before.views was
-        → AreKinds was
+    → AreKinds was
     → fact m was
 
 -- an attempt of a call by a process, at a time, from each such state

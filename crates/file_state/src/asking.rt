@@ -11,8 +11,8 @@ ghost use Rattle.file_state.specs.Asking.{IsClaim, IsGranted, IsRequestOf, MayAs
 
 use crate::state::{FileState, OpenFile};
 use file_rules::claim::Claim;
-use io_model::pending::PendingCall;
 use io_model::path::SysPath;
+use io_model::pending::PendingCall;
 use lock_model::lock::{Grant, Held, Range, Request};
 use os9_base::call::CallEnd;
 use os9_base::errors::{E_DEADLK, E_LOCK};

@@ -2,7 +2,7 @@
 
 ghost use Rattle.std.specs.Prelude.{◌≡◌, ◌<◌, ◌==◌, ◌||◌, ℕ, Bool, false, None, Some, IfOk, IfSome, IsSome, OnOk, OnErr, List, replicate, vec_len};
 ghost use Rattle.std.specs.Option.{option_map_or};
-ghost use Rattle.call_rules.specs.IoReady.{has_io};
+ghost use Rattle.proc_rules.specs.IoReady.{has_io};
 ghost use Rattle.io_model.specs.Path.{new_number, slot_of};
 ghost use Rattle.io_rules.specs.Io.{first_io, pending_at, open_path};
 ghost use Rattle.io_rules.specs.Waiting.{interrupted_count, io_may_go};
@@ -26,7 +26,6 @@ ghost use Rattle.file_state.specs.Opened.{IsPathOf, NamesFile, NamesNoFile, dire
 ghost use Rattle.file_state.specs.Reached.{MountsOn, OthersKept};
 ghost use Rattle.file_state.specs.Tie.{StandsFor};
 
-use call_rules::io_ready::IoReady;
 use device_table::devices::Devices;
 use file_drives::disks::Disks;
 use file_rules::places::Directories;
@@ -40,6 +39,7 @@ use os9_base::limits::PROCESS_PLACES;
 use os9_base::registers::Pid;
 use os9_outer::drive::BlockDriver;
 use os9_sched::{Cause, Wait};
+use proc_rules::io_ready::IoReady;
 use rbf_access::VolFault;
 use record_locks::records::Records;
 use std::alloc::Global;

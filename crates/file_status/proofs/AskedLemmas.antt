@@ -7,7 +7,7 @@ use Rattle.os9_base.specs.declared.errors.TheConstants.{E_DEADLK, E_LOCK}
 use Rattle.os9_base.specs.declared.registers.Pid.{Pid}
 use Rattle.os9_base.specs.declared.registers.TimePacket.{TimePacket}
 use Rattle.os9_outer.specs.TerminalState.{TerminalState}
-use Rattle.call_rules.specs.Processes.{Processes, regs_at, with_regs_of}
+use Rattle.proc_rules.specs.Processes.{Processes, regs_at, with_regs_of}
 use Rattle.io_model.specs.declared.path.Desc.{Desc}
 use Rattle.io_model.specs.declared.path.SysPath.{SysPath}
 use Rattle.io_rules.specs.Io.{OpenPath, pending_at, with_call}

@@ -5,8 +5,8 @@ use Rattle.os9_base.specs.declared.errors.TheConstants.{E_BPADDR, E_EOF}
 use Rattle.os9_base.specs.declared.registers.Regs.{Regs}
 use Rattle.os9_base.specs.declared.registers.TimePacket.{TimePacket}
 use Rattle.os9_outer.specs.TerminalState.{TerminalState}
-use Rattle.call_rules.specs.Processes.{Processes, cells_at, regs_at, with_memory, with_regs_of}
-use Rattle.call_rules.specs.UserBytes.{user_bytes}
+use Rattle.proc_rules.specs.Processes.{Processes, cells_at, regs_at, with_memory, with_regs_of}
+use Rattle.proc_rules.specs.UserBytes.{user_bytes}
 use Rattle.proc_model.specs.MemoryChanges.{stored}
 use Rattle.io_model.specs.declared.path.Desc.{Desc}
 use Rattle.io_rules.specs.Status.{options}

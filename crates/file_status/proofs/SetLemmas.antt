@@ -7,7 +7,7 @@ use Rattle.os9_base.specs.declared.errors.TheConstants.{E_FNA, E_BMODE}
 use Rattle.os9_base.specs.declared.registers.Regs.{Regs}
 use Rattle.os9_base.specs.declared.registers.TimePacket.{TimePacket}
 use Rattle.os9_outer.specs.TerminalState.{TerminalState}
-use Rattle.call_rules.specs.Processes.{Processes, regs_at, user_at, with_regs_of}
+use Rattle.proc_rules.specs.Processes.{Processes, regs_at, user_at, with_regs_of}
 use Rattle.io_model.specs.declared.path.Desc.{Desc}
 use Rattle.io_rules.specs.Modes.{can_write}
 use Rattle.proc_state.specs.Tie.{Represents}
@@ -19,7 +19,7 @@ use Rattle.rbf_change.specs.Growth.{clusters_needed}
 use Rattle.rbf_change.specs.NewFiles.{owns_file}
 use Rattle.rbf_access.specs.declared.faults.FileFault.TheVariants.{Device, NoCluster, TooManyRuns}
 use Rattle.rbf_access.specs.declared.volume.Volume.{Volume}
-use Rattle.rbf_delete.specs.Attributes.{attribute_calls}
+use Rattle.rbf_entries.specs.Attributes.{attribute_calls}
 use Rattle.rbf_write.specs.Outcomes.{laying_calls}
 use Rattle.rbf_write.specs.Sizes.{Sizing, giving_calls, size_calls}
 use Rattle.rbf_walk.specs.Walk.{directory_error}

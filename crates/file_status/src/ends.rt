@@ -4,7 +4,7 @@ ghost use Rattle.std.specs.Prelude.{◌≡◌, ◌<◌, IfSome};
 ghost use Rattle.io_rules.specs.Io.{pending_at};
 ghost use Rattle.io_state.specs.Sound.{IsNoRead};
 ghost use Rattle.proc_rules.specs.Records.{IsLiving};
-ghost use Rattle.call_rules.specs.Processes.{Processes, with_regs_of};
+ghost use Rattle.proc_rules.specs.Processes.{Processes, with_regs_of};
 ghost use Rattle.proc_state.specs.Tie.{Represents};
 ghost use Rattle.file_status.specs.Status.{uncalled};
 

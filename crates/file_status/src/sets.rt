@@ -1,7 +1,7 @@
 //! I$SetStt of a file or a directory.
 
 ghost use Rattle.std.specs.Prelude.{◌≡◌, false, true, IfSome, List};
-ghost use Rattle.call_rules.specs.Processes.{Processes, with_regs_of};
+ghost use Rattle.proc_rules.specs.Processes.{Processes, with_regs_of};
 ghost use Rattle.os9_base.specs.declared.registers.TimePacket.{TimePacket as Time};
 ghost use Rattle.os9_outer.specs.TerminalState.{TerminalState};
 ghost use Rattle.proc_rules.specs.Records.{IsLiving, record_at};

@@ -6,10 +6,10 @@ use Rattle.proc_model.specs.Memory.{MemoryState}
 use Rattle.os9_base.specs.declared.registers.Pid.{Pid}
 use Rattle.proc_rules.specs.Records.{free_process, record_at, after_make, with_regs}
 use Rattle.proc_rules.specs.Turns.{with_turn}
-use Rattle.call_rules.specs.CallResult.{CallResult, done, refused, needs}
-use Rattle.call_rules.specs.Fork.{with_child, forked_regs}
-use Rattle.call_rules.specs.Processes.{Processes, regs_at, with_own, with_regs_of}
-use Rattle.call_rules.specs.Program.{Program}
+use Rattle.proc_rules.specs.CallResult.{CallResult, done, refused, needs}
+use Rattle.proc_rules.specs.Fork.{with_child, forked_regs}
+use Rattle.proc_rules.specs.Processes.{Processes, regs_at, with_own, with_regs_of}
+use Rattle.proc_rules.specs.Program.{Program}
 use Rattle.proc_state.specs.Beginning.{with_made}
 use Rattle.fork_calls.specs.declared.starting.Beginning.{Beginning}
 use Rattle.fork_calls.specs.Loading.{loads_program, with_new_child}

@@ -2,7 +2,7 @@
 use Rattle.std.specs.Prelude.{ℕ, None}
 use Rattle.proc_rules.specs.Records.{with_regs}
 use Rattle.proc_rules.specs.Signals.{with_intercept}
-use Rattle.call_rules.specs.Processes.{Processes, with_records, with_own}
+use Rattle.proc_rules.specs.Processes.{Processes, with_records, with_own}
 use Rattle.fork_calls.specs.declared.starting.Beginning.{Beginning}
 
 -- the state in which a process begins anew in this way, without an intercept

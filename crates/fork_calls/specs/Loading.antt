@@ -8,10 +8,10 @@ use Rattle.proc_model.specs.Memory.{MemoryState}
 use Rattle.proc_model.specs.MemoryChanges.{linked, started}
 use Rattle.proc_rules.specs.Records.{record_at, after_make, with_regs}
 use Rattle.proc_rules.specs.Turns.{with_turn}
-use Rattle.call_rules.specs.CallResult.{CallResult, refused, refuses, changes}
-use Rattle.call_rules.specs.Chain.{with_program}
-use Rattle.call_rules.specs.Processes.{Processes, with_own}
-use Rattle.call_rules.specs.Program.{Program, most_pages, blocks_of_pages, start_regs, start_own, with_parameters}
+use Rattle.proc_rules.specs.CallResult.{CallResult, refused, refuses, changes}
+use Rattle.proc_rules.specs.Chain.{with_program}
+use Rattle.proc_rules.specs.Processes.{Processes, with_own}
+use Rattle.proc_rules.specs.Program.{Program, most_pages, blocks_of_pages, start_regs, start_own, with_parameters}
 use Rattle.proc_state.specs.declared.state.ProcState.{ProcState}
 use Rattle.proc_state.specs.Tie.{Represents}
 use Rattle.fork_calls.specs.declared.starting.Beginning.{Beginning}

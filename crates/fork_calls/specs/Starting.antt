@@ -2,12 +2,12 @@
 use Rattle.std.specs.Prelude.{ℕ}
 use Rattle.os9_base.specs.declared.errors.TheConstants.{E_PRCFUL}
 use Rattle.proc_rules.specs.Records.{free_process}
-use Rattle.call_rules.specs.CallResult.{CallResult, done, needs}
-use Rattle.call_rules.specs.Chain.{begun_anew, with_program}
-use Rattle.call_rules.specs.Fork.{with_child, forked_regs}
-use Rattle.call_rules.specs.Processes.{Processes, own_at, regs_at, with_regs_of}
-use Rattle.call_rules.specs.ModuleLinks.{without_primary_link}
-use Rattle.call_rules.specs.Program.{Program}
+use Rattle.proc_rules.specs.CallResult.{CallResult, done, needs}
+use Rattle.proc_rules.specs.Chain.{begun_anew, with_program}
+use Rattle.proc_rules.specs.Fork.{with_child, forked_regs}
+use Rattle.proc_rules.specs.Processes.{Processes, own_at, regs_at, with_regs_of}
+use Rattle.proc_rules.specs.ModuleLinks.{without_primary_link}
+use Rattle.proc_rules.specs.Program.{Program}
 use Rattle.fork_calls.specs.Loading.{loads_program}
 
 -- a child of a process starts the program

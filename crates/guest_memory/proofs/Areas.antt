@@ -5,8 +5,8 @@ use Rattle.std.proofs.lemmas.List.{get_or_default}
 use Rattle.os9_base.specs.Cells.{FitsIn}
 use Rattle.proc_model.specs.declared.group.BlockId.{BlockId}
 use Rattle.proc_model.specs.Slots.{Slots, no_slots, block_at}
-use Rattle.memory_laws.proofs.Keeping.{held_at}
-use Rattle.user_names.specs.UserNames.{run_bytes}
+use Rattle.guest_memory.proofs.Keeping.{held_at}
+use Rattle.os9_base.specs.UserNames.{run_bytes}
 use Rattle.guest_memory.proofs.Seen.{seen-byte}
 use Rattle.guest_memory.specs.declared.memory.Memory.{Memory}
 use Rattle.guest_memory.specs.Tie.{cells_of}

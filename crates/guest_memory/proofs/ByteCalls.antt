@@ -8,10 +8,10 @@ use Rattle.proc_model.specs.Memory.{MemoryState}
 use Rattle.proc_model.specs.MemoryChanges.{writes_from, stored}
 use Rattle.proc_model.specs.ModuleList.{ModuleEntry}
 use Rattle.proc_model.specs.Slots.{Slots, no_slots}
-use Rattle.memory_laws.specs.Memory.{RepresentMemory}
-use Rattle.memory_laws.specs.Sound.{IsSound}
-use Rattle.memory_laws.proofs.Keeping.{map_of}
-use Rattle.memory_laws.proofs.Writing.{write-from, named-from, IsSound-written, represent-written}
+use Rattle.guest_memory.specs.Memory.{RepresentMemory}
+use Rattle.guest_memory.specs.Sound.{IsSound}
+use Rattle.guest_memory.proofs.Keeping.{map_of}
+use Rattle.guest_memory.proofs.Writing.{write-from, named-from, IsSound-written, represent-written}
 use Rattle.guest_memory.proofs.MapCalls.{is_map_of}
 
 module _ (pool after : Blocks) (maps : List (Slots BlockId)) (entries : List (Option ModuleEntry))

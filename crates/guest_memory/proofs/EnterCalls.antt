@@ -11,11 +11,11 @@ use Rattle.proc_model.specs.MemoryChanges.{entered_beside, new_numbers}
 use Rattle.proc_model.specs.ModuleList.{ModuleEntry, module_entry_at, free_number, new_entry, with_module_entry}
 use Rattle.proc_model.specs.Slots.{Slots}
 use Rattle.proc_model.specs.Objects.{file_blocks, file_objects}
-use Rattle.memory_laws.specs.Gains.{GainsBlocks}
-use Rattle.memory_laws.specs.Memory.{RepresentMemory}
-use Rattle.memory_laws.specs.Sound.{IsSound}
-use Rattle.memory_laws.proofs.Entering.{beside, IsSound-beside, represent-beside, IsSound-entered, represent-entered, with_entered}
-use Rattle.memory_laws.proofs.Times.{numbers_of}
+use Rattle.guest_memory.specs.Gains.{GainsBlocks}
+use Rattle.guest_memory.specs.Memory.{RepresentMemory}
+use Rattle.guest_memory.specs.Sound.{IsSound}
+use Rattle.guest_memory.proofs.Entered.{beside, IsSound-beside, represent-beside, IsSound-entered, represent-entered, with_entered}
+use Rattle.guest_memory.proofs.Times.{numbers_of}
 use Rattle.guest_memory.proofs.LinkCalls.{found_entry}
 
 -- what is said of the entry is true of the one that was found

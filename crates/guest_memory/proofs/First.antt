@@ -10,10 +10,10 @@ use Rattle.proc_model.specs.declared.group.BlockId.{BlockId}
 use Rattle.proc_model.specs.Memory.{first_memory}
 use Rattle.proc_model.specs.ModuleList.{ModuleEntry, module_entry_at, entered_groups}
 use Rattle.proc_model.specs.Slots.{Slots, IsMap, no_slots}
-use Rattle.memory_laws.specs.Memory.{RepresentMemory}
-use Rattle.memory_laws.specs.References.{times, references, mapped_blocks}
-use Rattle.memory_laws.specs.Renaming.{renamed_map, renamed_modules}
-use Rattle.memory_laws.specs.Sound.{IsHeld, IsSound}
+use Rattle.guest_memory.specs.Memory.{RepresentMemory}
+use Rattle.guest_memory.specs.References.{times, references, mapped_blocks}
+use Rattle.guest_memory.specs.Renaming.{renamed_map, renamed_modules}
+use Rattle.guest_memory.specs.Sound.{IsHeld, IsSound}
 
 no_entry : (n number : ℕ) (entry : ModuleEntry) → module_entry_at (replicate n None) number ≡ Some entry → ⊥
 no_entry zero number entry is = none-some entry is

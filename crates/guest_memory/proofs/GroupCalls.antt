@@ -13,13 +13,13 @@ use Rattle.proc_model.specs.Memory.{MemoryState, map_at, with_map, group_at}
 use Rattle.proc_model.specs.MemoryChanges.{group_mapped, group_unmapped}
 use Rattle.proc_model.specs.ModuleList.{ModuleEntry, module_entry_at}
 use Rattle.proc_model.specs.Slots.{Slots, IsMap, IsFreeRun, IsHighestFreeRun, NamesBlock, no_slots, group_of, blocks_between, with_group, map_without_group, group_slot}
-use Rattle.memory_laws.specs.Memory.{RepresentMemory}
-use Rattle.memory_laws.specs.Renaming.{numbered_map}
-use Rattle.memory_laws.specs.Sound.{IsSound}
-use Rattle.memory_laws.proofs.Times.{numbers_of}
-use Rattle.memory_laws.proofs.Keeping.{map_of}
-use Rattle.memory_laws.proofs.Leaving.{group-live, group-different}
-use Rattle.memory_laws.proofs.MappedGroups.{block_slot, block_slot-is, names_number, begins_at, group_slot-tied, group-unnamed, group-countable, IsSound-mapped, represent-mapped, group_mapped-some, group_mapped-none, IsSound-unmapped, represent-unmapped, represent-not_mapped}
+use Rattle.guest_memory.specs.Memory.{RepresentMemory}
+use Rattle.guest_memory.specs.Renaming.{numbered_map}
+use Rattle.guest_memory.specs.Sound.{IsSound}
+use Rattle.guest_memory.proofs.Times.{numbers_of}
+use Rattle.guest_memory.proofs.Keeping.{map_of}
+use Rattle.guest_memory.proofs.Leaving.{group-live, group-different}
+use Rattle.guest_memory.proofs.MappedGroups.{block_slot, block_slot-is, names_number, begins_at, group_slot-tied, group-unnamed, group-countable, IsSound-mapped, represent-mapped, group_mapped-some, group_mapped-none, IsSound-unmapped, represent-unmapped, represent-not_mapped}
 use Rattle.guest_memory.proofs.LinkCalls.{found_entry}
 use Rattle.guest_memory.proofs.MapCalls.{is_map_of, unchanged}
 

@@ -5,10 +5,10 @@ use Rattle.std.proofs.lemmas.Option.{same_Some}
 use Rattle.proc_model.specs.declared.module.ModuleInfo.{ModuleInfo}
 use Rattle.proc_model.specs.Memory.{MemoryState}
 use Rattle.proc_model.specs.ModuleList.{ModuleEntry, module_entry_at}
-use Rattle.memory_laws.specs.Renaming.{renamed_entry}
-use Rattle.memory_laws.specs.Sound.{IsGrouped}
-use Rattle.memory_laws.proofs.Keeping.{held_at}
-use Rattle.memory_laws.proofs.MappedGroups.{begins_at}
+use Rattle.guest_memory.specs.Renaming.{renamed_entry}
+use Rattle.guest_memory.specs.Sound.{IsGrouped}
+use Rattle.guest_memory.proofs.Keeping.{held_at}
+use Rattle.guest_memory.proofs.MappedGroups.{begins_at}
 use Rattle.guest_memory.proofs.GroupCalls.{slot_of_entry}
 use Rattle.guest_memory.proofs.LinkCalls.{found_entry}
 use Rattle.guest_memory.proofs.Seen.{entry-seen}

@@ -1,3 +1,23 @@
+pub mod Changes
+pub mod DataArea
+pub mod Directory
+pub mod Entered
+pub mod Gains
+pub mod HeldGroups
+pub mod Keeping
+pub mod Leaving
+pub mod Lists
+pub mod MappedGroups
+pub mod Naming
+pub mod Living
+pub mod Objects
+pub mod Renamed
+pub mod Represented
+pub mod Runs
+pub mod Starting
+pub mod Stores
+pub mod Times
+pub mod Writing
 mod Areas
 mod ByteCalls
 mod EnterCalls

@@ -10,8 +10,8 @@ use Rattle.std.proofs.lemmas.List.Sums.{fails_before_first}
 use Rattle.std.proofs.lemmas.Option.{none-some, slice_get-get_or}
 use Rattle.std.proofs.lemmas.Bool.{cases_lt, cond-true, ne_eqb, eqb-true, eqb-false, lt-ltb, false≢true}
 use Rattle.os9_base.specs.Cells.{Cells, Holds}
-use Rattle.user_names.specs.UserNames.{user_cell}
-use Rattle.user_names.specs.UserLines.{line_at}
+use Rattle.os9_base.specs.UserNames.{user_cell}
+use Rattle.os9_base.specs.UserLines.{line_at}
 use Rattle.guest_memory.specs.Pieces.{IsPiece}
 
 line_at-unnamed : (cells : Cells) (at most : ℕ) → user_cell cells at ≡ None → line_at cells at (suc most) ≡ None

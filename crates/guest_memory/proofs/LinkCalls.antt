@@ -15,12 +15,12 @@ use Rattle.proc_model.specs.Memory.{MemoryState}
 use Rattle.proc_model.specs.MemoryChanges.{linked, unlinked, is_group_leaving}
 use Rattle.proc_model.specs.ModuleList.{ModuleEntry, module_entry_at, with_module_entry, entry_linked, entry_unlinked, with_unlinked, modules_without_group, is_leaving, after_unlink, leaving_group}
 use Rattle.proc_model.specs.Slots.{Slots}
-use Rattle.memory_laws.specs.Memory.{RepresentMemory}
-use Rattle.memory_laws.specs.References.{times}
-use Rattle.memory_laws.specs.Sound.{IsSound}
-use Rattle.memory_laws.proofs.Changes.{count_of-given_all}
-use Rattle.memory_laws.proofs.Directory.{IsSound-replaced, IsSound-less, IsSound-left, represent-linked, at_less}
-use Rattle.memory_laws.proofs.Leaving.{is_group_leaving-tied, represent-unlinked, group-live, group-different}
+use Rattle.guest_memory.specs.Memory.{RepresentMemory}
+use Rattle.guest_memory.specs.References.{times}
+use Rattle.guest_memory.specs.Sound.{IsSound}
+use Rattle.guest_memory.proofs.Changes.{count_of-given_all}
+use Rattle.guest_memory.proofs.Directory.{IsSound-replaced, IsSound-less, IsSound-left, represent-linked, at_less}
+use Rattle.guest_memory.proofs.Leaving.{is_group_leaving-tied, represent-unlinked, group-live, group-different}
 
 -- the entry that a number has
 pub record IsFound (entries : List (Option ModuleEntry)) (number : ℕ) : Type 0 where

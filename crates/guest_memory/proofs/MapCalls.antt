@@ -12,11 +12,11 @@ use Rattle.proc_model.specs.Memory.{MemoryState}
 use Rattle.proc_model.specs.MemoryChanges.{grown, cut, cleared, map_cut}
 use Rattle.proc_model.specs.ModuleList.{ModuleEntry}
 use Rattle.proc_model.specs.Slots.{Slots, IsMap, IsFreeRun, no_slots, blocks_in, blocks_between, cut_low_to, is_free_run}
-use Rattle.memory_laws.specs.Memory.{RepresentMemory}
-use Rattle.memory_laws.specs.Sound.{IsSound}
-use Rattle.memory_laws.proofs.Keeping.{map_of, held_at, names_live}
-use Rattle.memory_laws.proofs.Runs.{is_free_run-iff}
-use Rattle.memory_laws.proofs.DataArea.{IsSound-cleared, represent-cleared, IsSound-cut, represent-cut, grown-full, grown-no_ram, grown-ok, with_growth, IsSound-grown, represent-grown}
+use Rattle.guest_memory.specs.Memory.{RepresentMemory}
+use Rattle.guest_memory.specs.Sound.{IsSound}
+use Rattle.guest_memory.proofs.Keeping.{map_of, held_at, names_live}
+use Rattle.guest_memory.proofs.Runs.{is_free_run-iff}
+use Rattle.guest_memory.proofs.DataArea.{IsSound-cleared, represent-cleared, IsSound-cut, represent-cut, grown-full, grown-no_ram, grown-ok, with_growth, IsSound-grown, represent-grown}
 
 module _ (pool : Blocks) (maps : List (Slots BlockId)) (entries : List (Option ModuleEntry))
     (sound : IsSound pool maps entries) (process : ℕ) (within : process < 33) (old : Slots BlockId)

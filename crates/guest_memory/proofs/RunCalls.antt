@@ -17,13 +17,13 @@ use Rattle.proc_model.specs.MemoryChanges.{written}
 use Rattle.proc_model.specs.ModuleList.{ModuleEntry}
 use Rattle.proc_model.specs.Objects.{with_cell, with_writes, NamesObjects}
 use Rattle.proc_model.specs.Slots.{Slots}
-use Rattle.memory_laws.specs.Memory.{RepresentMemory}
-use Rattle.memory_laws.specs.Sound.{IsSound}
-use Rattle.memory_laws.proofs.Keeping.{map_of, held_at, names_live}
-use Rattle.memory_laws.proofs.Naming.{map_at-memory_of}
-use Rattle.memory_laws.proofs.Objects.{with_writes-tied}
-use Rattle.memory_laws.proofs.Stores.{IsMap-renamed}
-use Rattle.memory_laws.proofs.Writing.{cells-tied, represent-written, IsSound-written}
+use Rattle.guest_memory.specs.Memory.{RepresentMemory}
+use Rattle.guest_memory.specs.Sound.{IsSound}
+use Rattle.guest_memory.proofs.Keeping.{map_of, held_at, names_live}
+use Rattle.guest_memory.proofs.Naming.{map_at-memory_of}
+use Rattle.guest_memory.proofs.Objects.{with_writes-tied}
+use Rattle.guest_memory.proofs.Stores.{IsMap-renamed}
+use Rattle.guest_memory.proofs.Writing.{cells-tied, represent-written, IsSound-written}
 use Rattle.guest_memory.specs.Running.{cells_seen, LeavesMemory, ExecutesInMemory, FollowInMemory, EndsInMemory, RunsInMemory}
 use Rattle.guest_memory.proofs.MapCalls.{is_map_of}
 use Rattle.guest_memory.proofs.NamedSteps.{all_named-step}

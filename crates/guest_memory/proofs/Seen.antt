@@ -15,15 +15,15 @@ use Rattle.proc_model.specs.Memory.{MemoryState, map_at, group_at, free_blocks}
 use Rattle.proc_model.specs.ModuleList.{ModuleEntry, module_entry_at, found_module}
 use Rattle.proc_model.specs.Objects.{NamesObjects}
 use Rattle.proc_model.specs.Slots.{Slots, no_slots, block_at, IsFreeRun, IsHighestFreeRun, highest_free_run}
-use Rattle.memory_laws.specs.Renaming.{renamed_map, renamed_entry}
-use Rattle.memory_laws.proofs.Directory.{entry_at-renamed}
-use Rattle.memory_laws.proofs.Keeping.{held_at, map_of, names_live}
-use Rattle.memory_laws.proofs.Naming.{map_at-memory_of, free_blocks-tied}
-use Rattle.memory_laws.proofs.Renamed.{found-renamed}
-use Rattle.memory_laws.proofs.Runs.{highest_free_run-renamed, highest_free_run-is, highest_free_run-none}
-use Rattle.memory_laws.proofs.Stores.{IsMap-renamed}
-use Rattle.memory_laws.proofs.Writing.{cells-tied}
-use Rattle.user_names.specs.UserNames.{user_cell}
+use Rattle.guest_memory.specs.Renaming.{renamed_map, renamed_entry}
+use Rattle.guest_memory.proofs.Directory.{entry_at-renamed}
+use Rattle.guest_memory.proofs.Keeping.{held_at, map_of, names_live}
+use Rattle.guest_memory.proofs.Naming.{map_at-memory_of, free_blocks-tied}
+use Rattle.guest_memory.proofs.Renamed.{found-renamed}
+use Rattle.guest_memory.proofs.Runs.{highest_free_run-renamed, highest_free_run-is, highest_free_run-none}
+use Rattle.guest_memory.proofs.Stores.{IsMap-renamed}
+use Rattle.guest_memory.proofs.Writing.{cells-tied}
+use Rattle.os9_base.specs.UserNames.{user_cell}
 use Rattle.guest_memory.proofs.GroupCalls.{some-len}
 use Rattle.guest_memory.proofs.MapCalls.{is_map_of, live}
 use Rattle.guest_memory.specs.declared.memory.Memory.{Memory}

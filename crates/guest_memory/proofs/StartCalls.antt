@@ -20,15 +20,15 @@ use Rattle.proc_model.specs.MemoryChanges.{started, started_with, with_first_slo
 use Rattle.proc_model.specs.ModuleList.{ModuleEntry, module_entry_at}
 use Rattle.proc_model.specs.Objects.{zero_object}
 use Rattle.proc_model.specs.Slots.{Slots, IsMap, IsFreeRun, IsHighestFreeRun, no_slots, block_at, blocks_in, filled_places, with_low, with_group, group_slot}
-use Rattle.memory_laws.specs.Memory.{RepresentMemory}
-use Rattle.memory_laws.specs.Renaming.{numbered_map, renamed_map, renamed_entry}
-use Rattle.memory_laws.specs.Sound.{IsSound}
-use Rattle.memory_laws.proofs.Keeping.{map_of, group_live}
-use Rattle.memory_laws.proofs.Naming.{map_at-memory_of, free_blocks-tied}
-use Rattle.memory_laws.proofs.DataArea.{with_growth}
-use Rattle.memory_laws.proofs.Directory.{entry_at-renamed}
-use Rattle.memory_laws.proofs.MappedGroups.{block_slot-is, names_number, names_number-is, position-none}
-use Rattle.memory_laws.proofs.Starting.{free-cleared, free_at_first, last_run}
+use Rattle.guest_memory.specs.Memory.{RepresentMemory}
+use Rattle.guest_memory.specs.Renaming.{numbered_map, renamed_map, renamed_entry}
+use Rattle.guest_memory.specs.Sound.{IsSound}
+use Rattle.guest_memory.proofs.Keeping.{map_of, group_live}
+use Rattle.guest_memory.proofs.Naming.{map_at-memory_of, free_blocks-tied}
+use Rattle.guest_memory.proofs.DataArea.{with_growth}
+use Rattle.guest_memory.proofs.Directory.{entry_at-renamed}
+use Rattle.guest_memory.proofs.MappedGroups.{block_slot-is, names_number, names_number-is, position-none}
+use Rattle.guest_memory.proofs.Starting.{free-cleared, free_at_first, last_run}
 use Rattle.guest_memory.proofs.LinkCalls.{found_entry}
 use Rattle.guest_memory.proofs.MapCalls.{is_map_of, live, sound-clear, tied-clear, sound-grow, grow-ok}
 use Rattle.guest_memory.proofs.GroupCalls.{many, same, some-len, map-may, sound-map_group, map-some}

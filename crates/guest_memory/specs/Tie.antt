@@ -8,8 +8,8 @@ use Rattle.proc_model.specs.Memory.{MemoryState, map_at}
 use Rattle.proc_model.specs.ModuleList.{ModuleEntry, module_entry_at}
 use Rattle.proc_model.specs.Objects.{object_cells}
 use Rattle.proc_model.specs.Slots.{no_slots, group_slot}
-use Rattle.memory_laws.specs.Memory.{RepresentMemory}
-use Rattle.memory_laws.specs.Renaming.{numbered_map}
+use Rattle.guest_memory.specs.Memory.{RepresentMemory}
+use Rattle.guest_memory.specs.Renaming.{numbered_map}
 use Rattle.guest_memory.specs.declared.memory.Memory.{Memory}
 
 -- a memory of blocks represents one of objects

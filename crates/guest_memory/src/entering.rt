@@ -9,7 +9,7 @@ ghost use Rattle.proc_model.specs.Memory.{MemoryState};
 ghost use Rattle.proc_model.specs.MemoryChanges.{entered, entered_beside};
 ghost use Rattle.proc_model.specs.ModuleList.{module_entry_at, free_number, new_entry, with_module_entry};
 ghost use Rattle.proc_model.specs.Objects.{file_block, file_blocks};
-ghost use Rattle.memory_laws.specs.Gains.{GainsBlocks, IsLoaded};
+ghost use Rattle.guest_memory.specs.Gains.{GainsBlocks, IsLoaded};
 ghost use Rattle.guest_memory.specs.Tie.{Represents, Answers, modules_of};
 
 use crate::memory::Memory;

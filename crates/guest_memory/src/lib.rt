@@ -1,7 +1,8 @@
-//! Guest memory: the blocks of the machine, the maps of all processes and the module directory, and
-//! what always holds of them.
+//! Guest memory: the blocks of the machine, the maps of all processes and the module directory, how
+//! they represent objects, and what always holds of them.
 #![tactic(auto)]
 
+pub mod blocks;
 mod bytes;
 mod data_area;
 mod entering;

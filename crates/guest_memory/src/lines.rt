@@ -4,8 +4,8 @@ ghost use Rattle.std.specs.Prelude.{◌≡◌, ◌+◌, ◌<◌, ◌≤◌, ◌/
 ghost use Rattle.std.specs.Option.{option_map_or};
 ghost use Rattle.os9_base.specs.Cells.{FitsIn};
 ghost use Rattle.proc_model.specs.Slots.{block_at};
-ghost use Rattle.user_names.specs.UserLines.{line_at};
-ghost use Rattle.user_names.specs.UserNames.{user_cell};
+ghost use Rattle.os9_base.specs.UserLines.{line_at};
+ghost use Rattle.os9_base.specs.UserNames.{user_cell};
 ghost use Rattle.guest_memory.specs.Pieces.{IsPiece};
 ghost use Rattle.guest_memory.specs.Tie.{cells_of};
 

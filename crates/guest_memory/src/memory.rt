@@ -1,4 +1,4 @@
-ghost use Rattle.memory_laws.specs.Sound.{IsSound};
+ghost use Rattle.guest_memory.specs.Sound.{IsSound};
 
 use block_map::map::Map;
 use block_pool::pool::Pool;

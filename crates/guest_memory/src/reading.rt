@@ -5,7 +5,7 @@ ghost use Rattle.os9_base.specs.Cells.{FitsIn, Holds};
 ghost use Rattle.proc_model.specs.Memory.{MemoryState, map_at, group_at};
 ghost use Rattle.proc_model.specs.ModuleList.{module_entry_at};
 ghost use Rattle.proc_model.specs.Slots.{highest_free_run};
-ghost use Rattle.user_names.specs.UserNames.{user_cell, run_bytes, name_at};
+ghost use Rattle.os9_base.specs.UserNames.{user_cell, run_bytes, name_at};
 ghost use Rattle.guest_memory.specs.Tie as model;
 ghost use Rattle.guest_memory.specs.Tie.{Represents, IsSame, cells_of, modules_of, seen_cells};
 
@@ -13,10 +13,10 @@ use crate::memory::Memory;
 use os9_base::limits::BLOCK_BYTES;
 use os9_base::memory::UserMem;
 use os9_base::name::Name;
+use os9_base::name_fault::NameFault;
+use os9_base::read::{read_name, read_run};
 use os9_base::registers::Pid;
 use proc_model::module::{ModId, ModuleInfo};
-use user_names::name_fault::NameFault;
-use user_names::read::{read_name, read_run};
 
 impl Memory {
     /// The byte of a process at an offset from an address; None if it is in no named slot or past

@@ -3,8 +3,8 @@ use Rattle.std.proofs.Common.{◌≡◌, ℕ, ◌+◌, ◌/◌, ◌<◌, ◌≤�
 use Rattle.std.proofs.lemmas.List.{get_or_append_left, get_or-append-add}
 use Rattle.rbf_model.specs.Geometry.{sector}
 use Rattle.rbf_model.specs.Space.{is_marked}
-use Rattle.blank_disk.specs.Image.{marks_map}
-use Rattle.blank_disk.proofs.Marks.{length-marks, marked-are as marked_as}
+use Rattle.vol_tools.specs.Image.{marks_map}
+use Rattle.vol_tools.proofs.Marks.{length-marks, marked-are as marked_as}
 use Rattle.guest_mods.specs.BootDisk.{sector_with, used_sectors, ident_front, boot_image}
 use Rattle.guest_mods.proofs.Parts.{files_part, ident-long, laid-out}
 

@@ -5,9 +5,9 @@ use Rattle.std.specs.List.{range_with_len}
 use Rattle.std.proofs.lemmas.List.{take_at, take-take, drop-drop, length-replicate}
 use Rattle.std.proofs.Math.Seq.{take-add}
 use Rattle.rbf_model.specs.Geometry.{sector}
-use Rattle.blank_disk.specs.Image.{marks_map}
-use Rattle.blank_disk.proofs.Laid.{dropped, behind, first}
-use Rattle.blank_disk.proofs.Marks.{length-marks}
+use Rattle.vol_tools.specs.Image.{marks_map}
+use Rattle.vol_tools.proofs.Laid.{dropped, behind, first}
+use Rattle.vol_tools.proofs.Marks.{length-marks}
 use Rattle.guest_mods.specs.BootDisk.{sector_with, sectors_for, used_sectors, ident_front, root_front, root_entries, file_front, used_part, boot_image}
 
 pub length-sector_with : (bytes : List ℕ) → length bytes ≤ 256 → length (sector_with bytes) ≡ 256

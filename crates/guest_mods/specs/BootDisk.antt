@@ -8,7 +8,7 @@ use Rattle.rbf_model.specs.Geometry.{sector}
 use Rattle.rbf_model.specs.Tree.{dot, dot_dot}
 use Rattle.rbf_model.specs.Volume.{DiskVolume}
 use Rattle.rbf_change.specs.Names.{marked_name}
-use Rattle.blank_disk.specs.Image.{marks_map}
+use Rattle.vol_tools.specs.Image.{marks_map}
 
 -- ---- the parts
 

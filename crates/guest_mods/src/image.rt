@@ -6,9 +6,9 @@ ghost use Rattle.guest_mods.specs.BootDisk as model;
 ghost use Rattle.guest_mods.specs.BootDisk.{boot_volume, used_sectors, BootsFile, ident_front, file_front, root_front, root_entries};
 
 use crate::sectors::{SECTOR_BYTES, push_sector, push_zeros};
-use blank_disk::push_map;
 use os9_base::call::OutOfMemory;
 use std::alloc::{AllocError, Global};
+use vol_tools::push_map;
 
 /// The number of sectors of the disk.
 const SECTORS: usize = 4_096;

@@ -3,8 +3,8 @@
 #![tactic(auto)]
 
 pub mod edit;
-pub mod pending;
 pub mod keys;
 pub mod path;
+pub mod pending;
 pub mod pipe;
 pub mod terminal;

@@ -3,7 +3,7 @@ use Rattle.std.specs.Prelude.{◌≡◌, ℕ, zero, suc, ◌+◌, true, Option, 
 use Rattle.os9_base.specs.declared.registers.Pid.{Pid}
 use Rattle.os9_outer.specs.TerminalState.{TerminalState, ChangesOneTerminal}
 use Rattle.proc_rules.specs.Signals.{after_send}
-use Rattle.call_rules.specs.Processes.{Processes, with_records}
+use Rattle.proc_rules.specs.Processes.{Processes, with_records}
 use Rattle.io_model.specs.Terminal.{Terminal, Arrives}
 use Rattle.io_model.specs.declared.terminal.Arrival.{Arrival}
 use Rattle.io_rules.specs.Io.{Io, terminal_at, with_terminal}

@@ -6,8 +6,8 @@ use Rattle.os9_base.specs.declared.call.CallEnd.TheVariants.{Done, Error, Wait}
 use Rattle.os9_base.specs.declared.registers.Regs.{Regs}
 use Rattle.os9_outer.specs.TerminalState.{TerminalState}
 use Rattle.proc_model.specs.MemoryChanges.{stored}
-use Rattle.call_rules.specs.CallResult.{CallResult}
-use Rattle.call_rules.specs.Processes.{Processes, regs_at, cells_at, with_memory, with_regs_of}
+use Rattle.proc_rules.specs.CallResult.{CallResult}
+use Rattle.proc_rules.specs.Processes.{Processes, regs_at, cells_at, with_memory, with_regs_of}
 use Rattle.io_model.specs.declared.pending.PendingCall.{PendingCall}
 use Rattle.io_rules.specs.Close.{i_close}
 use Rattle.io_rules.specs.Dup.{i_dup}

@@ -6,10 +6,10 @@ use Rattle.std.specs.Prelude.{ℕ, zero, suc, ◌+◌, ◌-◌, ◌==◌, ◌||�
 use Rattle.std.specs.Option.{option_map_or}
 use Rattle.os9_base.specs.Cells.{Cells}
 use Rattle.os9_base.specs.Name.{is_name_character, low_bits}
-use Rattle.user_names.specs.UserNames.{user_cell, name_at}
-use Rattle.user_names.specs.declared.name_fault.NameFault.{NameFault}
-use Rattle.user_names.specs.declared.name_fault.NameFault.TheVariants.{Unreadable, NoName}
-use Rattle.call_rules.specs.Program.{slash}
+use Rattle.os9_base.specs.UserNames.{user_cell, name_at}
+use Rattle.os9_base.specs.declared.name_fault.NameFault.{NameFault}
+use Rattle.os9_base.specs.declared.name_fault.NameFault.TheVariants.{Unreadable, NoName}
+use Rattle.proc_rules.specs.Program.{slash}
 
 -- names with slashes between them
 pub record Names : Type 0 where

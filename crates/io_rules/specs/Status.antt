@@ -4,7 +4,7 @@
 -- Errors: E$BPNum, E$UnkSvc, E$BPAddr, E$NotRdy.
 use Rattle.std.specs.Prelude.{ℕ, ◌-◌, ◌==◌, is_none, min, List, ◌∷◌, length, replicate, if◌then◌else◌}
 use Rattle.os9_base.specs.declared.errors.TheConstants.{E_BPNUM, E_BPADDR, E_UNKSVC, E_NOTRDY}
-use Rattle.call_rules.specs.UserBytes.{user_bytes}
+use Rattle.proc_rules.specs.UserBytes.{user_bytes}
 use Rattle.io_model.specs.declared.path.Target.{Target}
 use Rattle.io_model.specs.declared.path.Target.TheVariants.{File, Folder, Term, Pipe}
 use Rattle.io_rules.specs.Io.{Io, open_path, terminal_at, pipe_bytes}

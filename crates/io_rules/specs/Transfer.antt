@@ -2,7 +2,7 @@
 use Rattle.std.specs.Prelude.{ℕ, zero, suc, ◌+◌, ◌==◌, not, Bool, Option, Some, None, option_map, unwrap_or, List, [], ◌∷◌, if◌then◌else◌}
 use Rattle.os9_base.specs.Cells.{Cells}
 use Rattle.os9_base.specs.declared.errors.TheConstants.{E_BPNUM, E_BMODE}
-use Rattle.user_names.specs.UserNames.{user_cell}
+use Rattle.os9_base.specs.UserNames.{user_cell}
 use Rattle.io_model.specs.declared.keys.TheConstants.{RETURN}
 use Rattle.io_model.specs.declared.pending.PendingCall.{PendingCall}
 use Rattle.io_rules.specs.Io.{Io, OpenPath, open_path, pending_at}

@@ -7,7 +7,7 @@ use Rattle.std.specs.Prelude.{ℕ, ◌+◌, ◌/◌, ◌%◌, Option, Some, None
 use Rattle.os9_base.specs.declared.calls.TheConstants.{I_WRITE, I_WRITLN, F_PERR}
 use Rattle.os9_base.specs.declared.errors.TheConstants.{E_BPADDR, E_UNKSVC}
 use Rattle.os9_base.specs.declared.registers.Regs.{Regs}
-use Rattle.call_rules.specs.UserBytes.{user_bytes}
+use Rattle.proc_rules.specs.UserBytes.{user_bytes}
 use Rattle.io_model.specs.Line.{line_put}
 use Rattle.io_model.specs.declared.keys.TheConstants.{RETURN}
 use Rattle.io_model.specs.declared.pending.PendingCall.{PendingCall}

@@ -1,6 +1,6 @@
 ghost use Rattle.std.specs.Prelude.{◌≡◌, true, false, Some, None, Ok, Err, [], ◌∷◌, ◌++◌, codes, replicate};
 ghost use Rattle.os9_base.specs.declared.errors.TheConstants.{E_BPADDR, E_BMODE, E_BPNAM, E_MNF, E_PNNF};
-ghost use Rattle.user_names.specs.declared.name_fault.NameFault.TheVariants.{Unreadable, NoName};
+ghost use Rattle.os9_base.specs.declared.name_fault.NameFault.TheVariants.{Unreadable, NoName};
 ghost use Rattle.io_rules.specs.PathList.{PathList, path_list};
 ghost use Rattle.io_rules.specs.Rows.{cells_with, opening, creating};
 ghost use Rattle.io_rules.specs.Step.{refused};

@@ -11,8 +11,8 @@ ghost use Rattle.io_rules.specs.Close.{after_close};
 ghost use Rattle.io_rules.specs.Io.{first_io, first_paths as first_paths_model, new_desc as new_desc_model, open_path as open_path_model, with_paths, with_pipes, with_call, pending_at};
 
 use crate::terminals::Terminals;
-use io_model::pending::PendingCall;
 use io_model::path::{Desc, PathsFull, SysPath, Target};
+use io_model::pending::PendingCall;
 use io_model::pipe::PipeId;
 use os9_base::call::OutOfMemory;
 use os9_base::registers::Pid;

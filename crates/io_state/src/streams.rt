@@ -9,8 +9,8 @@ ghost use Rattle.io_rules.specs.Pipes.{after_taking, after_adding};
 ghost use Rattle.io_state.specs.Sound.{IsIo};
 
 use crate::state::IoState;
-use io_model::pending::PendingCall;
 use io_model::path::SysPath;
+use io_model::pending::PendingCall;
 use io_model::pipe::{PIPE_BYTES, PipeAns, PipeId};
 use io_rules::io_call::{Direction, io_call};
 use os9_base::limits::PROCESS_PLACES;
@@ -113,7 +113,8 @@ fn is_in_wait(path: SysPath, direction: Direction, pending: Option<PendingCall>)
     ensures { result ≡ is_in_wait_model path.0 direction pending }
 {
     match pending {
-        Some(pending) => pending.path == path && is_direction(direction, direction_of(pending.code)),
+        Some(pending) => pending.path == path
+            && is_direction(direction, direction_of(pending.code)),
         None => false,
     }
 }

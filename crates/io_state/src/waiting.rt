@@ -1,7 +1,7 @@
 //! Pending calls: when they may go on, what they wait for, and how they are broken off.
 
 ghost use Rattle.std.specs.Prelude.{◌≡◌, ◌<◌, ℕ, Some, IfSome, IsSome};
-ghost use Rattle.call_rules.specs.IoReady.{has_io};
+ghost use Rattle.proc_rules.specs.IoReady.{has_io};
 ghost use Rattle.io_model.specs.Path.{desc_of};
 ghost use Rattle.io_model.specs.Pipe.{IsPipe};
 ghost use Rattle.io_rules.specs.Io.{target_of};
@@ -11,15 +11,15 @@ ghost use Rattle.io_state.specs.Sound.{IsThere};
 
 use crate::state::IoState;
 use crate::streams::direction_of;
-use call_rules::io_ready::IoReady;
-use io_model::pending::PendingCall;
 use io_model::path::Target;
+use io_model::pending::PendingCall;
 use io_model::pipe::{PIPE_BYTES, PipeId};
 use io_rules::io_call::Direction;
 use os9_base::calls::I_READ;
 use os9_base::limits::PROCESS_PLACES;
 use os9_base::registers::Pid;
 use os9_sched::Cause;
+use proc_rules::io_ready::IoReady;
 
 impl IoState {
     /// The processes whose pending calls on a terminal or a pipe may go on.

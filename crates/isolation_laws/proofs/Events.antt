@@ -7,15 +7,15 @@ use Rattle.os9_base.specs.declared.calls.TheConstants.{F_LOAD}
 use Rattle.os9_base.specs.declared.registers.TimePacket.{TimePacket}
 use Rattle.proc_model.specs.Memory.{MemoryState}
 use Rattle.proc_model.specs.Objects.{file_blocks}
-use Rattle.call_rules.specs.Attempts.{after_attempt}
-use Rattle.call_rules.specs.CallResult.{CallResult, done, ends, refused, waits}
-use Rattle.call_rules.specs.Chain.{f_chain}
-use Rattle.call_rules.specs.Codes.{call_of}
-use Rattle.call_rules.specs.Fork.{f_fork}
-use Rattle.call_rules.specs.ModuleLinks.{Entered}
-use Rattle.call_rules.specs.Ready.{Act, act_of, attempts, delivers, executes}
-use Rattle.call_rules.specs.declared.proc_call.ProcCall.{ProcCall}
-use Rattle.call_rules.specs.declared.proc_call.ProcCall.TheVariants as Call
+use Rattle.proc_rules.specs.Attempts.{after_attempt}
+use Rattle.proc_rules.specs.CallResult.{CallResult, done, ends, refused, waits}
+use Rattle.proc_rules.specs.Chain.{f_chain}
+use Rattle.proc_rules.specs.Codes.{call_of}
+use Rattle.proc_rules.specs.Fork.{f_fork}
+use Rattle.proc_rules.specs.ModuleLinks.{Entered}
+use Rattle.proc_rules.specs.Ready.{Act, act_of, attempts, delivers, executes}
+use Rattle.proc_rules.specs.declared.proc_call.ProcCall.{ProcCall}
+use Rattle.proc_rules.specs.declared.proc_call.ProcCall.TheVariants as Call
 use Rattle.file_rules.specs.Attempts.{asker_of}
 use Rattle.file_rules.specs.Codes.{path_call_of}
 use Rattle.file_rules.specs.Files.{Files}
@@ -23,7 +23,7 @@ use Rattle.file_rules.specs.Load.{GoesOnLoaded}
 use Rattle.file_rules.specs.Program.{ChainAttempts, ForkAttempts, StartsFile, chains, forks, named_program, starts_first, tests_program}
 use Rattle.file_rules.specs.ProgramFile.{ProgramFile, ReadsProgram, program_file}
 use Rattle.time_rules.specs.Codes.{time_call_of}
-use Rattle.event_rules.specs.declared.ends.EventEnd.{EventEnd}
+use Rattle.machine_model.specs.declared.ends.EventEnd.{EventEnd}
 use Rattle.call_laws.specs.Others.{AttemptsCall}
 use Rattle.isolation_laws.specs.Loading.{StartsFileBy}
 use Rattle.isolation_laws.specs.NewObjects.{HoldFile, HoldParameters}

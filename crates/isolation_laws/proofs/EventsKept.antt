@@ -5,11 +5,11 @@ use Rattle.os9_base.specs.declared.errors.TheConstants.{E_UNKSVC}
 use Rattle.os9_base.specs.declared.registers.TimePacket.{TimePacket}
 use Rattle.proc_model.specs.MemoryChanges.{stored, writes_from}
 use Rattle.proc_rules.specs.Records.{IsLiving}
-use Rattle.call_rules.specs.CallResult.{CallResult}
-use Rattle.call_rules.specs.Delivery.{delivered}
-use Rattle.call_rules.specs.Processes.{Processes, with_memory}
-use Rattle.call_rules.specs.Ready.{Act, attempts, delivers, executes, act_of}
-use Rattle.call_rules.specs.declared.proc_call.ProcCall.TheVariants as Call
+use Rattle.proc_rules.specs.CallResult.{CallResult}
+use Rattle.proc_rules.specs.Delivery.{delivered}
+use Rattle.proc_rules.specs.Processes.{Processes, with_memory}
+use Rattle.proc_rules.specs.Ready.{Act, attempts, delivers, executes, act_of}
+use Rattle.proc_rules.specs.declared.proc_call.ProcCall.TheVariants as Call
 use Rattle.io_rules.specs.Attempts.{result_by}
 use Rattle.io_rules.specs.Step.{IoEffect, IoEnd, answers, fails, keeps}
 use Rattle.io_rules.specs.Waiting.{interrupted_count}
@@ -18,9 +18,9 @@ use Rattle.time_rules.specs.Attempts.{result_of, time_step}
 use Rattle.time_rules.specs.Packet.{packet_bytes}
 use Rattle.time_rules.specs.Step.{TimeStep, sets, tells}
 use Rattle.time_rules.specs.Step as time
-use Rattle.event_rules.specs.Event.{call_event_end, delivery_end, instruction_end, next_instruction}
-use Rattle.event_rules.specs.declared.ends.EventEnd.{EventEnd}
-use Rattle.event_rules.specs.declared.ends.EventEnd.TheVariants.{Ran}
+use Rattle.machine_model.specs.ProcessEvent.{call_event_end, delivery_end, instruction_end, next_instruction}
+use Rattle.machine_model.specs.declared.ends.EventEnd.{EventEnd}
+use Rattle.machine_model.specs.declared.ends.EventEnd.TheVariants.{Ran}
 use Rattle.call_laws.proofs.CallsKept.{AttemptLeft, changed-same, left-done, left-refused}
 use Rattle.call_laws.proofs.EventsKept.{broken-left, instruction-left}
 use Rattle.call_laws.proofs.EndsKept.{by-end}

@@ -10,12 +10,12 @@ use Rattle.proc_model.specs.Objects.{file_blocks}
 use Rattle.proc_model.specs.Slots.{NamesBlock, Slots}
 use Rattle.proc_rules.specs.declared.record.Record.{Record}
 use Rattle.proc_rules.specs.Records.{record_of}
-use Rattle.call_rules.specs.Processes.{Processes, own_at, regs_at, with_memory}
-use Rattle.call_rules.specs.declared.proc_call.ProcCall.{ProcCall}
-use Rattle.call_rules.specs.declared.proc_call.ProcCall.TheVariants as Call
+use Rattle.proc_rules.specs.Processes.{Processes, own_at, regs_at, with_memory}
+use Rattle.proc_rules.specs.declared.proc_call.ProcCall.{ProcCall}
+use Rattle.proc_rules.specs.declared.proc_call.ProcCall.TheVariants as Call
 use Rattle.file_rules.specs.Load.{Loaded}
 use Rattle.file_rules.specs.ProgramFile.{ProgramFile}
-use Rattle.event_rules.specs.declared.ends.EventEnd.TheVariants.{Ran}
+use Rattle.machine_model.specs.declared.ends.EventEnd.TheVariants.{Ran}
 use Rattle.call_laws.specs.Modules.{LeavesMemory, StaysEntered, ModuleComesOf as ComesOfEntered}
 use Rattle.call_laws.specs.NewObjects.{IsParameter}
 use Rattle.call_laws.specs.Objects.{IsNewOrShared, KeepsToItself}

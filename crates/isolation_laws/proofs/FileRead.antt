@@ -2,10 +2,10 @@
 use Rattle.std.proofs.Common.{◌≡◌, ◌⊎◌, ℕ, not, Bool, true, false, Option, Some, None, is_none, Result, Ok, Err, List, length, refl, sym, inl, inr}
 use Rattle.os9_base.specs.declared.errors.TheConstants.{E_BPADDR, E_BPNAM, E_NEMOD}
 use Rattle.os9_base.specs.declared.registers.TimePacket.{TimePacket}
-use Rattle.user_names.specs.declared.name_fault.NameFault.{NameFault}
-use Rattle.user_names.specs.declared.name_fault.NameFault.TheVariants.{Unreadable, NoName}
-use Rattle.call_rules.specs.Processes.{Processes, regs_at}
-use Rattle.call_rules.specs.Program.{asks_for_program}
+use Rattle.os9_base.specs.declared.name_fault.NameFault.{NameFault}
+use Rattle.os9_base.specs.declared.name_fault.NameFault.TheVariants.{Unreadable, NoName}
+use Rattle.proc_rules.specs.Processes.{Processes, regs_at}
+use Rattle.proc_rules.specs.Program.{asks_for_program}
 use Rattle.io_rules.specs.PathList.{PathList}
 use Rattle.file_rules.specs.Attempts.{asker_of}
 use Rattle.file_rules.specs.Files.{Files, NoneFailed}
@@ -58,5 +58,5 @@ module _ (s : State) (p : ℕ) (now : TimePacket) (file : ProgramFile) (new : Fi
       s.files (length s.terms) (λ step. step))
   program-found it =
       list-passed s.processes p file (list_of (asker_of s.processes p now))
-          (λ list. program_on_route (asker_of s.processes p now) s.files list (route_of (asker_of s.processes p now) s.files (length s.terms) true list))
+      (λ list. program_on_route (asker_of s.processes p now) s.files list (route_of (asker_of s.processes p now) s.files (length s.terms) true list))
       (reading-is (program_file (asker_of s.processes p now) s.files (length s.terms) (tests_program s.processes p)) it)

@@ -12,3 +12,10 @@ pub mod VolumeEvents
 pub mod ObjectLawsAreas
 pub mod Events
 pub mod Starts
+pub mod GainedAreas
+pub mod Beginning
+pub mod Groups
+pub mod Modules
+pub mod OwnRows
+pub mod Owning
+pub mod Slices

@@ -13,27 +13,27 @@ use Rattle.proc_model.specs.declared.memory.MemoryFault.{MemoryFault}
 use Rattle.proc_model.specs.declared.memory.TheConstants.{MOST_LINKS}
 use Rattle.proc_model.specs.declared.module.ModId.{ModId}
 use Rattle.proc_rules.specs.Records.{IsLiving, free_process, record_of}
-use Rattle.call_rules.specs.Attempts.{after_attempt, attempted, done_regs, goes_on}
-use Rattle.call_rules.specs.CallResult.{CallResult, done, refused, needs, refuses, changes}
-use Rattle.call_rules.specs.Chain.{begun_anew, f_chain, with_program}
-use Rattle.call_rules.specs.Fork.{f_fork, forked_regs, with_child}
-use Rattle.call_rules.specs.Processes.{Processes, cells_at, own_at, regs_at, with_regs_of}
-use Rattle.call_rules.specs.Link.{Mapped, after_link, links_at, mapped_group}
-use Rattle.call_rules.specs.ModuleLinks.{Entered, without_module_link, without_primary_link}
-use Rattle.call_rules.specs.Program.{Program, blocks_of_pages, most_pages, parameters_at, program_kind, with_parameters}
-use Rattle.call_rules.specs.Ready.{attempts, act_of}
-use Rattle.call_rules.specs.UserBytes.{user_bytes}
-use Rattle.call_rules.specs.declared.proc_call.ProcCall.{ProcCall}
-use Rattle.call_rules.specs.declared.proc_call.ProcCall.TheVariants as Call
+use Rattle.proc_rules.specs.Attempts.{after_attempt, attempted, done_regs, goes_on}
+use Rattle.proc_rules.specs.CallResult.{CallResult, done, refused, needs, refuses, changes}
+use Rattle.proc_rules.specs.Chain.{begun_anew, f_chain, with_program}
+use Rattle.proc_rules.specs.Fork.{f_fork, forked_regs, with_child}
+use Rattle.proc_rules.specs.Processes.{Processes, cells_at, own_at, regs_at, with_regs_of}
+use Rattle.proc_rules.specs.Link.{Mapped, after_link, links_at, mapped_group}
+use Rattle.proc_rules.specs.ModuleLinks.{Entered, without_module_link, without_primary_link}
+use Rattle.proc_rules.specs.Program.{Program, blocks_of_pages, most_pages, parameters_at, program_kind, with_parameters}
+use Rattle.proc_rules.specs.Ready.{attempts, act_of}
+use Rattle.proc_rules.specs.UserBytes.{user_bytes}
+use Rattle.proc_rules.specs.declared.proc_call.ProcCall.{ProcCall}
+use Rattle.proc_rules.specs.declared.proc_call.ProcCall.TheVariants as Call
 use Rattle.os9_base.specs.declared.calls.TheConstants.{F_LOAD}
 use Rattle.file_rules.specs.Attempts.{asker_of}
 use Rattle.file_rules.specs.Files.{Files}
 use Rattle.file_rules.specs.Load.{GoesOnLoaded, LoadAttempts, Loaded, links_first}
 use Rattle.file_rules.specs.Program.{ChainAttempts, ForkAttempts, StartsFile, chains, forks, loaded_program, named_program, parameters_of, starts_first, tests_program}
 use Rattle.file_rules.specs.ProgramFile.{ProgramFile, ReadsProgram, program_file}
-use Rattle.event_rules.specs.Event.{call_event_end}
-use Rattle.event_rules.specs.declared.ends.EventEnd.{EventEnd}
-use Rattle.event_rules.specs.declared.ends.EventEnd.TheVariants.{Ran}
+use Rattle.machine_model.specs.ProcessEvent.{call_event_end}
+use Rattle.machine_model.specs.declared.ends.EventEnd.{EventEnd}
+use Rattle.machine_model.specs.declared.ends.EventEnd.TheVariants.{Ran}
 use Rattle.call_laws.specs.Isolation.{LeavesOthers as LeavesOthersAsBefore}
 use Rattle.call_laws.specs.Modules.{ModuleComesOf as ComesOfEntered}
 use Rattle.call_laws.specs.NewObjects.{IsParameter}
@@ -199,7 +199,7 @@ module _ (s : State) (p : ℕ) (file : ProgramFile) (loaded : Loaded) (loads : L
     seen-before : user_bytes (cells_at before p) (regs_at s.processes p).u (regs_at s.processes p).y ≡ Some parameters
     seen-before =
         user-more (cells_at s.processes p) (cells_at before p) (cell-same s.processes.memory file.bytes loaded (is-loaded s p file loaded loads) p) (regs_at s.processes p).u (regs_at s.processes p).y
-            parameters given
+        parameters given
 
     pub room : HasRoom before p program
     room = record {

@@ -9,17 +9,17 @@ use Rattle.os9_base.specs.declared.errors.TheConstants.{E_BPADDR}
 use Rattle.os9_base.specs.declared.registers.TimePacket.{TimePacket}
 use Rattle.cpu_model.specs.Step.{Outcome, Done, Calls, Aborts}
 use Rattle.proc_rules.specs.Records.{IsLiving, free_process}
-use Rattle.call_rules.specs.Attempts.{after_attempt}
-use Rattle.call_rules.specs.CallResult.{CallResult, done, refused, waits, ends}
-use Rattle.call_rules.specs.Chain.{f_chain}
-use Rattle.call_rules.specs.Delivery.{delivered}
-use Rattle.call_rules.specs.Fork.{f_fork}
-use Rattle.call_rules.specs.Processes.{Processes, cells_at, regs_at}
-use Rattle.call_rules.specs.ModuleLinks.{Entered}
-use Rattle.call_rules.specs.Program.{Program}
-use Rattle.call_rules.specs.Ready.{Act, attempts, delivers, executes, act_of}
-use Rattle.call_rules.specs.UserBytes.{user_bytes}
-use Rattle.call_rules.specs.declared.proc_call.ProcCall.TheVariants as Call
+use Rattle.proc_rules.specs.Attempts.{after_attempt}
+use Rattle.proc_rules.specs.CallResult.{CallResult, done, refused, waits, ends}
+use Rattle.proc_rules.specs.Chain.{f_chain}
+use Rattle.proc_rules.specs.Delivery.{delivered}
+use Rattle.proc_rules.specs.Fork.{f_fork}
+use Rattle.proc_rules.specs.Processes.{Processes, cells_at, regs_at}
+use Rattle.proc_rules.specs.ModuleLinks.{Entered}
+use Rattle.proc_rules.specs.Program.{Program}
+use Rattle.proc_rules.specs.Ready.{Act, attempts, delivers, executes, act_of}
+use Rattle.proc_rules.specs.UserBytes.{user_bytes}
+use Rattle.proc_rules.specs.declared.proc_call.ProcCall.TheVariants as Call
 use Rattle.rbf_model.specs.Volume.{DiskVolume}
 use Rattle.file_rules.specs.Attempts.{asker_of}
 use Rattle.file_rules.specs.Files.{DriveState, Files, NoneFailed, directories_at, no_directories}
@@ -34,8 +34,8 @@ use Rattle.time_rules.specs.Clock.{IsNow}
 use Rattle.time_rules.specs.Step.{refuses, tells}
 use Rattle.time_rules.specs.declared.clock.TheConstants.{PACKET_BYTES}
 use Rattle.time_rules.specs.declared.time_call.TimeCall.TheVariants as Time
-use Rattle.event_rules.specs.Event.{next_instruction}
-use Rattle.event_rules.specs.declared.ends.EventEnd.{EventEnd}
+use Rattle.machine_model.specs.ProcessEvent.{next_instruction}
+use Rattle.machine_model.specs.declared.ends.EventEnd.{EventEnd}
 use Rattle.call_laws.specs.Others.{AttemptsCall}
 use Rattle.call_laws.proofs.ForkedChildren.{NamesChild}
 use Rattle.file_laws.specs.Devices.{IsOnDevice}
@@ -298,7 +298,7 @@ delivery-drives p files (Err status) = refl
 acts-leave-volumes : (act : Act) (s : State) (p : ℕ) (end : EventEnd) (t : State) → IsLiving s.processes.records p → act_of s.processes p ≡ act → Acts act s p end t → LeavesVolumes s p t
 acts-leave-volumes executes s p end t lives next (over, is) =
     subst (LeavesVolumes s p) (sym is) (leaves-by s p _ (after-instruction p s.files (next_instruction s.processes p)) (inl (instruction-drives p s.files (next_instruction s.processes p)))
-        (inl refl))
+    (inl refl))
 acts-leave-volumes (delivers signal) s p end t lives next (over, is) =
     subst (LeavesVolumes s p) (sym is)
     (leaves-by s p _ (after-delivery p s.files (delivered (before_delivery s p) p signal))

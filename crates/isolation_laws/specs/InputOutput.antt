@@ -4,8 +4,8 @@ use Rattle.std.specs.Prelude.{◌≡◌, ◌≢◌, ◌⊎◌, ℕ, true, Option
 use Rattle.os9_base.specs.Count.{Rose}
 use Rattle.os9_outer.specs.TerminalState.{ChangesOneTerminal}
 use Rattle.proc_rules.specs.Records.{IsLiving, free_process}
-use Rattle.call_rules.specs.Ready.{attempts, act_of}
-use Rattle.call_rules.specs.declared.proc_call.ProcCall.TheVariants as Call
+use Rattle.proc_rules.specs.Ready.{attempts, act_of}
+use Rattle.proc_rules.specs.declared.proc_call.ProcCall.TheVariants as Call
 use Rattle.io_model.specs.Path.{numbers_of, inherited_numbers}
 use Rattle.io_model.specs.Terminal.{reader, used_by, without_reading}
 use Rattle.io_model.specs.declared.path.SysPath.{SysPath}

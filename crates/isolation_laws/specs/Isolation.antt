@@ -3,7 +3,7 @@ use Rattle.std.specs.Prelude.{◌≡◌, ◌≢◌, ℕ}
 use Rattle.proc_rules.specs.Records.{record_of}
 use Rattle.call_laws.specs.Objects.{KeepsSizes, KeepsObjects, KeepsToItself}
 use Rattle.call_laws.specs.Others.{ComesOf, turns_of_others}
-use Rattle.event_rules.specs.declared.ends.EventEnd.{EventEnd}
+use Rattle.machine_model.specs.declared.ends.EventEnd.{EventEnd}
 use Rattle.isolation_laws.specs.Links.{ChangesLinks}
 use Rattle.isolation_laws.specs.Modules.{KeepsModules}
 use Rattle.isolation_laws.specs.NewObjects.{HoldNothingElse}

@@ -8,3 +8,4 @@ pub mod Modules
 pub mod NewObjects
 pub mod Volumes
 pub mod NewBytes
+pub mod Own

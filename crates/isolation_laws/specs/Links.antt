@@ -5,17 +5,17 @@ use Rattle.os9_base.specs.declared.calls.TheConstants.{F_LOAD}
 use Rattle.proc_model.specs.Memory.{MemoryState, map_at}
 use Rattle.proc_model.specs.MemoryChanges.{linked, unlinked}
 use Rattle.proc_model.specs.ModuleList.{without_link}
-use Rattle.user_names.specs.UserNames.{name_at}
-use Rattle.call_rules.specs.Processes.{Processes, cells_at, regs_at}
-use Rattle.call_rules.specs.ModuleLinks.{Entered, found_entry, module_at}
-use Rattle.call_rules.specs.Ready.{attempts, act_of}
-use Rattle.call_rules.specs.declared.proc_call.ProcCall.TheVariants as Call
+use Rattle.os9_base.specs.UserNames.{name_at}
+use Rattle.proc_rules.specs.Processes.{Processes, cells_at, regs_at}
+use Rattle.proc_rules.specs.ModuleLinks.{Entered, found_entry, module_at}
+use Rattle.proc_rules.specs.Ready.{attempts, act_of}
+use Rattle.proc_rules.specs.declared.proc_call.ProcCall.TheVariants as Call
 use Rattle.file_rules.specs.Load.{Loaded}
 use Rattle.file_rules.specs.Program.{named_program}
 use Rattle.file_rules.specs.ProgramFile.{ProgramFile}
 use Rattle.call_laws.specs.Links.{LosesPrimary, primary_of}
 use Rattle.call_laws.specs.Others.{AttemptsCall}
-use Rattle.event_rules.specs.declared.ends.EventEnd.{EventEnd}
+use Rattle.machine_model.specs.declared.ends.EventEnd.{EventEnd}
 use Rattle.isolation_laws.specs.Loading.{LoadsFile}
 use Rattle.machine_model.specs.State.{State}
 

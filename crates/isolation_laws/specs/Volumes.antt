@@ -2,8 +2,8 @@
 -- manual, "I/O system"; System Programmer's Manual, "I/O service requests", F$STime).
 use Rattle.std.specs.Prelude.{◌≡◌, ◌≢◌, ◌⊎◌, ℕ, true, Some, List}
 use Rattle.proc_rules.specs.Records.{free_process}
-use Rattle.call_rules.specs.Ready.{attempts, act_of}
-use Rattle.call_rules.specs.declared.proc_call.ProcCall.TheVariants as Call
+use Rattle.proc_rules.specs.Ready.{attempts, act_of}
+use Rattle.proc_rules.specs.declared.proc_call.ProcCall.TheVariants as Call
 use Rattle.file_rules.specs.Files.{DriveState, NoneFailed, OneFailed, directories_at, volume_at}
 use Rattle.file_rules.specs.declared.path_call.PathCall.{PathCall}
 use Rattle.file_rules.specs.declared.places.Directories.{Directories}

@@ -1,7 +1,7 @@
 //! New objects of memory.
 
 ghost use Rattle.std.specs.Prelude.{◌≡◌, ℕ, Some};
-ghost use Rattle.event_rules.specs.declared.ends.EventEnd.{EventEnd};
+ghost use Rattle.machine_model.specs.declared.ends.EventEnd.{EventEnd};
 ghost use Rattle.machine_model.specs.Event.{Event};
 ghost use Rattle.machine_model.specs.State.{State};
 ghost use Rattle.isolation_laws.specs.NewBytes.{HoldNewObjects};

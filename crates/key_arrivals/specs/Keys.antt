@@ -1,7 +1,7 @@
 -- Keys that arrive: the part of the kernel's processes and of its state of input and output.
 use Rattle.std.specs.Prelude.{◌≡◌, ℕ, ◌+◌, false, List}
 use Rattle.os9_outer.specs.TerminalState.{TerminalState, ChangesOneTerminal}
-use Rattle.call_rules.specs.Processes.{Processes}
+use Rattle.proc_rules.specs.Processes.{Processes}
 use Rattle.io_model.specs.Terminal.{Terminal, Arrives}
 use Rattle.io_model.specs.declared.terminal.Arrival.{Arrival}
 use Rattle.io_rules.specs.Arrivals.{Desk, Arrivals, ArrivesAt, ArrivesFrom}

@@ -5,12 +5,12 @@ use Rattle.os9_base.specs.declared.call.CallEnd.{CallEnd}
 use Rattle.os9_base.specs.declared.call.CallEnd.TheVariants.{Error}
 use Rattle.os9_base.specs.declared.errors.TheConstants.{E_BPADDR}
 use Rattle.os9_base.specs.declared.registers.TimePacket.{TimePacket}
-use Rattle.user_names.specs.declared.name_fault.NameFault.{NameFault}
-use Rattle.user_names.specs.declared.name_fault.NameFault.TheVariants.{NoName, Unreadable}
-use Rattle.call_rules.specs.CallResult.{CallResult, refused}
-use Rattle.call_rules.specs.Processes.{Processes}
-use Rattle.call_rules.specs.ModuleLinks.{Entered}
-use Rattle.call_rules.specs.Program.{Program}
+use Rattle.os9_base.specs.declared.name_fault.NameFault.{NameFault}
+use Rattle.os9_base.specs.declared.name_fault.NameFault.TheVariants.{NoName, Unreadable}
+use Rattle.proc_rules.specs.CallResult.{CallResult, refused}
+use Rattle.proc_rules.specs.Processes.{Processes}
+use Rattle.proc_rules.specs.ModuleLinks.{Entered}
+use Rattle.proc_rules.specs.Program.{Program}
 use Rattle.load_calls.proofs.LoadedLemmas.{some-memory}
 use Rattle.file_drives.specs.Drives.{DriveView, media_of}
 use Rattle.file_rules.specs.Files.{Asker, Files, NoneFailed}

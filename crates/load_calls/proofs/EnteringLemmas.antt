@@ -5,7 +5,7 @@ use Rattle.std.specs.Option.{option_map_or}
 use Rattle.std.proofs.lemmas.Option.{none-some}
 use Rattle.guest_memory.specs.declared.memory.Memory.{Memory}
 use Rattle.guest_memory.specs.Tie.{Represents, modules_of}
-use Rattle.memory_laws.proofs.Entering.{free_place}
+use Rattle.guest_memory.proofs.Entered.{free_place}
 use Rattle.proc_model.specs.declared.module.ModuleInfo.{ModuleInfo}
 use Rattle.proc_model.specs.declared.module.ModuleFault.{ModuleFault}
 use Rattle.proc_model.specs.declared.module.ModuleStep.TheVariants.{Module, End, Fault}

@@ -12,13 +12,13 @@ use Rattle.proc_model.specs.MemoryChanges.{has_most_links, new_numbers}
 use Rattle.proc_model.specs.ModuleList.{ModuleEntry, new_entry}
 use Rattle.proc_model.specs.Objects.{file_blocks}
 use Rattle.proc_model.specs.Slots.{highest_free_run}
-use Rattle.call_rules.specs.CallResult.{CallResult, done, needs, refused, refuses}
-use Rattle.call_rules.specs.Processes.{Processes, own_at, regs_at, with_memory}
-use Rattle.call_rules.specs.Link.{Mapped, after_link, links_at, mapped_group}
+use Rattle.proc_rules.specs.CallResult.{CallResult, done, needs, refused, refuses}
+use Rattle.proc_rules.specs.Processes.{Processes, own_at, regs_at, with_memory}
+use Rattle.proc_rules.specs.Link.{Mapped, after_link, links_at, mapped_group}
 use Rattle.file_rules.specs.Load.{Loaded, links_first}
 use Rattle.file_rules.specs.ProgramFile.{ProgramFile}
 use Rattle.load_calls.proofs.OutcomeLemmas.{IsLoaded}
-use Rattle.module_calls.specs.Linked.{links_entered}
+use Rattle.proc_calls.specs.Linked.{links_entered}
 use Rattle.load_calls.specs.Loading.{has_place}
 use Rattle.load_calls.proofs.MapLemmas.{mapped-at, mapped-there, mapped-new}
 

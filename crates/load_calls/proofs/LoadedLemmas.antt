@@ -5,7 +5,7 @@ use Rattle.std.proofs.lemmas.List.FromFn.{length-range_with_len}
 use Rattle.os9_base.specs.declared.errors.TheConstants.{E_BMID, E_DIRFUL, E_KWNMOD, E_NORAM}
 use Rattle.guest_memory.specs.declared.memory.Memory.{Memory}
 use Rattle.guest_memory.specs.Tie.{Answers, Represents}
-use Rattle.memory_laws.proofs.Entering.{free_place}
+use Rattle.guest_memory.proofs.Entered.{free_place}
 use Rattle.proc_model.specs.declared.memory.MemoryFault.{MemoryFault}
 use Rattle.proc_model.specs.declared.memory.MemoryFault.TheVariants.{NoRam}
 use Rattle.proc_model.specs.declared.module.ModId.{ModId}
@@ -22,7 +22,7 @@ use Rattle.proc_model.specs.ModuleList.{ModuleEntry, free_number, is_known, modu
 use Rattle.proc_model.specs.Objects.{file_blocks, file_objects}
 use Rattle.proc_model.proofs.LoadingLemmas.{Enters-one}
 use Rattle.proc_model.proofs.ModuleListLaws.{entry_at-with_entry_same, room_by_number}
-use Rattle.call_rules.specs.ModuleLinks.{Entered, entered_at}
+use Rattle.proc_rules.specs.ModuleLinks.{Entered, entered_at}
 use Rattle.file_rules.specs.Load.{Loaded, first_entered, loaded_by, with_file_entered}
 use Rattle.load_calls.proofs.EnteringLemmas.{entry-kept}
 use Rattle.load_calls.specs.Entering.{CanEnter, IsOfGroup, TriesFile}

@@ -10,8 +10,8 @@ use Rattle.std.proofs.lemmas.List.Folds.{list_any-append}
 use Rattle.std.proofs.lemmas.List.FromFn.{length-range_with_len}
 use Rattle.std.proofs.lemmas.List.Sums.{sum_by-append, sum_by-cons}
 use Rattle.std.proofs.lemmas.Option.{none-some}
-use Rattle.memory_laws.proofs.Entering.{free_place}
-use Rattle.memory_laws.proofs.Groups.{pointwise-same}
+use Rattle.guest_memory.proofs.Entered.{free_place}
+use Rattle.guest_memory.proofs.HeldGroups.{pointwise-same}
 use Rattle.proc_model.specs.declared.module.ModuleInfo.{ModuleInfo}
 use Rattle.proc_model.specs.Loading.{EntersModules, at_end, broken, entered, refused, with_module}
 use Rattle.proc_model.specs.Memory.{MemoryState, free_blocks, is_living_object, living_object_count, mapped_objects}

@@ -9,7 +9,7 @@ use Rattle.guest_memory.specs.declared.memory.Memory.{Memory}
 use Rattle.guest_memory.specs.Tie.{Represents, modules_of}
 use Rattle.guest_memory.proofs.Seen.{entry-seen}
 use Rattle.module_dir.proofs.Lists.{position-is_none}
-use Rattle.memory_laws.specs.Renaming.{renamed_entry, renamed_modules}
+use Rattle.guest_memory.specs.Renaming.{renamed_entry, renamed_modules}
 use Rattle.proc_model.specs.declared.module.ModuleInfo.{ModuleInfo}
 use Rattle.proc_model.specs.Loading.{entry_refusal}
 use Rattle.proc_model.specs.Memory.{MemoryState}

@@ -1,7 +1,7 @@
 -- The kernel's processes, and those of the machine that they are.
 use Rattle.std.proofs.Common.{◌≡◌, ◌∙◌, ◌<◌, ℕ, Option, List, refl, ap, subst}
 use Rattle.os9_base.specs.Cells.{Cells}
-use Rattle.call_rules.specs.Processes.{Processes, cells_at, user_at}
+use Rattle.proc_rules.specs.Processes.{Processes, cells_at, user_at}
 use Rattle.guest_memory.specs.Tie.{cells_of}
 use Rattle.guest_memory.proofs.Seen.{cells_of-seen}
 use Rattle.device_paths.specs.Standing.{NamesFrom}

@@ -2,7 +2,7 @@
 -- for the descriptor of the file found, and for the bytes of the file if it is not refused.
 use Rattle.std.specs.Prelude.{ℕ, ◌+◌, true, Option, Some, None, Result, Ok, Err, List}
 use Rattle.io_rules.specs.PathList.{PathList}
-use Rattle.user_names.specs.declared.name_fault.NameFault.{NameFault}
+use Rattle.os9_base.specs.declared.name_fault.NameFault.{NameFault}
 use Rattle.rbf_model.specs.File.{DiskFile}
 use Rattle.rbf_model.specs.Volume.{DiskVolume}
 use Rattle.rbf_model.specs.Walk.{walk}

@@ -1,7 +1,7 @@
 //! F$Chain of a program in a file (System Programmer's Manual, F$Chain).
 
 ghost use Rattle.std.specs.Prelude.{◌≡◌, ◌≤◌, IsSome, Ok, take, vec_len};
-ghost use Rattle.call_rules.specs.Processes.{Processes};
+ghost use Rattle.proc_rules.specs.Processes.{Processes};
 ghost use Rattle.load_calls.specs.Entering.{TriesFile};
 ghost use Rattle.file_rules.specs.Program.{chains, parameters_of, starts_first};
 ghost use Rattle.file_rules.specs.ProgramFile.{ProgramFile};

@@ -1,7 +1,7 @@
 //! F$Load (System Programmer's Manual, F$Load).
 
 ghost use Rattle.std.specs.Prelude.{◌≡◌, ◌<◌, ◌≤◌, Ok, take, vec_len};
-ghost use Rattle.call_rules.specs.Processes.{Processes};
+ghost use Rattle.proc_rules.specs.Processes.{Processes};
 ghost use Rattle.load_calls.specs.Entering.{TriesFile};
 ghost use Rattle.file_rules.specs.Load.{links_first};
 ghost use Rattle.file_rules.specs.ProgramFile.{ProgramFile};
@@ -24,11 +24,11 @@ use crate::reading::{ProgramRead, read_program};
 use crate::trial::blocks_of;
 use device_table::devices::Devices;
 use file_state::state::FileState;
-use module_calls::links::link_module;
 use os9_base::call::CallEnd;
 use os9_base::errors::E_MEMFUL;
 use os9_base::registers::Pid;
 use os9_outer::drive::BlockDriver;
+use proc_calls::links::link_module;
 use proc_model::memory::MOST_LINKS;
 use proc_model::module::ModuleInfo;
 use proc_state::outcome::call_end;

@@ -1,7 +1,7 @@
 //! A program in a file, and the room it needs.
 
 ghost use Rattle.std.specs.Prelude.{◌≡◌, ◌≤◌, ◌<◌, IsSome, Ok, take};
-ghost use Rattle.call_rules.specs.Processes.{Processes};
+ghost use Rattle.proc_rules.specs.Processes.{Processes};
 ghost use Rattle.load_calls.specs.Entering.{TriesFile};
 ghost use Rattle.file_rules.specs.Load.{Loaded, Loads};
 ghost use Rattle.file_rules.specs.Program.{parameters_of};
@@ -22,10 +22,10 @@ use crate::reading::ProgramRead;
 use fork_calls::naming::area_pages;
 use fork_calls::program::NamedProgram;
 use guest_memory::memory::Memory;
-use module_calls::program::{MOST_PAGES, blocks_of_pages};
 use os9_base::errors::{E_MEMFUL, E_NORAM};
 use os9_base::limits::MAP_SLOTS;
 use os9_base::registers::Pid;
+use proc_calls::program::{MOST_PAGES, blocks_of_pages};
 use proc_model::module::ModuleInfo;
 use proc_state::state::ProcState;
 

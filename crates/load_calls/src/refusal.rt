@@ -1,8 +1,8 @@
 //! The tests of F$Fork and F$Chain on their registers after their path list is read.
 
 ghost use Rattle.std.specs.Prelude.{◌≡◌};
-ghost use Rattle.call_rules.specs.Processes.{Processes};
-ghost use Rattle.call_rules.specs.Program as model;
+ghost use Rattle.proc_rules.specs.Processes.{Processes};
+ghost use Rattle.proc_rules.specs.Program as model;
 ghost use Rattle.file_rules.specs.Program.{tests_program};
 ghost use Rattle.file_rules.specs.ProgramFile.{ProgramFile};
 ghost use Rattle.file_rules.specs.Step.{Step};

@@ -4,11 +4,11 @@ use Rattle.std.specs.Prelude.{unwrap_or}
 use Rattle.std.proofs.lemmas.Option.{same_Some}
 use Rattle.os9_base.specs.declared.registers.TimePacket.{TimePacket}
 use Rattle.cpu_model.specs.Step.{Aborts, Calls, Done, Outcome}
-use Rattle.call_rules.specs.CallResult.{CallResult, done, ends, refused, waits}
-use Rattle.call_rules.specs.Delivery.{delivered}
-use Rattle.call_rules.specs.Processes.{Processes, regs_at}
-use Rattle.call_rules.specs.Ready.{Act, act_of, attempts, delivers, executes}
-use Rattle.call_rules.specs.declared.proc_call.ProcCall.TheVariants as Call
+use Rattle.proc_rules.specs.CallResult.{CallResult, done, ends, refused, waits}
+use Rattle.proc_rules.specs.Delivery.{delivered}
+use Rattle.proc_rules.specs.Processes.{Processes, regs_at}
+use Rattle.proc_rules.specs.Ready.{Act, act_of, attempts, delivers, executes}
+use Rattle.proc_rules.specs.declared.proc_call.ProcCall.TheVariants as Call
 use Rattle.lock_model.specs.Laws.{Covers}
 use Rattle.lock_model.specs.Locks.{request_of}
 use Rattle.lock_model.specs.Records.{AreRecords}
@@ -35,8 +35,8 @@ use Rattle.file_laws.specs.Attempt.{Attempt, made_in}
 use Rattle.file_laws.specs.Touch.{LeavesFiles}
 use Rattle.file_laws.proofs.Codes.{code-there}
 use Rattle.file_laws.proofs.Loads.{chain-leaves, fork-leaves, load-leaves}
-use Rattle.event_rules.specs.Event.{next_instruction}
-use Rattle.event_rules.specs.declared.ends.EventEnd.{EventEnd}
+use Rattle.machine_model.specs.ProcessEvent.{next_instruction}
+use Rattle.machine_model.specs.declared.ends.EventEnd.{EventEnd}
 use Rattle.machine_model.specs.Event.{Acts, Event, before_delivery, files_after_delivery, files_after_instruction}
 use Rattle.machine_model.specs.Run.{Choose}
 use Rattle.machine_model.specs.Services.{Serves, Service, files_after_call, files_after_fork, loads, no_call, on_paths, on_processes, on_time, service_of}
@@ -46,7 +46,7 @@ use Rattle.isolation_laws.proofs.Asked.{Asks, asks}
 use Rattle.wait_laws.specs.Running.{IsRunning}
 use Rattle.file_laws.specs.Claims.{Claims, CoversCall, Made, Requests, read_call}
 use Rattle.file_laws.proofs.Claimed.{records-come}
-use Rattle.claim_laws.proofs.Covering.{range-covers}
+use Rattle.lock_laws.proofs.Covering.{range-covers}
 use Rattle.lock_laws.specs.Locked.{AreAgreed}
 use Rattle.lock_laws.proofs.Changes.{CoversLine, come-agreed}
 use Rattle.lock_laws.proofs.Places.{places-attempt, places-ended, places-interrupted}

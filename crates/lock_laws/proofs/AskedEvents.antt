@@ -12,14 +12,14 @@ use Rattle.cpu_model.specs.Step.{Aborts, Calls, Done, Outcome}
 use Rattle.proc_rules.specs.Records.{IsLiving, has_ended, record_at, record_of}
 use Rattle.proc_rules.specs.declared.record.Record.{Record}
 use Rattle.proc_rules.specs.declared.record.Life.TheVariants.{Waiting}
-use Rattle.call_rules.specs.Attempts.{after_attempt}
-use Rattle.call_rules.specs.CallResult.{CallResult, done, ends, refused, waits}
-use Rattle.call_rules.specs.Codes.{call_of}
-use Rattle.call_rules.specs.Delivery.{delivered}
-use Rattle.call_rules.specs.Processes.{Processes, regs_at}
-use Rattle.call_rules.specs.Ready.{Act, act_of, attempts, delivers, executes}
-use Rattle.call_rules.specs.declared.proc_call.ProcCall.{ProcCall}
-use Rattle.call_rules.specs.declared.proc_call.ProcCall.TheVariants as Call
+use Rattle.proc_rules.specs.Attempts.{after_attempt}
+use Rattle.proc_rules.specs.CallResult.{CallResult, done, ends, refused, waits}
+use Rattle.proc_rules.specs.Codes.{call_of}
+use Rattle.proc_rules.specs.Delivery.{delivered}
+use Rattle.proc_rules.specs.Processes.{Processes, regs_at}
+use Rattle.proc_rules.specs.Ready.{Act, act_of, attempts, delivers, executes}
+use Rattle.proc_rules.specs.declared.proc_call.ProcCall.{ProcCall}
+use Rattle.proc_rules.specs.declared.proc_call.ProcCall.TheVariants as Call
 use Rattle.io_model.specs.Path.{desc_of, slot_of}
 use Rattle.io_model.specs.declared.path.Desc.{Desc}
 use Rattle.io_model.specs.declared.path.SysPath.{SysPath}
@@ -50,8 +50,8 @@ use Rattle.file_laws.specs.Claims.{CoversCall}
 use Rattle.file_laws.specs.Touch.{WaitsForRecord}
 use Rattle.file_laws.proofs.Loads.{chain-leaves, fork-leaves, load-leaves}
 use Rattle.file_laws.proofs.OfAttempts.{comes-of}
-use Rattle.event_rules.specs.Event.{next_instruction}
-use Rattle.event_rules.specs.declared.ends.EventEnd.{EventEnd}
+use Rattle.machine_model.specs.ProcessEvent.{next_instruction}
+use Rattle.machine_model.specs.declared.ends.EventEnd.{EventEnd}
 use Rattle.machine_model.specs.Event.{Acts, Event, before_delivery, files_after_delivery, files_after_instruction}
 use Rattle.machine_model.specs.Services.{Serves, Service, files_after_call, files_after_fork, loads, no_call, on_paths, on_processes, on_time, service_of}
 use Rattle.machine_model.specs.State.{Rest, State, with_rest}
@@ -63,8 +63,8 @@ use Rattle.wait_laws.proofs.CallCodes.{not-both}
 use Rattle.wait_laws.proofs.KeptEvents.{executes-none, lives-runs, no-call, there-at}
 use Rattle.wait_laws.proofs.RecordWaits.{is-waiting, waits-keep, waits-within, waiting_then}
 use Rattle.wait_laws.proofs.Requested.{none-ended, none-interrupted, waits-kept}
-use Rattle.claim_laws.specs.Contents.{IsCovered, IsPathOn}
-use Rattle.claim_laws.proofs.Covering.{request-covers}
+use Rattle.lock_laws.specs.Contents.{IsCovered, IsPathOn}
+use Rattle.lock_laws.proofs.Covering.{request-covers}
 use Rattle.lock_laws.specs.Locked.{IsAskedFor, IsRunLocked}
 use Rattle.lock_laws.proofs.Covered.{request-path, state-covered}
 use Rattle.lock_laws.proofs.HeldAttempts.{request-on}
@@ -313,7 +313,7 @@ module _ (s : State) (p : ℕ) (it : IsRunLocked s) (lives : IsLiving s.processe
           → (request : Request) → request_of rest.files.records.locks p ≡ Some request → IsAskedFor after p request
       serves-asked loads serves (files, read, is) =
           rest-asked files (ap files_in is) (same-has files (load-leaves s.processes (asker_of s.processes p now) s.files (length s.terms) p result files read).records
-              (other-has loads serves (λ no. no)))
+          (other-has loads serves (λ no. no)))
       serves-asked (on_processes Call.Fork) serves (files, read, is) =
           rest-asked (files_after_fork files p result) (ap files_in is)
           (fork-has files (same-has files (fork-leaves s.processes (asker_of s.processes p now) s.files (length s.terms) p result files read).records

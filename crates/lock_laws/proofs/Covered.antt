@@ -3,8 +3,8 @@ use Rattle.std.proofs.Common.{◌≡◌, ℕ, Option, Some, None, refl, sym, ap,
 use Rattle.std.specs.Prelude.{MatchOption, unwrap_or}
 use Rattle.std.proofs.lemmas.Option.{same_Some}
 use Rattle.os9_base.specs.declared.registers.TimePacket.{TimePacket}
-use Rattle.call_rules.specs.Processes.{regs_at}
-use Rattle.call_rules.specs.Ready.{act_of, attempts}
+use Rattle.proc_rules.specs.Processes.{regs_at}
+use Rattle.proc_rules.specs.Ready.{act_of, attempts}
 use Rattle.lock_model.specs.Locks.{request_of}
 use Rattle.lock_model.specs.declared.lock.Request.{Request}
 use Rattle.io_model.specs.Path.{desc_of, slot_of}
@@ -27,7 +27,7 @@ use Rattle.file_laws.proofs.Keeps.{file-slot}
 use Rattle.wait_laws.specs.Running.{IsRunning}
 use Rattle.machine_model.specs.State.{State}
 use Rattle.file_laws.specs.Claims.{CoversCall, Made, Names, Requests}
-use Rattle.claim_laws.specs.Contents.{IsCovered}
+use Rattle.lock_laws.specs.Contents.{IsCovered}
 use Rattle.lock_laws.specs.Locked.{AreOnFiles}
 
 -- a call takes the number that the call on a terminal or a pipe takes

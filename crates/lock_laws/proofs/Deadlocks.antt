@@ -6,11 +6,11 @@ use Rattle.std.proofs.lemmas.Option.{same_Some}
 use Rattle.os9_base.specs.declared.errors.TheConstants.{E_BMODE, E_BPADDR, E_BPNAM, E_BPNUM, E_DEADLK, E_EOF, E_LOCK, E_MNF, E_NOTRDY, E_PNNF, E_PTHFUL, E_UNKSVC, E_WRITE}
 use Rattle.os9_base.specs.declared.registers.TimePacket.{TimePacket}
 use Rattle.os9_outer.specs.TerminalState.{TerminalState}
-use Rattle.civil_time.proofs.Days.{same-packet}
+use Rattle.time_rules.proofs.Days.{same-packet}
 use Rattle.proc_rules.specs.Records.{IsLiving}
-use Rattle.call_rules.specs.Attempts.{after_attempt}
-use Rattle.call_rules.specs.CallResult.{CallResult}
-use Rattle.call_rules.specs.Ready.{Act, act_of, attempts}
+use Rattle.proc_rules.specs.Attempts.{after_attempt}
+use Rattle.proc_rules.specs.CallResult.{CallResult}
+use Rattle.proc_rules.specs.Ready.{Act, act_of, attempts}
 use Rattle.lock_model.specs.declared.lock.Grant.TheVariants.{Deadlock, Locked}
 use Rattle.lock_model.specs.declared.lock.TheConstants.{LOCK_PROCESSES}
 use Rattle.io_rules.specs.Attempts.{Does, IoAttempts, io_after, result_by}
@@ -26,18 +26,18 @@ use Rattle.time_rules.specs.Clock.{seconds_since}
 use Rattle.file_laws.specs.Attempt.{Attempt, HasFault, asker_in, made_in}
 use Rattle.file_laws.proofs.TouchAttempts.{ends-refused}
 use Rattle.file_laws.proofs.Splits.{IsDeviceStep, not-refused}
-use Rattle.event_rules.specs.declared.ends.EventEnd.{EventEnd}
+use Rattle.machine_model.specs.declared.ends.EventEnd.{EventEnd}
 use Rattle.machine_model.specs.Event.{Acts, Event}
 use Rattle.machine_model.specs.Services.{Attempts, Serves, Service, on_paths, service_of}
 use Rattle.machine_model.specs.State.{Rest, State, rest_of, with_rest}
 use Rattle.refusal_laws.specs.Causes.{StatedCause, bad_address, bad_mode, bad_path_name, bad_path_number, no_module, not_found, not_ready, path_table_full, unknown_service}
 use Rattle.refusal_laws.specs.RefusedEvents.{IsRefused}
 use Rattle.refusal_laws.proofs.Refusing.{Comes, refusal}
-use Rattle.claim_laws.specs.Answered.{DoesAsDevice, IsAnsweredSo}
+use Rattle.lock_laws.specs.Answered.{DoesAsDevice, IsAnsweredSo}
 use Rattle.file_laws.specs.Claims.{ClosesCycle, IsLockedOut, Made}
-use Rattle.claim_laws.proofs.Answers.{deadlock-only, deadlock-refuses, fault-number, lock-only}
+use Rattle.lock_laws.proofs.Answers.{deadlock-only, deadlock-refuses, fault-number, lock-only}
 use Rattle.file_laws.proofs.Claimed.{claimed}
-use Rattle.claim_laws.proofs.Cycles.{answered-so, closes-so}
+use Rattle.lock_laws.proofs.Cycles.{answered-so, closes-so}
 use Rattle.file_laws.proofs.ClaimSteps.{Claimed, is_of_lock}
 use Rattle.file_laws.proofs.LockCauses.{locked-out}
 use Rattle.lock_laws.specs.Cycles.{AttemptsSo, ClosesCycleIn, IsFaulted, IsLockedOutIn}

@@ -24,8 +24,8 @@ use Rattle.file_laws.specs.Claims.{Made}
 use Rattle.file_laws.specs.Devices.{number_in}
 use Rattle.file_laws.specs.Recorded.{IsGranted, IsTaken, RecordsCome, path_in, settled}
 use Rattle.file_laws.proofs.Claimed.{records-come}
-use Rattle.claim_laws.specs.Contents.{IsCovered, contents_of}
-use Rattle.claim_laws.proofs.Covering.{request-file}
+use Rattle.lock_laws.specs.Contents.{IsCovered, contents_of}
+use Rattle.lock_laws.proofs.Covering.{request-file}
 use Rattle.lock_laws.specs.Written.{HasBytes}
 use Rattle.lock_laws.proofs.HeldAttempts.{lock-file}
 use Rattle.lock_laws.proofs.PutBytes.{one-entry, same-rest, take-front}

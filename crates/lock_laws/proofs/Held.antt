@@ -17,10 +17,10 @@ use Rattle.file_rules.specs.Locking.{files_interrupted, lock_ends}
 use Rattle.file_rules.specs.Processes.{files_ended}
 use Rattle.file_laws.proofs.Requests.{keeps-forgotten}
 use Rattle.wait_laws.proofs.Requested.{none-ended}
-use Rattle.claim_laws.specs.Contents.{IsPathOn}
+use Rattle.lock_laws.specs.Contents.{IsPathOn}
 use Rattle.lock_laws.specs.Locked.{AreAgreed}
 use Rattle.lock_laws.proofs.Descs.{Goes, closes-ended, interrupted-paths, number-holds}
-use Rattle.lock_laws.proofs.DeviceSteps.{DescsStay}
+use Rattle.lock_laws.proofs.DeviceDescriptors.{DescsStay}
 use Rattle.lock_laws.proofs.LockTables.{below-held, below-stays, below-was}
 
 -- each lock is of a path that was opened on its file

@@ -37,11 +37,11 @@ use Rattle.file_laws.proofs.Claimed.{records-come}
 use Rattle.file_laws.proofs.Keeps.{file-slot, stays}
 use Rattle.file_laws.proofs.OfAttempts.{comes-of}
 use Rattle.file_laws.proofs.Requests.{keeps-forgotten, without-requests}
-use Rattle.claim_laws.specs.Contents.{IsCovered, IsPathOn}
-use Rattle.claim_laws.proofs.Covering.{request-file}
+use Rattle.lock_laws.specs.Contents.{IsCovered, IsPathOn}
+use Rattle.lock_laws.proofs.Covering.{request-file}
 use Rattle.lock_laws.proofs.Changes.{owner-is}
 use Rattle.lock_laws.proofs.Descs.{number-holds}
-use Rattle.lock_laws.proofs.DeviceSteps.{DescsStay, descs-same, device-stay}
+use Rattle.lock_laws.proofs.DeviceDescriptors.{DescsStay, descs-same, device-stay}
 use Rattle.lock_laws.proofs.Held.{AreHeldOn, LeavesRecords, OnStay, on-like, same-leaves}
 use Rattle.lock_laws.proofs.HeldClose.{close-leaves}
 use Rattle.lock_laws.proofs.LockTables.{without-other, without-was}

@@ -30,7 +30,7 @@ use Rattle.file_rules.specs.Step.{FileDoes, FileEffect, done, leaves, on_files, 
 use Rattle.file_laws.specs.Kinds.{AreKinds, IsOnTarget}
 use Rattle.file_laws.proofs.Keeps.{file-slot}
 use Rattle.file_laws.proofs.Requests.{device-settled, ends-requests, keeps-forgotten}
-use Rattle.claim_laws.specs.Contents.{IsPathOn}
+use Rattle.lock_laws.specs.Contents.{IsPathOn}
 use Rattle.lock_laws.proofs.Descs.{close-paths, closed-desc, number-holds}
 use Rattle.lock_laws.proofs.Held.{AreHeldOn, LeavesRecords, OnStay, on-same, same-leaves}
 use Rattle.lock_laws.proofs.LockTables.{one-held, one-stays, one-was}

@@ -1,3 +1,11 @@
+pub mod Answers
+mod Bytes
+pub mod Contents
+pub mod Covering
+pub mod Cycles
+mod LockEnds
+mod Open
+mod Volumes
 pub mod Agreed
 pub mod Apart
 pub mod Changes
@@ -6,7 +14,7 @@ pub mod AskedEvents
 pub mod Covered
 pub mod Deadlocks
 pub mod Descs
-pub mod DeviceSteps
+pub mod DeviceDescriptors
 pub mod GetBytes
 pub mod Held
 pub mod HeldAttempts
@@ -25,3 +33,13 @@ pub mod PutBytes
 pub mod Runs
 pub mod VolumeEvents
 pub mod Writes
+pub mod Causes
+pub mod DeviceWaits
+pub mod WaitEnds
+pub mod Events
+pub mod Living
+pub mod Locks
+pub mod Looked
+pub mod OpenRuns
+pub mod Ticks
+pub mod Waits

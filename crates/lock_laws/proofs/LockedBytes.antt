@@ -2,7 +2,7 @@
 use Rattle.std.proofs.Common.{◌≡◌, ◌≢◌, ◌⊎◌, ℕ, ◌<◌, ◌≤◌, true, false, Option, Some, None, List, length, refl, sym, ap, ◌∙◌, subst, inl, inr, arith}
 use Rattle.std.proofs.lemmas.Bool.{false≢true}
 use Rattle.std.proofs.lemmas.Option.{none-some}
-use Rattle.call_rules.specs.Ready.{act_of}
+use Rattle.proc_rules.specs.Ready.{act_of}
 use Rattle.lock_model.specs.Conflict.{conflicts}
 use Rattle.lock_model.specs.Laws.{IsIn}
 use Rattle.lock_model.specs.Locks.{Locks, lock_of, request_of}
@@ -12,12 +12,12 @@ use Rattle.lock_model.specs.declared.lock.Request.{Request}
 use Rattle.lock_model.proofs.Chains.{some-opposer}
 use Rattle.rbf_model.specs.Volume.{DiskVolume}
 use Rattle.file_laws.specs.Attempt.{Attempt, HasFault, made_in}
-use Rattle.event_rules.specs.declared.ends.EventEnd.{EventEnd}
+use Rattle.machine_model.specs.declared.ends.EventEnd.{EventEnd}
 use Rattle.machine_model.specs.Event.{Event}
 use Rattle.machine_model.specs.State.{State}
 use Rattle.isolation_laws.proofs.Asked.{Asks, asks}
-use Rattle.claim_laws.specs.Contents.{ChangesWithin, ContentsCome, IsBefore, contents_of}
-use Rattle.claim_laws.proofs.Contents.{contents-come}
+use Rattle.lock_laws.specs.Contents.{ChangesWithin, ContentsCome, IsBefore, contents_of}
+use Rattle.lock_laws.proofs.Contents.{contents-come}
 use Rattle.lock_laws.specs.Locked.{IsRunLocked}
 use Rattle.lock_laws.specs.Written.{KeepsLocked}
 use Rattle.lock_laws.proofs.Apart.{against-so}

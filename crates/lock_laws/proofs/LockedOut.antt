@@ -2,7 +2,7 @@
 use Rattle.std.proofs.Common.{◌≡◌, ◌⊎◌, ◌+◌, ◌&&◌, not, eqb, Bool, true, false, Option, refl, ap, ◌∙◌, inl, inr}
 use Rattle.std.specs.Prelude.{is_none, nat_le, nat_lt, if◌then◌else◌}
 use Rattle.std.proofs.lemmas.Bool.{eq-eqb, false≢true, le-leb, lt-ltb}
-use Rattle.call_rules.specs.CallResult.{CallResult}
+use Rattle.proc_rules.specs.CallResult.{CallResult}
 use Rattle.os9_base.specs.declared.errors.TheConstants.{E_LOCK}
 use Rattle.lock_model.specs.Conflict.{conflicts}
 use Rattle.lock_model.specs.Locks.{Locks}
@@ -14,7 +14,7 @@ use Rattle.file_rules.specs.Locking.{answer_to}
 use Rattle.file_laws.specs.Attempt.{Attempt, HasFault, made_in}
 use Rattle.file_laws.specs.Claims.{IsLockedOut, Made, WaitsNot}
 use Rattle.file_laws.proofs.LockCauses.{at-first}
-use Rattle.claim_laws.proofs.Answers.{lock-refuses}
+use Rattle.lock_laws.proofs.Answers.{lock-refuses}
 
 -- ---- by the tests of an answer
 

@@ -7,9 +7,9 @@ use Rattle.os9_base.specs.declared.errors.TheConstants.{E_BADTIME, E_BMID, E_BMO
 use Rattle.os9_outer.specs.Drive.{drive_error}
 use Rattle.os9_outer.specs.declared.drive.DriveFault.{DriveFault}
 use Rattle.os9_outer.specs.declared.drive.DriveFault.TheVariants.{NotReady, ReadFault, SeekFault, WriteFault, WriteProtect}
-use Rattle.call_rules.specs.CallResult.{refused}
-use Rattle.call_rules.specs.Processes.{Processes}
-use Rattle.call_rules.specs.declared.proc_call.ProcCall.{ProcCall}
+use Rattle.proc_rules.specs.CallResult.{refused}
+use Rattle.proc_rules.specs.Processes.{Processes}
+use Rattle.proc_rules.specs.declared.proc_call.ProcCall.{ProcCall}
 use Rattle.file_rules.specs.Files.{Asker, Files, NoneFailed, OpenFile, drive_at}
 use Rattle.file_rules.specs.declared.claim.Claim.{Claim}
 use Rattle.file_rules.specs.Load.{Loaded}
@@ -226,7 +226,7 @@ module _ (error : ℕ) (of_lock : is_of_lock error ≡ true) where
           (λ file. LinkCause s.processes it.process) (λ no. no) (λ file loaded. link-other s.processes it.process loaded)) load)
       by_rest now (LeavesRest.of_fork serves none load) =
           absurd (load-other s it.process now _ _ t (cause-other s.processes _ s.files (length s.terms) (TestCause s.processes it.process)
-              (StartCause s.processes it.process (free_process s.processes.records))
+          (StartCause s.processes it.process (free_process s.processes.records))
           (test-other s.processes it.process) (start-other s.processes it.process (free_process s.processes.records))) load)
       by_rest now (LeavesRest.of_chain serves none load) =
           absurd (load-other s it.process now _ _ t (cause-other s.processes _ s.files (length s.terms) (TestCause s.processes it.process) (StartCause s.processes it.process (Some it.process))

@@ -8,13 +8,13 @@ use Rattle.cpu_model.specs.Step.{Aborts, Calls, Done, Outcome}
 use Rattle.proc_rules.specs.Records.{IsLiving, has_ended, record_at, record_of, record_passes}
 use Rattle.proc_rules.specs.declared.record.Life.TheVariants.{Waiting}
 use Rattle.proc_rules.specs.declared.record.Record.{Record}
-use Rattle.call_rules.specs.Attempts.{after_attempt, attempted, done_regs, refused_regs}
-use Rattle.call_rules.specs.CallResult.{CallResult, done, ends, refused, waits}
-use Rattle.call_rules.specs.Delivery.{after_delivery, delivered}
-use Rattle.call_rules.specs.Processes.{Processes, regs_at}
-use Rattle.call_rules.specs.Ready.{Act, act_of, attempts, delivers, executes}
-use Rattle.call_rules.specs.declared.proc_call.ProcCall.{ProcCall}
-use Rattle.call_rules.specs.declared.proc_call.ProcCall.TheVariants as Call
+use Rattle.proc_rules.specs.Attempts.{after_attempt, attempted, done_regs, refused_regs}
+use Rattle.proc_rules.specs.CallResult.{CallResult, done, ends, refused, waits}
+use Rattle.proc_rules.specs.Delivery.{after_delivery, delivered}
+use Rattle.proc_rules.specs.Processes.{Processes, regs_at}
+use Rattle.proc_rules.specs.Ready.{Act, act_of, attempts, delivers, executes}
+use Rattle.proc_rules.specs.declared.proc_call.ProcCall.{ProcCall}
+use Rattle.proc_rules.specs.declared.proc_call.ProcCall.TheVariants as Call
 use Rattle.io_rules.specs.Attempts.{result_by}
 use Rattle.io_rules.specs.Step.{IoEffect, IoEnd, answers, fails, keeps}
 use Rattle.io_rules.specs.Waiting.{interrupted_count}
@@ -28,8 +28,8 @@ use Rattle.call_laws.proofs.EndsKept.{by-end}
 use Rattle.call_laws.proofs.ForksKept.{attempt-left}
 use Rattle.call_laws.proofs.OthersKept.{living-within}
 use Rattle.time_rules.specs.Attempts.{time_step}
-use Rattle.event_rules.specs.Event.{after_instruction, delivery_end, next_instruction}
-use Rattle.event_rules.specs.declared.ends.EventEnd.{EventEnd}
+use Rattle.machine_model.specs.ProcessEvent.{after_instruction, delivery_end, next_instruction}
+use Rattle.machine_model.specs.declared.ends.EventEnd.{EventEnd}
 use Rattle.machine_model.specs.Event.{Acts, before_delivery, files_after_delivery, files_after_instruction}
 use Rattle.machine_model.specs.Run.{is_going}
 use Rattle.machine_model.specs.Services.{Serves, Service, files_after_call, loads, no_call, on_paths, on_processes, on_time, service_of, with_files}
@@ -96,7 +96,7 @@ module _ (s : State) (p : ℕ) (lives : IsLiving s.processes.records p) where
         over-goes (load-over s.processes (asker_of s.processes p now) s.files (length s.terms) p result files read)
     serves-goes code next now (on_processes Call.Fork) asked (files, read, same) =
         over-goes (over-by s.processes p (Child s.processes p) result (fork-over s.processes (asker_of s.processes p now) s.files (length s.terms) p result files lives read)
-            (λ n child. (child.aside, child.tick)))
+        (λ n child. (child.aside, child.tick)))
     serves-goes code next now (on_processes Call.Chain) asked (files, read, same) =
         over-goes (chain-over s.processes (asker_of s.processes p now) s.files (length s.terms) p result files read)
     serves-goes code next now (on_processes call) asked served = call-goes code call next asked served.0 served.1

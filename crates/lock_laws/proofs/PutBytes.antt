@@ -33,8 +33,8 @@ use Rattle.file_laws.specs.Claims.{Made}
 use Rattle.file_laws.specs.Recorded.{IsGranted, path_in}
 use Rattle.file_laws.proofs.Claimed.{claimed}
 use Rattle.file_laws.proofs.ClaimSteps.{Claimed, IsClaimedChange, LeftSo, StepClaimed}
-use Rattle.claim_laws.specs.Contents.{IsCovered, contents_of}
-use Rattle.claim_laws.proofs.Covering.{request-file}
+use Rattle.lock_laws.specs.Contents.{IsCovered, contents_of}
+use Rattle.lock_laws.proofs.Covering.{request-file}
 use Rattle.lock_laws.specs.Written.{HasBytes}
 
 -- ---- bytes that were written

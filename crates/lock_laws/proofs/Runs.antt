@@ -1,9 +1,9 @@
 -- Locks, requests and their history agree in every state of slices and runs.
 use Rattle.std.proofs.Common.{◌≡◌, ℕ, ◌<◌, ◌≤◌, ◌+◌, true, List, length, sym, ap, ◌∙◌, subst}
-use Rattle.civil_time.specs.CivilTime.{is_time_packet}
-use Rattle.event_rules.specs.Console.{terminals_emptied}
-use Rattle.event_rules.specs.declared.ends.EventEnd.{EventEnd}
-use Rattle.event_rules.specs.declared.ends.SliceEnd.{SliceEnd}
+use Rattle.time_rules.specs.CivilTime.{is_time_packet}
+use Rattle.machine_model.specs.Console.{terminals_emptied}
+use Rattle.machine_model.specs.declared.ends.EventEnd.{EventEnd}
+use Rattle.machine_model.specs.declared.ends.SliceEnd.{SliceEnd}
 use Rattle.io_model.specs.Path.{PathTable}
 use Rattle.machine_model.specs.Along.{IsCarriedByMoves}
 use Rattle.machine_model.specs.Event.{Event}

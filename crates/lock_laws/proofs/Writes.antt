@@ -2,9 +2,9 @@
 use Rattle.std.proofs.Common.{◌≡◌, ◌⊎◌, ℕ, Option, Some, List, length, refl, sym, ap, ◌∙◌, subst, inl, inr}
 use Rattle.os9_base.specs.declared.registers.TimePacket.{TimePacket}
 use Rattle.proc_rules.specs.Records.{IsLiving}
-use Rattle.call_rules.specs.Attempts.{after_attempt}
-use Rattle.call_rules.specs.CallResult.{CallResult, refused}
-use Rattle.call_rules.specs.Ready.{act_of, attempts}
+use Rattle.proc_rules.specs.Attempts.{after_attempt}
+use Rattle.proc_rules.specs.CallResult.{CallResult, refused}
+use Rattle.proc_rules.specs.Ready.{act_of, attempts}
 use Rattle.lock_model.specs.History.{put}
 use Rattle.lock_model.specs.Locks.{request_of}
 use Rattle.lock_model.specs.Records.{Records, written_by}
@@ -15,14 +15,14 @@ use Rattle.file_rules.specs.Attempts.{FileAttempts}
 use Rattle.file_rules.specs.declared.path_call.PathCall.{PathCall}
 use Rattle.time_rules.specs.Clock.{IsNow}
 use Rattle.file_laws.specs.Attempt.{Attempt, HasFault, made_in}
-use Rattle.event_rules.specs.declared.ends.EventEnd.{EventEnd}
+use Rattle.machine_model.specs.declared.ends.EventEnd.{EventEnd}
 use Rattle.machine_model.specs.Event.{Event}
 use Rattle.machine_model.specs.Services.{Serves, Service, on_paths, service_of}
 use Rattle.machine_model.specs.State.{Rest, State, with_rest}
 use Rattle.isolation_laws.proofs.Asked.{Asks, asks}
-use Rattle.claim_laws.specs.Contents.{ChangesWithin, ContentsCome, HasPath, IsCovered, contents_of}
+use Rattle.lock_laws.specs.Contents.{ChangesWithin, ContentsCome, HasPath, IsCovered, contents_of}
 use Rattle.file_laws.specs.Recorded.{IsGranted, path_in, settled}
-use Rattle.claim_laws.proofs.Contents.{contents-come}
+use Rattle.lock_laws.proofs.Contents.{contents-come}
 use Rattle.lock_laws.specs.Cycles.{EndsInFault}
 use Rattle.lock_laws.specs.Locked.{IsRunLocked}
 use Rattle.lock_laws.specs.Written.{IsCutShort, IsWritten, WritesWithin}

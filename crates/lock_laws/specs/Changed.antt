@@ -3,8 +3,8 @@ use Rattle.std.specs.Prelude.{◌≡◌, ℕ}
 use Rattle.file_rules.specs.Files.{Files}
 use Rattle.file_rules.specs.Processes.{files_ended}
 use Rattle.file_laws.specs.Recorded.{RecordsCome}
-use Rattle.event_rules.specs.declared.ends.EventEnd.{EventEnd}
-use Rattle.event_rules.specs.declared.ends.EventEnd.TheVariants.{Ended}
+use Rattle.machine_model.specs.declared.ends.EventEnd.{EventEnd}
+use Rattle.machine_model.specs.declared.ends.EventEnd.TheVariants.{Ended}
 use Rattle.machine_model.specs.State.{State}
 use Rattle.lock_laws.specs.Cycles.{AttemptsSo}
 

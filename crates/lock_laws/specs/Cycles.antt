@@ -1,7 +1,7 @@
 -- Calls that are refused for a deadlock, or for a lock (Level Two manual, RBF record locking).
 use Rattle.std.specs.Prelude.{◌≡◌, ℕ, Some}
 use Rattle.os9_base.specs.declared.registers.TimePacket.{TimePacket}
-use Rattle.call_rules.specs.Ready.{attempts, act_of}
+use Rattle.proc_rules.specs.Ready.{attempts, act_of}
 use Rattle.file_rules.specs.Files.{OneFailed}
 use Rattle.file_rules.specs.declared.path_call.PathCall.{PathCall}
 use Rattle.time_rules.specs.Clock.{IsNow}

@@ -1,4 +1,9 @@
+pub mod Answered
+pub mod Contents
+pub mod Effects
 pub mod Changed
 pub mod Cycles
 pub mod Locked
 pub mod Written
+pub mod Living
+pub mod Touches

@@ -2,7 +2,7 @@
 use Rattle.std.specs.Prelude.{◌≡◌, ◌≢◌, ◌⊎◌, ℕ, true, Some, List, length}
 use Rattle.std.specs.List.{AllByRecursion}
 use Rattle.proc_rules.specs.Records.{IsLiving}
-use Rattle.call_rules.specs.Processes.{regs_at}
+use Rattle.proc_rules.specs.Processes.{regs_at}
 use Rattle.io_model.specs.Path.{holds_path}
 use Rattle.lock_model.specs.Locks.{lock_of, request_of}
 use Rattle.lock_model.specs.Records.{AreRecords}
@@ -15,7 +15,7 @@ use Rattle.file_rules.specs.declared.path_call.PathCall.{PathCall}
 use Rattle.wait_laws.specs.Running.{IsRunning}
 use Rattle.machine_model.specs.State.{State}
 use Rattle.file_laws.specs.Claims.{CoversCall}
-use Rattle.claim_laws.specs.Contents.{IsPathOn}
+use Rattle.lock_laws.specs.Contents.{IsPathOn}
 
 -- a request in which a process waits is for bytes of the file that its path was opened on, and covers what its call
 -- changes

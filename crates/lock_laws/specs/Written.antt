@@ -12,7 +12,7 @@ use Rattle.rbf_change.specs.Contents.{bytes_from}
 use Rattle.file_rules.specs.Files.{Files}
 use Rattle.file_laws.specs.Claims.{Made}
 use Rattle.file_laws.specs.Recorded.{IsGranted}
-use Rattle.claim_laws.specs.Contents.{ChangesWithin, KeepsByte, WritesBytes, contents_of}
+use Rattle.lock_laws.specs.Contents.{ChangesWithin, KeepsByte, WritesBytes, contents_of}
 use Rattle.machine_model.specs.State.{State}
 use Rattle.lock_laws.specs.Cycles.{AttemptsSo, EndsInFault}
 

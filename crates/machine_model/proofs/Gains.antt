@@ -4,12 +4,12 @@ use Rattle.std.specs.Prelude.{MatchBool, MatchOption}
 use Rattle.os9_base.specs.declared.registers.TimePacket.{TimePacket}
 use Rattle.os9_outer.specs.TerminalState.{TerminalState}
 use Rattle.cpu_model.specs.Step.{Outcome, Done, Calls, Aborts}
-use Rattle.call_rules.specs.declared.proc_call.ProcCall.TheVariants as Call
-use Rattle.call_rules.specs.Attempts.{attempted}
-use Rattle.call_rules.specs.CallResult.{CallResult, done, refused, waits, ends}
-use Rattle.call_rules.specs.Delivery.{delivered}
-use Rattle.call_rules.specs.Processes.{Processes}
-use Rattle.call_rules.specs.Ready.{Act, attempts, delivers, executes, act_of}
+use Rattle.proc_rules.specs.declared.proc_call.ProcCall.TheVariants as Call
+use Rattle.proc_rules.specs.Attempts.{attempted}
+use Rattle.proc_rules.specs.CallResult.{CallResult, done, refused, waits, ends}
+use Rattle.proc_rules.specs.Delivery.{delivered}
+use Rattle.proc_rules.specs.Processes.{Processes}
+use Rattle.proc_rules.specs.Ready.{Act, attempts, delivers, executes, act_of}
 use Rattle.file_rules.specs.declared.path_call.PathCall.{PathCall}
 use Rattle.file_rules.specs.Attempts.{asker_of}
 use Rattle.file_rules.specs.Files.{Files}
@@ -17,13 +17,13 @@ use Rattle.file_laws.specs.Devices.{IsOnDevice}
 use Rattle.file_laws.specs.Touch.{LeavesDevices, LeavesFiles, WaitsForRecord}
 use Rattle.file_laws.proofs.TouchAttempts.{attempt-comes}
 use Rattle.file_laws.proofs.Loads.{chain-leaves, fork-leaves, load-leaves}
-use Rattle.event_rules.specs.declared.ends.EventEnd.{EventEnd}
-use Rattle.event_rules.specs.declared.ends.SliceEnd.{SliceEnd}
-use Rattle.event_rules.specs.declared.ends.SliceEnd.TheVariants.{Idle, Ran as SliceRan}
-use Rattle.event_rules.specs.Console.{console_bytes, terminals_emptied}
-use Rattle.event_rules.specs.Event.{next_instruction}
-use Rattle.event_rules.specs.Terminals.{TerminalsOnlyGain}
-use Rattle.event_rules.proofs.TerminalLaws.{gain-arrivals, gain-attempt, gain-broken, gain-emptied, gain-same, gain-then}
+use Rattle.machine_model.specs.declared.ends.EventEnd.{EventEnd}
+use Rattle.machine_model.specs.declared.ends.SliceEnd.{SliceEnd}
+use Rattle.machine_model.specs.declared.ends.SliceEnd.TheVariants.{Idle, Ran as SliceRan}
+use Rattle.machine_model.specs.Console.{console_bytes, terminals_emptied}
+use Rattle.machine_model.specs.ProcessEvent.{next_instruction}
+use Rattle.machine_model.specs.Terminals.{TerminalsOnlyGain}
+use Rattle.machine_model.proofs.TerminalLaws.{gain-arrivals, gain-attempt, gain-broken, gain-emptied, gain-same, gain-then}
 use Rattle.machine_model.specs.Along.{IsCarriedByMoves}
 use Rattle.machine_model.specs.Devices.{DrivesOnlyGain, OnlyGain}
 use Rattle.machine_model.specs.Event.{Acts, Event, before_delivery, files_after_delivery, files_after_instruction}

@@ -1,10 +1,10 @@
 -- One induction over the events of a slice, and one over the slices of a run.
 use Rattle.std.proofs.Common.{◌≡◌, ℕ, ◌-◌, Bool, true, false, Option, Some, None, List, [], ◌∷◌, ◌++◌, sym, subst, append-nil}
 use Rattle.std.specs.Prelude.{MatchBool, MatchOption}
-use Rattle.event_rules.specs.Console.{console_bytes, terminals_emptied}
-use Rattle.event_rules.specs.declared.ends.EventEnd.TheVariants as End
-use Rattle.event_rules.specs.declared.ends.SliceEnd.{SliceEnd}
-use Rattle.event_rules.specs.declared.ends.SliceEnd.TheVariants.{Idle, Ran}
+use Rattle.machine_model.specs.Console.{console_bytes, terminals_emptied}
+use Rattle.machine_model.specs.declared.ends.EventEnd.TheVariants as End
+use Rattle.machine_model.specs.declared.ends.SliceEnd.{SliceEnd}
+use Rattle.machine_model.specs.declared.ends.SliceEnd.TheVariants.{Idle, Ran}
 use Rattle.machine_model.specs.Along.{IsCarriedByEvents, IsCarriedByMoves}
 use Rattle.machine_model.specs.Event.{cost}
 use Rattle.machine_model.specs.Run.{BeginsSlice, Choose, FirstSteps, Run, Slice, Steps, Tick, is_going}

@@ -1,4 +1,9 @@
+pub mod StartLaws
+pub mod TerminalLaws
+pub mod Ticks
 pub mod Drives
 pub mod Gains
 pub mod Induction
 pub mod Starts
+pub mod RowEvents
+pub mod Times

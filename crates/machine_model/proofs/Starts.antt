@@ -3,12 +3,12 @@ use Rattle.std.proofs.Common.{◌≡◌, ◌⊎◌, ℕ, None, List, [], ◌∷�
 use Rattle.std.specs.List.{AllZip}
 use Rattle.rbf_model.specs.Volume.{DiskVolume, Vol}
 use Rattle.rbf_model.proofs.Unique.{vol_is_unique}
-use Rattle.call_rules.specs.Processes.{Processes}
+use Rattle.proc_rules.specs.Processes.{Processes}
 use Rattle.file_rules.specs.Files.{DriveState, Files}
 use Rattle.file_rules.specs.Processes.{StartsOn, first_files}
-use Rattle.event_rules.specs.declared.ends.BootFault.{BootFault}
-use Rattle.event_rules.specs.Start.{Refuses, StartsProcesses, first_start, only_process}
-use Rattle.event_rules.proofs.StartLaws.{Starts-one, never-both as never-both-processes, some-end as some-end-processes}
+use Rattle.machine_model.specs.declared.ends.BootFault.{BootFault}
+use Rattle.machine_model.specs.ProcessStart.{Refuses, StartsProcesses, first_start, only_process}
+use Rattle.machine_model.proofs.StartLaws.{Starts-one, never-both as never-both-processes, some-end as some-end-processes}
 use Rattle.time_rules.specs.Clock.{first_clock}
 use Rattle.machine_model.specs.Start.{Boot, Starts}
 use Rattle.machine_model.specs.State.{State}

@@ -1,7 +1,7 @@
 -- What a step of the machine carries back: the form in which a law is proved once for slices, first events and runs.
 use Rattle.std.specs.Prelude.{List, [], ◌∷◌}
-use Rattle.event_rules.specs.Console.{terminals_emptied}
-use Rattle.event_rules.specs.declared.ends.EventEnd.{EventEnd}
+use Rattle.machine_model.specs.Console.{terminals_emptied}
+use Rattle.machine_model.specs.declared.ends.EventEnd.{EventEnd}
 use Rattle.machine_model.specs.Event.{Event}
 use Rattle.machine_model.specs.Run.{Choose, Tick}
 use Rattle.machine_model.specs.State.{State}

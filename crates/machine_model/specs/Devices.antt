@@ -1,7 +1,7 @@
 -- How the devices of a machine may change along a run.
 use Rattle.std.specs.Prelude.{◌≡◌, ℕ, ◌≤◌, List, length}
 use Rattle.file_rules.specs.Files.{DriveState, drive_at}
-use Rattle.event_rules.specs.Terminals.{TerminalsOnlyGain}
+use Rattle.machine_model.specs.Terminals.{TerminalsOnlyGain}
 use Rattle.machine_model.specs.State.{State}
 
 -- the number of drives is the same, and no count of faults fell

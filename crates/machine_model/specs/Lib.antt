@@ -1,3 +1,8 @@
+pub mod Console
+pub mod ProcessEvent
+pub mod ProcessStart
+pub mod Living
+pub mod Terminals
 pub mod Along
 pub mod Devices
 pub mod Event
@@ -5,3 +10,4 @@ pub mod Run
 pub mod Services
 pub mod Start
 pub mod State
+pub mod SliceRows

@@ -7,7 +7,7 @@ use Rattle.proc_model.specs.Memory.{MemoryState}
 use Rattle.proc_model.specs.ModuleList.{ModuleEntry}
 use Rattle.file_rules.specs.Files.{Files, DriveState}
 use Rattle.file_rules.specs.Processes.{StartsOn}
-use Rattle.event_rules.specs.Start.{HasFirst, first_start, first_started, only_process}
+use Rattle.machine_model.specs.ProcessStart.{HasFirst, first_start, first_started, only_process}
 use Rattle.time_rules.specs.Clock.{first_clock}
 use Rattle.machine_model.specs.State.{State}
 

@@ -2,9 +2,9 @@
 -- which process was chosen, and the terminals.
 use Rattle.std.specs.Prelude.{ℕ, ◌==◌, not, Bool, Option, List}
 use Rattle.os9_outer.specs.TerminalState.{TerminalState}
-use Rattle.call_rules.specs.Processes.{Processes}
+use Rattle.proc_rules.specs.Processes.{Processes}
 use Rattle.file_rules.specs.Files.{Files}
-use Rattle.event_rules.specs.State.{living_count}
+use Rattle.machine_model.specs.Living.{living_count}
 use Rattle.time_rules.specs.declared.clock.Clock.{Clock}
 
 pub record State : Type 0 where

@@ -2,9 +2,9 @@
 
 ghost use Rattle.std.specs.Prelude.{ℕ, List};
 ghost use Rattle.os9_outer.specs.TerminalState.{TerminalState};
-ghost use Rattle.event_rules.specs.Terminals.{TerminalsOnlyGain};
-ghost use Rattle.event_rules.specs.declared.ends.EventEnd.{EventEnd};
-ghost use Rattle.event_rules.specs.declared.ends.SliceEnd.{SliceEnd};
+ghost use Rattle.machine_model.specs.Terminals.{TerminalsOnlyGain};
+ghost use Rattle.machine_model.specs.declared.ends.EventEnd.{EventEnd};
+ghost use Rattle.machine_model.specs.declared.ends.SliceEnd.{SliceEnd};
 ghost use Rattle.machine_model.specs.Devices.{OnlyGain};
 ghost use Rattle.machine_model.specs.Event.{Event};
 ghost use Rattle.machine_model.specs.Run.{BeginsSlice, BreaksTick, Run, Slice, Tick};

@@ -2,8 +2,8 @@
 
 ghost use Rattle.std.specs.Prelude.{◌≡◌, ◌⊎◌, ℕ, List};
 ghost use Rattle.std.specs.List.{AllZip};
-ghost use Rattle.event_rules.specs.Start.{Refuses};
-ghost use Rattle.event_rules.specs.declared.ends.BootFault.{BootFault};
+ghost use Rattle.machine_model.specs.ProcessStart.{Refuses};
+ghost use Rattle.machine_model.specs.declared.ends.BootFault.{BootFault};
 ghost use Rattle.rbf_model.specs.Volume.{DiskVolume, Vol};
 ghost use Rattle.machine_model.specs.Start.{Boot, Starts};
 ghost use Rattle.machine_model.specs.State.{State};

@@ -3,7 +3,7 @@
 
 ghost use Rattle.std.specs.Prelude.{map, string_bytes};
 ghost use Rattle.device_table.specs.Seen.{terminals_seen};
-ghost use Rattle.boot_images.specs.Drives.{HaveRoom};
+ghost use Rattle.boot_run.specs.Drives.{HaveRoom};
 ghost use Rattle.boot_run.specs.World.{world_of};
 ghost use Rattle.file_drives.specs.Drives.{drive_views, drives_seen};
 ghost use Rattle.boot_run.specs.Loaded.{AreUnloaded};

@@ -9,7 +9,7 @@ mod words;
 ghost use Rattle.std.specs.Prelude.{◌≡◌, []};
 ghost use Rattle.device_table.specs.Seen.{terminals_seen};
 ghost use Rattle.file_drives.specs.Drives.{drives_seen};
-ghost use Rattle.boot_images.specs.Drives.{HaveRoom};
+ghost use Rattle.boot_run.specs.Drives.{HaveRoom};
 ghost use Rattle.boot_run.specs.Loaded.{AreUnloaded};
 
 use crate::program;

@@ -10,25 +10,25 @@ use Rattle.os9_words.specs.declared.command.Command.TheVariants.{Boot as BootCom
 use Rattle.os9_words.specs.declared.command.RunWords.{RunWords}
 use Rattle.os9_words.specs.Command.{command_of}
 use Rattle.os9_words.specs.Notes.{Notes}
-use Rattle.event_rules.specs.Start.{Refuses}
-use Rattle.event_rules.specs.declared.ends.BootFault.{BootFault}
+use Rattle.machine_model.specs.ProcessStart.{Refuses}
+use Rattle.machine_model.specs.declared.ends.BootFault.{BootFault}
 use Rattle.machine_model.specs.Run.{status_of}
 use Rattle.machine_model.specs.State.{State, has_living}
 use Rattle.rbf_model.proofs.Images.{no_image_breach}
-use Rattle.boot_images.specs.BootFile.{HasBootFile, IsVolume, boot_file_of}
-use Rattle.boot_images.specs.Images.{images_of}
+use Rattle.boot_run.specs.BootFile.{HasBootFile, IsVolume, boot_file_of}
+use Rattle.boot_run.specs.Images.{images_of}
 use Rattle.boot_run.specs.Console.{IsObserved}
 use Rattle.boot_run.specs.Machine.{Setup}
 use Rattle.boot_run.specs.World.{World}
-use Rattle.command_files.specs.declared.status.End.{End}
-use Rattle.command_files.specs.declared.status.End.TheVariants.{Ended, Living, CannotRead, CannotWrite, CannotWriteImage, NoMemory, BadImage, BadText, BadBounds, BadModule, NoFirst, TooLarge, DriveFailed, CannotWriteFile, Refused, BadSource, TerminalFailed}
-use Rattle.command_files.specs.declared.status.Input.TheVariants.{Script}
+use Rattle.boot_run.specs.declared.status.End.{End}
+use Rattle.boot_run.specs.declared.status.End.TheVariants.{Ended, Living, CannotRead, CannotWrite, CannotWriteImage, NoMemory, BadImage, BadText, BadBounds, BadModule, NoFirst, TooLarge, DriveFailed, CannotWriteFile, Refused, BadSource, TerminalFailed}
+use Rattle.boot_run.specs.declared.status.Input.TheVariants.{Script}
 use Rattle.os9_boot.specs.Boots.{BootComesTo, RunsToEnd}
-use Rattle.command_files.specs.End.{status_number}
+use Rattle.boot_run.specs.End.{status_number}
 use Rattle.os9_boot.specs.Headline.{BootIsOneRun, IsAccepted, IsOneRun}
 use Rattle.os9_boot.specs.History.{outputs_of}
-use Rattle.command_files.specs.Reading.{BreaksSlices}
-use Rattle.command_files.specs.Setup.{SetsUpBoot, script_of}
+use Rattle.boot_run.specs.Reading.{BreaksSlices}
+use Rattle.boot_run.specs.Setup.{SetsUpBoot, script_of}
 use Rattle.os9_boot.specs.Commands.{CommandCall}
 use Rattle.os9_boot.specs.TopCall.{CommandReport, TopCall, WordsReport}
 

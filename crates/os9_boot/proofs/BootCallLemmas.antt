@@ -17,30 +17,30 @@ use Rattle.boot_run.specs.World.{World, FailsToReadFile, HasNoFault, world_of}
 use Rattle.stress_run.specs.Stress.{LeavesStress, StressCall}
 use Rattle.stress_run.specs.declared.stress.StressEnd.{StressEnd}
 use Rattle.stress_run.specs.declared.stress.StressEnd.TheVariants as Stress
-use Rattle.command_files.specs.declared.status.End.{End}
-use Rattle.command_files.specs.declared.status.End.TheVariants.{Ended, Living, CannotRead, CannotWriteFile, CannotWriteImage, NoMemory}
-use Rattle.command_files.specs.declared.status.Input.{Input}
-use Rattle.command_files.specs.Stops.{StopsAtRead}
+use Rattle.boot_run.specs.declared.status.End.{End}
+use Rattle.boot_run.specs.declared.status.End.TheVariants.{Ended, Living, CannotRead, CannotWriteFile, CannotWriteImage, NoMemory}
+use Rattle.boot_run.specs.declared.status.Input.{Input}
+use Rattle.boot_run.specs.Stops.{StopsAtRead}
 use Rattle.os9_words.specs.declared.asm_words.AsmWords.{AsmWords}
 use Rattle.os9_words.specs.declared.debug_words.DebugWords.{DebugWords}
 use Rattle.os9_words.specs.declared.vol_words.VolWords.{VolWords}
 use Rattle.os9_boot.specs.Asm.{AsmComesTo}
-use Rattle.os9_boot.specs.Call.{AsmCall}
-use Rattle.os9_boot.proofs.CallLemmas.{files-same as asm-files-same}
+use Rattle.os9_boot.specs.AsmCall.{AsmCall}
+use Rattle.os9_boot.proofs.AsmCallLemmas.{files-same as asm-files-same}
 use Rattle.os9_debug.specs.Call.{DebugCall}
 use Rattle.os9_debug.specs.Debug.{DebugComesTo}
-use Rattle.vol_command.specs.Call.{VolCall}
-use Rattle.vol_command.specs.Vol.{VolComesTo}
-use Rattle.vol_command.proofs.CallLemmas.{devices-quiet, files-same}
+use Rattle.os9_boot.specs.VolCall.{VolCall}
+use Rattle.os9_boot.specs.Vol.{VolComesTo}
+use Rattle.os9_boot.proofs.VolCallLemmas.{devices-quiet, files-same}
 use Rattle.os9_boot.specs.Boots.{BootComesTo, IsUndone, RunComesTo}
 use Rattle.os9_boot.specs.Check.{CheckComesTo}
 use Rattle.os9_boot.specs.Commands.{CommandCall}
-use Rattle.command_files.specs.End.{status_number}
+use Rattle.boot_run.specs.End.{status_number}
 use Rattle.os9_boot.specs.End.{stress_end}
 use Rattle.os9_boot.specs.EndLines.{end_line}
 use Rattle.os9_boot.specs.Host.{FailsAsTold}
-use Rattle.command_files.specs.Left.{IsSilent}
-use Rattle.command_files.proofs.ChangeLemmas.{same-changes}
+use Rattle.boot_run.specs.Left.{IsSilent}
+use Rattle.boot_run.proofs.ChangeLemmas.{same-changes}
 use Rattle.os9_boot.specs.BootLeft.{BootLeavesFiles, LeavesDevices, StressMayEnd}
 use Rattle.os9_boot.specs.History.{output_names, outputs_of}
 use Rattle.os9_boot.specs.Meaning.{meaning}

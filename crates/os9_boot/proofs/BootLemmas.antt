@@ -8,22 +8,22 @@ use Rattle.script_text.specs.Slices.{slices_of}
 use Rattle.lock_model.specs.declared.history.Entry.{Entry}
 use Rattle.os9_words.specs.declared.command.Command.TheVariants.{Boot as BootCommand}
 use Rattle.os9_words.specs.declared.command.RunWords.{RunWords}
-use Rattle.boot_images.specs.BootFile.{IsBootFile, IsVolume}
-use Rattle.boot_images.specs.Outcome.{RunsImages}
+use Rattle.boot_run.specs.BootFile.{IsBootFile, IsVolume}
+use Rattle.boot_run.specs.Outcome.{RunsImages}
 use Rattle.boot_run.specs.Machine.{Setup}
 use Rattle.boot_run.specs.World.{World}
 use Rattle.boot_run.specs.declared.machine.RunEnd.{RunEnd}
-use Rattle.command_files.specs.declared.files.BootFiles.{BootFiles}
-use Rattle.command_files.specs.declared.status.End.{End}
-use Rattle.command_files.specs.declared.status.End.TheVariants.{CannotRead, CannotWrite, CannotWriteImage, NoMemory, BadImage, BadText, BadBounds, CannotWriteFile, Refused, BadSource, TerminalFailed}
-use Rattle.command_files.specs.declared.status.Input.TheVariants.{Script as ScriptInput, Slices as SlicesInput}
+use Rattle.boot_run.specs.declared.files.BootFiles.{BootFiles}
+use Rattle.boot_run.specs.declared.status.End.{End}
+use Rattle.boot_run.specs.declared.status.End.TheVariants.{CannotRead, CannotWrite, CannotWriteImage, NoMemory, BadImage, BadText, BadBounds, CannotWriteFile, Refused, BadSource, TerminalFailed}
+use Rattle.boot_run.specs.declared.status.Input.TheVariants.{Script as ScriptInput, Slices as SlicesInput}
 use Rattle.os9_boot.specs.Boots.{BootComesTo}
 use Rattle.os9_boot.specs.Commands.{CommandCall}
 use Rattle.os9_boot.specs.Host.{FailsAsTold}
 use Rattle.os9_boot.specs.BootLeft.{BootMayEnd, LeavesDevices}
 use Rattle.os9_boot.specs.Images.{RefusesImages}
-use Rattle.command_files.specs.Reading.{HasBootFiles, RefusesTexts}
-use Rattle.command_files.specs.Setup.{HaveTexts, SetsUpBoot}
+use Rattle.boot_run.specs.Reading.{HasBootFiles, RefusesTexts}
+use Rattle.boot_run.specs.Setup.{HaveTexts, SetsUpBoot}
 use Rattle.os9_boot.specs.History.{Outputs, output_bytes, outputs_of}
 use Rattle.os9_boot.specs.Written.{EndsBoot}
 use Rattle.os9_boot.proofs.BootCallLemmas.{kept-counts, out-of-memory, still-silent, unchanged}

@@ -10,10 +10,10 @@ use Rattle.os9_words.specs.declared.command.Command.{Command}
 use Rattle.os9_words.specs.declared.command.Command.TheVariants.{Boot as BootCommand}
 use Rattle.os9_words.specs.declared.command.RunWords.{RunWords}
 use Rattle.boot_run.specs.World.{World}
-use Rattle.command_files.specs.declared.status.End.{End}
-use Rattle.command_files.specs.declared.status.End.TheVariants.{Ended, Living, CannotWrite, CannotWriteFile, CannotWriteImage, NoMemory}
-use Rattle.command_files.specs.End.{status_number}
-use Rattle.command_files.specs.FileNames.{IsFront}
+use Rattle.boot_run.specs.declared.status.End.{End}
+use Rattle.boot_run.specs.declared.status.End.TheVariants.{Ended, Living, CannotWrite, CannotWriteFile, CannotWriteImage, NoMemory}
+use Rattle.boot_run.specs.End.{status_number}
+use Rattle.boot_run.specs.FileNames.{IsFront}
 use Rattle.os9_boot.specs.FileNames.{BootWrites}
 use Rattle.os9_boot.specs.History.{Outputs, output_names, outputs_of}
 use Rattle.os9_boot.specs.Headline.{IsOfWholeRun, WritesByStatus}

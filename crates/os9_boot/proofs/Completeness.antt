@@ -10,11 +10,11 @@ use Rattle.os9_base.specs.Count.{Rose}
 use Rattle.file_drives.specs.Drives.{drive_states}
 use Rattle.file_rules.specs.Files.{drive_at}
 use Rattle.boot_run.specs.World.{World}
-use Rattle.command_files.specs.declared.status.End.{End}
-use Rattle.command_files.specs.declared.status.End.TheVariants.{CannotRead, CannotWrite, CannotWriteImage, CannotWriteFile, DriveFailed, NoMemory}
+use Rattle.boot_run.specs.declared.status.End.{End}
+use Rattle.boot_run.specs.declared.status.End.TheVariants.{CannotRead, CannotWrite, CannotWriteImage, CannotWriteFile, DriveFailed, NoMemory}
 use Rattle.os9_boot.specs.Commands.{CommandCall}
 use Rattle.os9_boot.specs.Completeness.{IsNoFault, NoneRose, TellsNoFault}
-use Rattle.command_files.specs.End.{status_number}
+use Rattle.boot_run.specs.End.{status_number}
 use Rattle.os9_boot.specs.Meaning.{meaning}
 use Rattle.os9_boot.specs.TopCall.{CommandReport, Reports, TopCall, WordsReport, words_status}
 

@@ -9,9 +9,9 @@ use Rattle.os9_words.specs.declared.command.Command.{Command}
 use Rattle.os9_words.specs.declared.command.Command.TheVariants.{Run, Boot, Check, Stress, Vol, Asm, Debug}
 use Rattle.os9_words.specs.declared.debug_words.DebugWords.{DebugWords}
 use Rattle.boot_run.specs.World.{World}
-use Rattle.command_files.specs.End.{status_number}
-use Rattle.command_files.specs.declared.status.End.{End}
-use Rattle.command_files.specs.declared.status.End.TheVariants.{Ended, Living, NoMemory, TerminalFailed}
+use Rattle.boot_run.specs.End.{status_number}
+use Rattle.boot_run.specs.declared.status.End.{End}
+use Rattle.boot_run.specs.declared.status.End.TheVariants.{Ended, Living, NoMemory, TerminalFailed}
 use Rattle.os9_debug.specs.Counts.{TerminalRose}
 use Rattle.os9_debug.specs.Call.{DebugCall}
 use Rattle.os9_debug.specs.Left.{DebugMayEnd}

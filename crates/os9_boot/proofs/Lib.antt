@@ -1,5 +1,12 @@
-pub mod CallLemmas
-pub mod NoteLemmas
+pub mod VolCallLemmas
+pub mod DriveLemmas
+pub mod VolNoteLemmas
+pub mod OutputLemmas
+pub mod ReadLemmas
+pub mod RepairLemmas
+pub mod VerbLemmas
+pub mod AsmCallLemmas
+pub mod AsmNoteLemmas
 pub mod OutLemmas
 pub mod BootCallLemmas
 pub mod CheckLemmas
@@ -13,3 +20,8 @@ pub mod Accepted
 pub mod NameLemmas
 pub mod ByStatus
 pub mod DebugLaws
+pub mod Lists
+pub mod CallFiles
+pub mod CallVerbs
+pub mod Calls
+pub mod CommandLists

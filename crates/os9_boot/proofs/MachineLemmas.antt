@@ -9,28 +9,28 @@ use Rattle.std.proofs.lemmas.List.Elements.{All-cons, All-head, All-tail}
 use Rattle.os9_outer.specs.Host.{Files, IfObserved}
 use Rattle.os9_outer.specs.TerminalState.{TerminalState}
 use Rattle.file_drives.specs.Drives.{drive_states}
-use Rattle.event_rules.specs.declared.ends.BootFault.{BootFault}
-use Rattle.event_rules.specs.declared.ends.BootFault.TheVariants.{OutOfMemory, BadModule as BadModuleFault, NoFirst as NoFirstFault, TooLarge as TooLargeFault}
+use Rattle.machine_model.specs.declared.ends.BootFault.{BootFault}
+use Rattle.machine_model.specs.declared.ends.BootFault.TheVariants.{OutOfMemory, BadModule as BadModuleFault, NoFirst as NoFirstFault, TooLarge as TooLargeFault}
 use Rattle.os9_kernel.specs.Outside.{Outside}
 use Rattle.machine_model.specs.State.{State}
-use Rattle.boot_images.specs.ImageWrites.{FailsAt}
-use Rattle.boot_images.specs.Images.{WritesAll, WritesUpTo}
-use Rattle.boot_images.specs.Outcome.{EndsWithImages, HasOutcome, RunsImages, with_images_in}
+use Rattle.boot_run.specs.ImageWrites.{FailsAt}
+use Rattle.boot_run.specs.Images.{WritesAll, WritesUpTo}
+use Rattle.boot_run.specs.Outcome.{EndsWithImages, HasOutcome, RunsImages, with_images_in}
 use Rattle.boot_run.specs.Console.{IsObserved}
 use Rattle.boot_run.specs.Machine.{IsUnrun, RunsFirst, Setup}
 use Rattle.boot_run.specs.World.{World, FailsToWrite, FailsToWriteFile, HasNoFault}
 use Rattle.boot_run.specs.declared.machine.RunEnd.{RunEnd}
 use Rattle.boot_run.specs.declared.machine.RunEnd.TheVariants as Run
-use Rattle.command_files.specs.declared.status.End.{End}
-use Rattle.command_files.specs.declared.status.End.TheVariants.{Ended, Living, CannotRead, CannotWrite, CannotWriteImage, NoMemory, BadImage, BadText, BadBounds, DriveFailed, CannotWriteFile, Refused, BadSource, TerminalFailed}
+use Rattle.boot_run.specs.declared.status.End.{End}
+use Rattle.boot_run.specs.declared.status.End.TheVariants.{Ended, Living, CannotRead, CannotWrite, CannotWriteImage, NoMemory, BadImage, BadText, BadBounds, DriveFailed, CannotWriteFile, Refused, BadSource, TerminalFailed}
 use Rattle.os9_boot.specs.Boots.{IsUndone, MachineComesTo, RunsToEnd, RunsUnwritten}
-use Rattle.command_files.specs.Left.{ChangesOnly}
+use Rattle.boot_run.specs.Left.{ChangesOnly}
 use Rattle.os9_boot.specs.BootLeft.{BootLeavesFiles, LeavesDevices}
-use Rattle.command_files.specs.End.{boot_end}
+use Rattle.boot_run.specs.End.{boot_end}
 use Rattle.os9_boot.specs.History.{Outputs, no_outputs, output_bytes, output_names}
 use Rattle.os9_boot.specs.Written.{EndsBoot, StopsAt, WritesBack, end_unwritten, ends_run}
 use Rattle.os9_boot.proofs.BootCallLemmas.{kept-counts, still-silent, still-undone}
-use Rattle.command_files.proofs.ChangeLemmas.{all-change, first-change, same-changes}
+use Rattle.boot_run.proofs.ChangeLemmas.{all-change, first-change, same-changes}
 
 -- the host failed as the end of a machine's run says, which writes these files
 abbrev pub RunFails : Outputs → End → World → World → Type 0

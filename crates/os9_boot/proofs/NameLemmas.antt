@@ -7,22 +7,22 @@ use Rattle.os9_words.specs.Notes.{HasRead, HasWritten, Notes, having_read, havin
 use Rattle.os9_words.specs.declared.command.Command.{Command}
 use Rattle.os9_words.specs.declared.command.Command.TheVariants.{Run as RunCommand, Boot as BootCommand, Check as CheckCommand, Stress as StressCommand, Vol as VolCommand, Asm as AsmCommand, Debug as DebugCommand}
 use Rattle.os9_outer.specs.Host.{IfObserved}
-use Rattle.boot_images.specs.Images.{WritesAll}
+use Rattle.boot_run.specs.Images.{WritesAll}
 use Rattle.boot_run.specs.World.{World, HasNoFault}
 use Rattle.boot_run.specs.declared.machine.RunEnd.{RunEnd}
 use Rattle.boot_run.specs.declared.machine.RunEnd.TheVariants as Run
-use Rattle.event_rules.specs.declared.ends.BootFault.TheVariants.{OutOfMemory, BadModule as BadModuleFault, NoFirst as NoFirstFault, TooLarge as TooLargeFault}
+use Rattle.machine_model.specs.declared.ends.BootFault.TheVariants.{OutOfMemory, BadModule as BadModuleFault, NoFirst as NoFirstFault, TooLarge as TooLargeFault}
 use Rattle.stress_run.specs.declared.stress.StressEnd.{StressEnd}
 use Rattle.stress_run.specs.declared.stress.StressEnd.TheVariants as Stress
-use Rattle.command_files.specs.declared.status.End.{End}
-use Rattle.command_files.specs.declared.status.End.TheVariants.{Ended, Living, CannotRead, CannotWrite, CannotWriteFile, CannotWriteImage, NoMemory, BadImage, BadText, BadBounds}
-use Rattle.command_files.specs.declared.status.Input.{Input}
-use Rattle.command_files.specs.declared.status.Input.TheVariants.{Script, Slices}
-use Rattle.command_files.specs.Reading.{RefusesTexts}
-use Rattle.command_files.specs.Stops.{NotesStop}
-use Rattle.command_files.proofs.ReadLemmas.{read-none, written-none}
+use Rattle.boot_run.specs.declared.status.End.{End}
+use Rattle.boot_run.specs.declared.status.End.TheVariants.{Ended, Living, CannotRead, CannotWrite, CannotWriteFile, CannotWriteImage, NoMemory, BadImage, BadText, BadBounds}
+use Rattle.boot_run.specs.declared.status.Input.{Input}
+use Rattle.boot_run.specs.declared.status.Input.TheVariants.{Script, Slices}
+use Rattle.boot_run.specs.Reading.{RefusesTexts}
+use Rattle.boot_run.specs.Stops.{NotesStop}
+use Rattle.boot_run.proofs.ReadLemmas.{read-none, written-none}
 use Rattle.os9_boot.specs.Asm.{asm_outputs}
-use Rattle.vol_command.specs.Vol.{vol_outputs}
+use Rattle.os9_boot.specs.Vol.{vol_outputs}
 use Rattle.os9_boot.specs.Check.{PrintsAs, PrintsLine}
 use Rattle.os9_boot.specs.End.{stress_end}
 use Rattle.os9_boot.specs.FileNames.{BootWrites}

@@ -4,10 +4,10 @@ use Rattle.os9_outer.specs.declared.host.HostFault.TheVariants.{Failed, OutOfMem
 use Rattle.os9_words.specs.Notes.{HasWritten, Notes}
 use Rattle.os9_words.specs.declared.asm_words.AsmWords.{AsmWords}
 use Rattle.boot_run.specs.World.{World}
-use Rattle.command_files.specs.Output.{WritesOutput}
-use Rattle.command_files.specs.declared.status.End.TheVariants.{Ended, CannotWriteFile, NoMemory}
+use Rattle.boot_run.specs.Output.{WritesOutput}
+use Rattle.boot_run.specs.declared.status.End.TheVariants.{Ended, CannotWriteFile, NoMemory}
 use Rattle.os9_boot.specs.Asm.{asm_outputs}
-use Rattle.os9_boot.specs.Steps.{NotesOut, WritesOut}
+use Rattle.os9_boot.specs.AsmSteps.{NotesOut, WritesOut}
 
 module _ (asm : AsmWords) (bytes : List ℕ) (before after : World) where
   pub wrote-whole : (value : Unit {0}) → WritesOutput {Value = Unit {0}} asm.out bytes (Ok value) before after → WritesOut asm bytes Ended before after

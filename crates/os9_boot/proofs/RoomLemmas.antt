@@ -11,8 +11,8 @@ use Rattle.os9_words.specs.declared.command.Command.{Command}
 use Rattle.os9_words.specs.declared.command.Command.TheVariants.{Run, Boot, Check, Stress, Vol, Asm, Debug}
 use Rattle.os9_words.specs.Command.{command_of, most_images}
 use Rattle.os9_words.proofs.CommandLemmas.{is-complete}
-use Rattle.boot_images.specs.Drives.{HaveRoom, IsEmpty}
-use Rattle.boot_images.specs.Ready.{AreFree}
+use Rattle.boot_run.specs.Drives.{HaveRoom, IsEmpty}
+use Rattle.boot_run.specs.Ready.{AreFree}
 use Rattle.os9_kernel.specs.Outside.{Outside}
 use Rattle.os9_boot.specs.Devices.{drives_for}
 

@@ -9,20 +9,20 @@ use Rattle.std.proofs.lemmas.Option.{none-some}
 use Rattle.lock_model.specs.declared.history.Entry.{Entry}
 use Rattle.os9_words.specs.declared.command.Command.TheVariants.{Run as RunCommand}
 use Rattle.os9_words.specs.declared.command.RunWords.{RunWords}
-use Rattle.boot_images.specs.Outcome.{RunsImages}
+use Rattle.boot_run.specs.Outcome.{RunsImages}
 use Rattle.boot_run.specs.Machine.{Setup}
 use Rattle.boot_run.specs.World.{World}
 use Rattle.boot_run.specs.declared.machine.RunEnd.{RunEnd}
-use Rattle.command_files.specs.declared.files.RunFiles.{RunFiles}
-use Rattle.command_files.specs.declared.status.End.{End}
-use Rattle.command_files.specs.declared.status.End.TheVariants.{CannotRead, CannotWrite, CannotWriteImage, NoMemory, BadImage, BadText, BadBounds, DriveFailed, CannotWriteFile, Refused, BadSource, TerminalFailed}
-use Rattle.command_files.specs.declared.status.Input.TheVariants.{Script as ScriptInput, Slices as SlicesInput}
+use Rattle.boot_run.specs.declared.files.RunFiles.{RunFiles}
+use Rattle.boot_run.specs.declared.status.End.{End}
+use Rattle.boot_run.specs.declared.status.End.TheVariants.{CannotRead, CannotWrite, CannotWriteImage, NoMemory, BadImage, BadText, BadBounds, DriveFailed, CannotWriteFile, Refused, BadSource, TerminalFailed}
+use Rattle.boot_run.specs.declared.status.Input.TheVariants.{Script as ScriptInput, Slices as SlicesInput}
 use Rattle.os9_boot.specs.Boots.{RunComesTo}
 use Rattle.os9_boot.specs.Commands.{CommandCall}
 use Rattle.os9_boot.specs.BootLeft.{LeavesDevices, RunMayEnd}
 use Rattle.os9_boot.specs.Host.{FailsAsTold}
-use Rattle.command_files.specs.Reading.{HasRunFiles, RefusesTexts}
-use Rattle.command_files.specs.Setup.{SetsUpRun}
+use Rattle.boot_run.specs.Reading.{HasRunFiles, RefusesTexts}
+use Rattle.boot_run.specs.Setup.{SetsUpRun}
 use Rattle.os9_boot.specs.History.{no_outputs, output_bytes}
 use Rattle.os9_boot.specs.Written.{ends_run}
 use Rattle.os9_boot.proofs.BootCallLemmas.{kept-counts, out-of-memory, still-silent, unchanged}

@@ -11,15 +11,15 @@ use Rattle.lock_model.specs.declared.history.Entry.{Entry}
 use Rattle.os9_outer.specs.Host.{Files, IfObserved, KeepsOrHoldsPrefix}
 use Rattle.os9_outer.specs.declared.host.HostFault.{HostFault}
 use Rattle.os9_outer.specs.declared.host.HostFault.TheVariants.{Failed}
-use Rattle.boot_images.specs.ImageWrites.{FailsAt, WritesImages}
-use Rattle.boot_images.specs.Images.{WritesAll, WritesUpTo, with_file, with_images}
-use Rattle.boot_images.specs.declared.write.WriteFault.TheVariants.{Image, OutOfMemory}
+use Rattle.boot_run.specs.ImageWrites.{FailsAt, WritesImages}
+use Rattle.boot_run.specs.Images.{WritesAll, WritesUpTo, with_file, with_images}
+use Rattle.boot_run.specs.declared.write.WriteFault.TheVariants.{Image, OutOfMemory}
 use Rattle.boot_run.specs.World.{World, FailsToWriteFile, HasNoFault}
 use Rattle.boot_run.specs.declared.machine.RunEnd.{RunEnd}
 use Rattle.boot_run.specs.declared.machine.RunEnd.TheVariants as Run
-use Rattle.command_files.specs.Output.{WritesOutput}
-use Rattle.command_files.specs.declared.status.End.{End}
-use Rattle.command_files.specs.declared.status.End.TheVariants.{CannotWriteFile, CannotWriteImage, NoMemory}
+use Rattle.boot_run.specs.Output.{WritesOutput}
+use Rattle.boot_run.specs.declared.status.End.{End}
+use Rattle.boot_run.specs.declared.status.End.TheVariants.{CannotWriteFile, CannotWriteImage, NoMemory}
 use Rattle.os9_boot.specs.History.{Outputs, output_bytes}
 use Rattle.os9_boot.specs.Written.{EndsBoot, WritesBack, WritesHistory, end_unwritten, ends_run}
 

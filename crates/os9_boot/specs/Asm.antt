@@ -2,14 +2,14 @@
 use Rattle.std.specs.Prelude.{◌≡◌, ◌⊎◌, ℕ, ⊤, Option, Some, None, Ok, Err, List, [], ◌∷◌}
 use Rattle.os9_outer.specs.Host.{Files, file_contents, IfObserved}
 use Rattle.os9_words.specs.declared.asm_words.AsmWords.{AsmWords}
-use Rattle.boot_images.specs.Images.{WritesAll, WritesUpTo}
+use Rattle.boot_run.specs.Images.{WritesAll, WritesUpTo}
 use Rattle.boot_run.specs.World.{World}
 use Rattle.asm_model.specs.Placement.{fault_on}
 use Rattle.asm6809.specs.Assembled.{Assembled, outcome_of}
-use Rattle.command_files.specs.declared.status.End.{End}
-use Rattle.command_files.specs.declared.status.End.TheVariants.{Ended, CannotWriteFile, NoMemory, BadSource}
-use Rattle.command_files.specs.declared.status.Input.{Input}
-use Rattle.command_files.specs.declared.status.Input.TheVariants.{File, Source}
+use Rattle.boot_run.specs.declared.status.End.{End}
+use Rattle.boot_run.specs.declared.status.End.TheVariants.{Ended, CannotWriteFile, NoMemory, BadSource}
+use Rattle.boot_run.specs.declared.status.Input.{Input}
+use Rattle.boot_run.specs.declared.status.Input.TheVariants.{File, Source}
 
 -- ---- the words
 

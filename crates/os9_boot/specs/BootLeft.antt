@@ -3,11 +3,11 @@ use Rattle.std.specs.Prelude.{◌≡◌, ℕ, ⊤, IsSome, List}
 use Rattle.os9_outer.specs.Host.{IfObserved}
 use Rattle.boot_run.specs.Machine.{FailsToMount}
 use Rattle.boot_run.specs.World.{World}
-use Rattle.command_files.specs.Left.{ChangesOnly, IsSilent}
-use Rattle.command_files.specs.declared.status.End.{End}
-use Rattle.command_files.specs.declared.status.End.TheVariants.{Ended, Living, CannotRead, CannotWrite, CannotWriteImage, NoMemory, BadImage, BadText, BadBounds, DriveFailed, CannotWriteFile, Refused, BadSource, TerminalFailed}
-use Rattle.command_files.specs.declared.status.Input.{Input}
-use Rattle.command_files.specs.declared.status.Input.TheVariants.{Script, Slices}
+use Rattle.boot_run.specs.Left.{ChangesOnly, IsSilent}
+use Rattle.boot_run.specs.declared.status.End.{End}
+use Rattle.boot_run.specs.declared.status.End.TheVariants.{Ended, Living, CannotRead, CannotWrite, CannotWriteImage, NoMemory, BadImage, BadText, BadBounds, DriveFailed, CannotWriteFile, Refused, BadSource, TerminalFailed}
+use Rattle.boot_run.specs.declared.status.Input.{Input}
+use Rattle.boot_run.specs.declared.status.Input.TheVariants.{Script, Slices}
 use Rattle.os9_boot.specs.History.{Outputs}
 
 -- ---- how it may end

@@ -5,24 +5,24 @@ use Rattle.os9_outer.specs.Host.{Files, file_contents, IfObserved}
 use Rattle.os9_outer.specs.Stream.{stream_with}
 use Rattle.script_text.specs.declared.script.ScriptKey.{ScriptKey}
 use Rattle.script_text.specs.Script.{keys_of}
-use Rattle.event_rules.specs.declared.ends.BootFault.{BootFault}
-use Rattle.event_rules.specs.Start.{Refuses}
+use Rattle.machine_model.specs.declared.ends.BootFault.{BootFault}
+use Rattle.machine_model.specs.ProcessStart.{Refuses}
 use Rattle.machine_model.specs.State.{State, has_living}
 use Rattle.os9_words.specs.declared.command.RunWords.{RunWords}
-use Rattle.boot_images.specs.BootFile.{IsFirstFault}
-use Rattle.boot_images.specs.Images.{WritesAll, WritesUpTo, images_of}
-use Rattle.boot_images.specs.Outcome.{HasOutcome, StopsWithImages}
+use Rattle.boot_run.specs.BootFile.{IsFirstFault}
+use Rattle.boot_run.specs.Images.{WritesAll, WritesUpTo, images_of}
+use Rattle.boot_run.specs.Outcome.{HasOutcome, StopsWithImages}
 use Rattle.boot_run.specs.Console.{IsObserved}
 use Rattle.boot_run.specs.Machine.{IsUnrun, Setup}
 use Rattle.boot_run.specs.World.{World}
-use Rattle.command_files.specs.declared.status.End.{End}
-use Rattle.command_files.specs.declared.status.End.TheVariants.{Ended, Living, CannotRead, CannotWrite, CannotWriteFile, CannotWriteImage, NoMemory, BadImage, BadText, BadBounds, DriveFailed}
-use Rattle.command_files.specs.declared.status.Input.{Input}
-use Rattle.command_files.specs.declared.status.Input.TheVariants.{Script}
-use Rattle.command_files.specs.End.{boot_end}
+use Rattle.boot_run.specs.declared.status.End.{End}
+use Rattle.boot_run.specs.declared.status.End.TheVariants.{Ended, Living, CannotRead, CannotWrite, CannotWriteFile, CannotWriteImage, NoMemory, BadImage, BadText, BadBounds, DriveFailed}
+use Rattle.boot_run.specs.declared.status.Input.{Input}
+use Rattle.boot_run.specs.declared.status.Input.TheVariants.{Script}
+use Rattle.boot_run.specs.End.{boot_end}
 use Rattle.os9_boot.specs.Images.{LackBootFile}
-use Rattle.command_files.specs.Reading.{BreaksSlices}
-use Rattle.command_files.specs.Setup.{HaveTexts, SetsUpBoot, SetsUpRun, script_of}
+use Rattle.boot_run.specs.Reading.{BreaksSlices}
+use Rattle.boot_run.specs.Setup.{HaveTexts, SetsUpBoot, SetsUpRun, script_of}
 use Rattle.os9_boot.specs.History.{Outputs, no_outputs, output_bytes, output_names, outputs_of}
 
 -- ---- the outcome of a machine with a setup

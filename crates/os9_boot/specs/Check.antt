@@ -9,8 +9,8 @@ use Rattle.rbf_model.specs.Faults.{IsFault}
 use Rattle.rbf_check.specs.declared.tree.Tree.{Tree}
 use Rattle.rbf_check.specs.Tree.{is_directory_node}
 use Rattle.boot_run.specs.World.{World, FailsToWrite, HasNoFault}
-use Rattle.command_files.specs.declared.status.End.{End}
-use Rattle.command_files.specs.declared.status.End.TheVariants.{Ended, CannotWrite, NoMemory, BadImage}
+use Rattle.boot_run.specs.declared.status.End.{End}
+use Rattle.boot_run.specs.declared.status.End.TheVariants.{Ended, CannotWrite, NoMemory, BadImage}
 
 -- the line of the counts of a volume
 abbrev pub counts_of : Geometry → DiskVolume → List ℕ

@@ -1,7 +1,7 @@
 -- What a command does, by how it ended.
 use Rattle.os9_words.specs.declared.command.Command.{Command}
 use Rattle.boot_run.specs.World.{World}
-use Rattle.command_files.specs.declared.status.End.{End}
+use Rattle.boot_run.specs.declared.status.End.{End}
 use Rattle.os9_boot.specs.Host.{FailsAsTold}
 use Rattle.os9_boot.specs.Meaning.{meaning}
 

@@ -4,9 +4,9 @@ use Rattle.os9_base.specs.Count.{Rose}
 use Rattle.file_drives.specs.Drives.{drive_states}
 use Rattle.file_rules.specs.Files.{drive_at}
 use Rattle.boot_run.specs.World.{World}
-use Rattle.command_files.specs.End.{status_number}
-use Rattle.command_files.specs.declared.status.End.{End}
-use Rattle.command_files.specs.declared.status.End.TheVariants.{CannotRead, CannotWrite, CannotWriteImage, CannotWriteFile, DriveFailed}
+use Rattle.boot_run.specs.End.{status_number}
+use Rattle.boot_run.specs.declared.status.End.{End}
+use Rattle.boot_run.specs.declared.status.End.TheVariants.{CannotRead, CannotWrite, CannotWriteImage, CannotWriteFile, DriveFailed}
 
 -- neither the host's nor a drive's count of faults rose
 pub record NoneRose (before after : World) : Type 0 where

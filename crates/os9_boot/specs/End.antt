@@ -1,7 +1,7 @@
 -- The end of a command, by the end of its stress.
 use Rattle.stress_run.specs.declared.stress.StressEnd.{StressEnd}
-use Rattle.command_files.specs.declared.status.End.{End}
-use Rattle.command_files.specs.declared.status.End.TheVariants.{Ended, Living, CannotWrite, NoMemory, DriveFailed}
+use Rattle.boot_run.specs.declared.status.End.{End}
+use Rattle.boot_run.specs.declared.status.End.TheVariants.{Ended, Living, CannotWrite, NoMemory, DriveFailed}
 
 abbrev pub stress_end : StressEnd → End
 stress_end StressEnd.Ended = Ended

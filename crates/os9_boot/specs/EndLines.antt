@@ -2,10 +2,10 @@
 use Rattle.std.specs.Prelude.{ℕ, List, [], unwrap_or}
 use Rattle.std.specs.Option.{option_map_or}
 use Rattle.os9_words.specs.declared.command.Command.{Command}
-use Rattle.command_files.specs.End.{named_by}
-use Rattle.command_files.specs.EndLines.{end_line as line_with}
-use Rattle.command_files.specs.declared.status.Input.{Input}
-use Rattle.command_files.specs.declared.status.End.{End}
+use Rattle.boot_run.specs.End.{named_by}
+use Rattle.boot_run.specs.EndLines.{end_line as line_with}
+use Rattle.boot_run.specs.declared.status.Input.{Input}
+use Rattle.boot_run.specs.declared.status.End.{End}
 use Rattle.os9_boot.specs.Meaning.{meaning}
 
 -- this name as it is shown: nothing if there is none

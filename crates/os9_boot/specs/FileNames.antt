@@ -1,8 +1,8 @@
 -- The names of the files that a command writes (this project's own).
 use Rattle.std.specs.Prelude.{◌≡◌, ℕ, suc, List, [], take}
-use Rattle.command_files.specs.FileNames.{IsFront}
-use Rattle.command_files.specs.declared.status.End.{End}
-use Rattle.command_files.specs.declared.status.End.TheVariants.{Ended, Living, CannotWriteFile, CannotWriteImage, NoMemory}
+use Rattle.boot_run.specs.FileNames.{IsFront}
+use Rattle.boot_run.specs.declared.status.End.{End}
+use Rattle.boot_run.specs.declared.status.End.TheVariants.{Ended, Living, CannotWriteFile, CannotWriteImage, NoMemory}
 use Rattle.os9_boot.specs.History.{Outputs, output_names}
 
 -- a boot with this end has written these of its images and its history: all after a run to its end, up to the file that

@@ -2,9 +2,9 @@
 use Rattle.std.specs.Prelude.{ℕ, ◌⊎◌, List, [], ◌∷◌, Result, Ok, Err}
 use Rattle.os9_words.specs.declared.command.Command.{Command}
 use Rattle.os9_words.specs.Notes.{HasWritten, Notes}
-use Rattle.command_files.specs.Noted.{NotesFiles as NotesNamed, Reads as ReadsNamed}
-use Rattle.command_files.specs.declared.status.End.{End}
-use Rattle.command_files.specs.declared.status.End.TheVariants.{NoMemory}
+use Rattle.boot_run.specs.Noted.{NotesFiles as NotesNamed, Reads as ReadsNamed}
+use Rattle.boot_run.specs.declared.status.End.{End}
+use Rattle.boot_run.specs.declared.status.End.TheVariants.{NoMemory}
 use Rattle.os9_boot.specs.FileNames.{BootWrites}
 use Rattle.os9_boot.specs.History.{Outputs}
 use Rattle.os9_boot.specs.Meaning.{meaning}

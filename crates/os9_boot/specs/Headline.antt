@@ -4,19 +4,19 @@ use Rattle.os9_outer.specs.Host.{Files, IfObserved}
 use Rattle.os9_outer.specs.Stream.{stream_with}
 use Rattle.os9_words.specs.Notes.{Notes}
 use Rattle.os9_words.specs.declared.command.RunWords.{RunWords}
-use Rattle.event_rules.specs.Start.{Refuses}
-use Rattle.event_rules.specs.declared.ends.BootFault.{BootFault}
+use Rattle.machine_model.specs.ProcessStart.{Refuses}
+use Rattle.machine_model.specs.declared.ends.BootFault.{BootFault}
 use Rattle.machine_model.specs.Run.{Run, status_of}
 use Rattle.machine_model.specs.State.{State}
 use Rattle.file_drives.specs.Drives.{drive_states}
 use Rattle.boot_run.specs.Machine.{FailsToMount, Setup, StartsLoaded}
 use Rattle.boot_run.specs.World.{World}
-use Rattle.boot_images.specs.Images.{WritesAll}
-use Rattle.boot_images.specs.Outcome.{AreImagesOf, KeepsUnchanged}
-use Rattle.command_files.specs.declared.status.End.TheVariants.{Ended, Living, CannotWrite, NoMemory, DriveFailed}
-use Rattle.command_files.specs.End.{status_number}
-use Rattle.command_files.specs.FileNames.{IsFront}
-use Rattle.command_files.specs.Setup.{SetsUpBoot}
+use Rattle.boot_run.specs.Images.{WritesAll}
+use Rattle.boot_run.specs.Outcome.{AreImagesOf, KeepsUnchanged}
+use Rattle.boot_run.specs.declared.status.End.TheVariants.{Ended, Living, CannotWrite, NoMemory, DriveFailed}
+use Rattle.boot_run.specs.End.{status_number}
+use Rattle.boot_run.specs.FileNames.{IsFront}
+use Rattle.boot_run.specs.Setup.{SetsUpBoot}
 use Rattle.os9_boot.specs.Boots.{BootComesTo}
 use Rattle.os9_boot.specs.History.{output_bytes, output_names, outputs_of}
 

@@ -1,8 +1,8 @@
 -- How the host failed in a call of the program (this project's own).
 use Rattle.os9_words.specs.declared.command.Command.{Command}
 use Rattle.boot_run.specs.World.{World}
-use Rattle.command_files.specs.Fails.{FailsAsTold as FailsByName}
-use Rattle.command_files.specs.declared.status.End.{End}
+use Rattle.boot_run.specs.Fails.{FailsAsTold as FailsByName}
+use Rattle.boot_run.specs.declared.status.End.{End}
 use Rattle.os9_boot.specs.Meaning.{meaning}
 
 -- the host failed as the end of the command says, and at every other end it did not fail

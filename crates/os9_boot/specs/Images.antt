@@ -1,9 +1,9 @@
 -- Why images end a boot before its machine is made.
 use Rattle.std.specs.Prelude.{⊤, ℕ, List, All}
-use Rattle.boot_images.specs.BootFile.{IsFirstFault, IsVolume, LacksBootFile}
-use Rattle.boot_images.specs.declared.boot_file.BootFileFault.TheVariants.{Bounds}
-use Rattle.command_files.specs.declared.status.End.{End}
-use Rattle.command_files.specs.declared.status.End.TheVariants.{BadBounds, BadImage, NoMemory}
+use Rattle.boot_run.specs.BootFile.{IsFirstFault, IsVolume, LacksBootFile}
+use Rattle.boot_run.specs.declared.boot_file.BootFileFault.TheVariants.{Bounds}
+use Rattle.boot_run.specs.declared.status.End.{End}
+use Rattle.boot_run.specs.declared.status.End.TheVariants.{BadBounds, BadImage, NoMemory}
 
 -- these are all well formed, and the first does not have a boot file
 abbrev pub LackBootFile : List (List ℕ) → Type 0

@@ -1,7 +1,11 @@
+pub mod VolCall
+pub mod VolLeft
+pub mod VolSteps
+pub mod Vol
 pub mod Asm
-pub mod Call
-pub mod Left
-pub mod Steps
+pub mod AsmCall
+pub mod AsmLeft
+pub mod AsmSteps
 pub mod Boots
 pub mod Check
 pub mod Commands
@@ -19,3 +23,5 @@ pub mod BootLeft
 pub mod Meaning
 pub mod TopCall
 pub mod Written
+pub mod NewDisk
+pub mod Turns

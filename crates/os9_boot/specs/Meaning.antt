@@ -11,19 +11,19 @@ use Rattle.boot_run.specs.Console.{IsObserved}
 use Rattle.boot_run.specs.World.{World}
 use Rattle.stress_run.specs.Stress.{StressComesTo}
 use Rattle.stress_run.specs.declared.stress.StressEnd.{StressEnd}
-use Rattle.command_files.specs.declared.status.End.{End}
-use Rattle.command_files.specs.declared.status.Input.{Input}
+use Rattle.boot_run.specs.declared.status.End.{End}
+use Rattle.boot_run.specs.declared.status.Input.{Input}
 use Rattle.os9_boot.specs.Asm.{AsmComesTo, asm_file_name, asm_inputs}
-use Rattle.os9_boot.specs.Left.{AsmLeaves, AsmLeavesFiles, AsmMayEnd, AsmWrites}
-use Rattle.vol_command.specs.Left.{VolLeaves, VolLeavesFiles, VolMayEnd, VolWrites}
-use Rattle.vol_command.specs.Vol.{VolComesTo, vol_file_name, vol_inputs}
+use Rattle.os9_boot.specs.AsmLeft.{AsmLeaves, AsmLeavesFiles, AsmMayEnd, AsmWrites}
+use Rattle.os9_boot.specs.VolLeft.{VolLeaves, VolLeavesFiles, VolMayEnd, VolWrites}
+use Rattle.os9_boot.specs.Vol.{VolComesTo, vol_file_name, vol_inputs}
 use Rattle.os9_boot.specs.Boots.{BootComesTo, RunComesTo}
 use Rattle.os9_debug.specs.Debug.{DebugComesTo, debug_file_name, debug_inputs}
 use Rattle.os9_debug.specs.Left.{DebugLeaves, DebugLeavesFiles, DebugMayEnd, DebugWrites}
 use Rattle.os9_boot.specs.Check.{CheckComesTo}
-use Rattle.command_files.specs.End.{run_file_name}
+use Rattle.boot_run.specs.End.{run_file_name}
 use Rattle.os9_boot.specs.End.{stress_end}
-use Rattle.command_files.specs.FileNames.{run_inputs}
+use Rattle.boot_run.specs.FileNames.{run_inputs}
 use Rattle.os9_boot.specs.FileNames.{BootWrites, WritesNone}
 use Rattle.os9_boot.specs.History.{output_names, outputs_of}
 use Rattle.os9_boot.specs.BootLeft.{BootLeavesFiles, BootMayEnd, CheckLeaves, CheckMayEnd, KeepsFiles, LeavesDevices, RunMayEnd, StressMayEnd}

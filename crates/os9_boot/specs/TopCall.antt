@@ -7,10 +7,10 @@ use Rattle.os9_words.specs.Command.{command_of}
 use Rattle.os9_words.specs.Lines.{words_line, no_memory_line}
 use Rattle.os9_words.specs.Notes.{Notes}
 use Rattle.boot_run.specs.World.{World}
-use Rattle.command_files.specs.declared.status.End.{End}
-use Rattle.command_files.specs.declared.status.End.TheVariants.{NoMemory}
+use Rattle.boot_run.specs.declared.status.End.{End}
+use Rattle.boot_run.specs.declared.status.End.TheVariants.{NoMemory}
 use Rattle.os9_boot.specs.Commands.{CommandCall}
-use Rattle.command_files.specs.End.{status_number}
+use Rattle.boot_run.specs.End.{status_number}
 use Rattle.os9_boot.specs.EndLines.{end_line}
 use Rattle.os9_boot.specs.FilesNoted.{NotesFiles}
 

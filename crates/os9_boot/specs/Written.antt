@@ -3,14 +3,14 @@ use Rattle.std.specs.Prelude.{◌≡◌, ◌⊎◌, ℕ, ◌==◌, List, [], ◌
 use Rattle.lock_model.specs.Lines.{history_text}
 use Rattle.lock_model.specs.declared.history.Entry.{Entry}
 use Rattle.os9_outer.specs.Host.{IfObserved}
-use Rattle.boot_images.specs.ImageWrites.{FailsAt}
-use Rattle.boot_images.specs.Images.{WritesAll, WritesUpTo}
+use Rattle.boot_run.specs.ImageWrites.{FailsAt}
+use Rattle.boot_run.specs.Images.{WritesAll, WritesUpTo}
 use Rattle.boot_run.specs.World.{World, FailsToWriteFile, HasNoFault}
 use Rattle.boot_run.specs.declared.machine.RunEnd.{RunEnd}
 use Rattle.boot_run.specs.declared.machine.RunEnd.TheVariants as Run
-use Rattle.command_files.specs.declared.status.End.{End}
-use Rattle.command_files.specs.declared.status.End.TheVariants.{Ended, Living, CannotWrite, CannotWriteFile, CannotWriteImage, NoMemory, DriveFailed}
-use Rattle.command_files.specs.End.{boot_end}
+use Rattle.boot_run.specs.declared.status.End.{End}
+use Rattle.boot_run.specs.declared.status.End.TheVariants.{Ended, Living, CannotWrite, CannotWriteFile, CannotWriteImage, NoMemory, DriveFailed}
+use Rattle.boot_run.specs.End.{boot_end}
 use Rattle.os9_boot.specs.History.{Outputs, output_names}
 
 -- if its images and its history are written, or there are none

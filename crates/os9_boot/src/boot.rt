@@ -1,7 +1,7 @@
 //! `boot` and `run`: a machine is started on what files hold.
 
 ghost use Rattle.std.specs.Prelude.{◌≡◌, length};
-ghost use Rattle.boot_images.specs.Ready.{AreEmptyAgain, AreFree};
+ghost use Rattle.boot_run.specs.Ready.{AreEmptyAgain, AreFree};
 ghost use Rattle.boot_run.specs.World.{world_of};
 ghost use Rattle.os9_kernel.specs.Outside.{outside};
 ghost use Rattle.file_drives.specs.Drives.{drives_seen};
@@ -12,11 +12,11 @@ ghost use Rattle.os9_words.specs.Command.{IsCommand};
 
 use crate::start::{accept_images, end_of_run};
 use crate::write::write_back;
-use boot_images::images::Images;
-use boot_images::machine::{Start, run_images};
-use command_files::files::{read_boot_files, read_files};
-use command_files::status::End;
-use command_files::texts::read_texts;
+use boot_run::files::{read_boot_files, read_files};
+use boot_run::imaged::{Start, run_images};
+use boot_run::images::Images;
+use boot_run::status::End;
+use boot_run::texts::read_texts;
 use device_table::devices::Devices;
 use os9_outer::drive::BlockDriver;
 use os9_outer::host::Host;

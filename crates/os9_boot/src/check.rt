@@ -6,8 +6,8 @@ ghost use Rattle.os9_boot.specs.FilesNoted.{NotesFiles};
 ghost use Rattle.os9_words.specs.Notes.{notes_of};
 ghost use Rattle.boot_run.specs.World.{world_of};
 
-use command_files::input::read_input;
-use command_files::status::{End, Input};
+use boot_run::input::read_input;
+use boot_run::status::{End, Input};
 use os9_outer::host::{Host, HostFault};
 use os9_words::command::Command;
 use os9_words::counts::{Counts, put_counts};

@@ -1,7 +1,7 @@
 //! Drives for a call of the program.
 
 ghost use Rattle.std.specs.Prelude.{◌≡◌, ◌+◌, All, None, OnOk, length};
-ghost use Rattle.boot_images.specs.Drives.{IsEmpty};
+ghost use Rattle.boot_run.specs.Drives.{IsEmpty};
 ghost use Rattle.file_drives.specs.Drives.{drive_views};
 
 use os9_outer::drive::BlockDriver;

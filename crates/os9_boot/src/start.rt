@@ -1,14 +1,14 @@
 //! What a machine is started with, from files that were read.
 
 ghost use Rattle.std.specs.Prelude.{◌≡◌, ◌≤◌, All, IfErr, IfOk, OnOk, length};
-ghost use Rattle.boot_images.specs.BootFile.{IsBootFile, IsVolume};
+ghost use Rattle.boot_run.specs.BootFile.{IsBootFile, IsVolume};
 ghost use Rattle.os9_boot.specs.Images.{RefusesImages};
 ghost use Rattle.os9_boot.specs.Written.{ends_run};
 
-use boot_images::boot_file::{BootFileFault, ImagesFault, boot_file, check_images};
-use boot_images::images::Images;
 use boot_run::RunEnd;
-use command_files::status::End;
+use boot_run::boot_file::{BootFileFault, ImagesFault, boot_file, check_images};
+use boot_run::images::Images;
+use boot_run::status::End;
 use std::alloc::Global;
 
 /// Checks the images, and reads the boot file of the first.

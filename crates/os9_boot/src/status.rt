@@ -5,15 +5,14 @@ ghost use Rattle.os9_words.specs.Streams.{WritesErr};
 ghost use Rattle.os9_boot.specs.End.{stress_end};
 ghost use Rattle.os9_boot.specs.EndLines.{end_line, end_name, shown_name};
 
-use crate::asm_name;
-use command_files::names::name_in;
-use command_files::report;
-use command_files::status::{End, Input};
+use crate::{asm_name, vol_name};
+use boot_run::names::name_in;
+use boot_run::report;
+use boot_run::status::{End, Input};
 use os9_debug::debug_name;
 use os9_outer::host::{Host, HostFault};
 use os9_words::command::Command;
 use stress_run::StressEnd;
-use vol_command::vol_name;
 
 /// The end of a command, by the end of its stress.
 pub fn end_of_stress(end: StressEnd) -> End

@@ -1,7 +1,7 @@
 //! The top call.
 
 ghost use Rattle.std.specs.Prelude.{◌≡◌, map, string_bytes};
-ghost use Rattle.boot_images.specs.Ready.{AreEmptyAgain, AreFree};
+ghost use Rattle.boot_run.specs.Ready.{AreEmptyAgain, AreFree};
 ghost use Rattle.boot_run.specs.World.{world_of};
 ghost use Rattle.os9_kernel.specs.Outside.{outside};
 ghost use Rattle.file_drives.specs.Drives.{drives_seen};
@@ -14,9 +14,9 @@ ghost use Rattle.os9_words.specs.Notes.{notes_of};
 
 use crate::boot::{boot_images, run_modules};
 use crate::check::check_image;
-use crate::do_asm;
 use crate::status::{end_of_stress, report_end};
-use command_files::status::End;
+use crate::{do_asm, do_vol};
+use boot_run::status::End;
 use device_table::devices::Devices;
 use os9_debug::do_debug;
 use os9_outer::drive::BlockDriver;
@@ -26,7 +26,6 @@ use os9_words::command::{Command, WordsFault, read_words};
 use os9_words::message::{Message, report};
 use std::alloc::Global;
 use stress_run::run_stress;
-use vol_command::do_vol;
 
 /// The status if the words are not a command line.
 const NO_COMMAND: u8 = 1;

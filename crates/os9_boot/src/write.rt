@@ -10,16 +10,16 @@ ghost use Rattle.os9_boot.specs.Written.{EndsBoot, WritesHistory};
 ghost use Rattle.os9_words.specs.Notes.{notes_of};
 
 use crate::start::end_of_run;
-use boot_images::images::Images;
-use boot_images::write::{WriteFault, write_images};
+use boot_run::images::Images;
+use boot_run::output::write_output;
+use boot_run::status::End;
+use boot_run::write::{WriteFault, write_images};
 use boot_run::{RunEnd, RunOutcome};
-use command_files::output::write_output;
-use command_files::status::End;
-use history_text::history_text;
 use lock_model::history::Entry;
 use os9_outer::host::{Host, HostFault};
 use os9_words::command::RunWords;
 use os9_words::word::Word;
+use record_locks::history_text;
 use std::alloc::Global;
 
 /// Writes the images of a boot under their names, and then its history if a file is named for it,

@@ -12,7 +12,7 @@ use Rattle.jiff_core.proofs.SignedLemmas.{signed_arith}
 use Rattle.jiff_core.proofs.CalendarLemmas.{day_count-epoch, days_from_civil-day_count, day_count-next_year, day_count-day_of_year, days_in_month_bounds}
 use Rattle.jiff_core.proofs.DateTimeLemmas.{civil_nanos-parts, civil_nanos-lt, civil_nanos_range, time_nanos_bound}
 use Rattle.os9_base.specs.declared.registers.TimePacket.{TimePacket}
-use Rattle.civil_time.specs.CivilTime.{is_leap, days_of_years, days_of_months, month_days, year_days, CivilTime, packet_time, time_packet, is_civil, IsAfter, day_number, second_number}
+use Rattle.time_rules.specs.CivilTime.{is_leap, days_of_years, days_of_months, month_days, year_days, CivilTime, packet_time, time_packet, is_civil, IsAfter, day_number, second_number}
 use Rattle.os9_clock.specs.JiffTime.{civil_of}
 
 days_of_months-same : (year n : ℕ) → jiff_days_of_months (pos year) n ≡ days_of_months year n

@@ -1,1 +1,3 @@
 pub mod CalendarTie
+pub mod Digits
+pub mod Places

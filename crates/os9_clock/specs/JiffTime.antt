@@ -1,7 +1,7 @@
 -- The civil time of the calendar's library.
 use Rattle.std.specs.Prelude.{pos, ◌-ℤ◌, unsigned_abs}
 use Rattle.jiff_core.specs.declared.civil.datetime.DateTime.{DateTime}
-use Rattle.civil_time.specs.CivilTime.{CivilTime}
+use Rattle.time_rules.specs.CivilTime.{CivilTime}
 
 -- a date and time from 1900 on, its year counted from 1900
 abbrev pub civil_of : DateTime → CivilTime

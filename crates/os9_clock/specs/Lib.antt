@@ -1,1 +1,3 @@
 pub mod JiffTime
+pub mod Spelled
+pub mod TimeText

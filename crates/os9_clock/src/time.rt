@@ -1,6 +1,6 @@
 ghost use Rattle.std.specs.Prelude.{◌≡◌, ◌<◌, ◌+◌, ◌*◌, ◌%◌, true, pos, ◌≤ℤ◌};
-ghost use Rattle.civil_time.specs.CivilTime as model;
-ghost use Rattle.civil_time.specs.CivilTime.{day_number, is_time_packet, IsAfter, packet_time, second_number, time_packet};
+ghost use Rattle.time_rules.specs.CivilTime as model;
+ghost use Rattle.time_rules.specs.CivilTime.{day_number, is_time_packet, IsAfter, packet_time, second_number, time_packet};
 ghost use Rattle.os9_clock.specs.JiffTime.{civil_of};
 ghost use Rattle.jiff.specs.Words.{IsYmd, IsHms};
 

@@ -4,18 +4,25 @@
 
 ghost use Rattle.std.specs.Prelude.{map, string_bytes};
 ghost use Rattle.device_table.specs.Seen.{terminals_seen};
-ghost use Rattle.boot_images.specs.Drives.{HaveRoom};
-ghost use Rattle.console_boot.specs.TopCall.{TopConsole};
-ghost use Rattle.session_text.specs.Typed.{IsUntyped};
+ghost use Rattle.boot_run.specs.Drives.{HaveRoom};
+ghost use Rattle.os9_console.specs.TopCall.{TopConsole};
+ghost use Rattle.console_run.specs.Typed.{IsUntyped};
 ghost use Rattle.console_run.specs.Keyboard.{keyboard_state};
 ghost use Rattle.console_run.specs.Seen.{OnNotedCall};
 ghost use Rattle.file_drives.specs.Drives.{drive_views, drives_seen};
 ghost use Rattle.boot_run.specs.Loaded.{AreUnloaded};
 
+mod boot;
+mod images;
+pub mod laws;
+mod record;
+mod session_report;
 #[cfg(test)]
 mod tests;
+mod top;
+mod words;
 
-use console_boot::console_main;
+use crate::top::console_main;
 use console_run::Console;
 use console_run::keyboard::Keyboard;
 use console_run::reader_keyboard::ReaderKeyboard;

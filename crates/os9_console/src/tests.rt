@@ -1,11 +1,11 @@
 //! Sessions over a host in memory, and the boot over a record.
 
-ghost use Rattle.boot_images.specs.Drives.{HaveRoom};
+ghost use Rattle.boot_run.specs.Drives.{HaveRoom};
 ghost use Rattle.device_table.specs.Seen.{terminals_seen};
 ghost use Rattle.file_drives.specs.Drives.{drives_seen};
 ghost use Rattle.boot_run.specs.Loaded.{AreUnloaded};
 
-use console_boot::console_main;
+use crate::top::console_main;
 use console_run::Console;
 use console_run::sure_keyboard::SureKeyboard;
 use device_table::devices::Devices;

@@ -10,8 +10,8 @@ use Rattle.os9_outer.specs.declared.terminal.Key.{Key}
 use Rattle.script_text.specs.declared.script.ScriptKey.{ScriptKey}
 use Rattle.boot_run.specs.Loaded.{HasNoKeys, keys_for, loaded_from, with_keys}
 use Rattle.boot_run.specs.Dropped.{CanBeTaken, LosesKeys}
-use Rattle.event_rules.specs.Console.{terminals_emptied, without_bytes}
-use Rattle.event_rules.specs.Terminals.{OnlyGains, TerminalsOnlyGain}
+use Rattle.machine_model.specs.Console.{terminals_emptied, without_bytes}
+use Rattle.machine_model.specs.Terminals.{OnlyGains, TerminalsOnlyGain}
 use Rattle.run_laws.specs.Faults.{NotFailed}
 use Rattle.os9_debug.specs.Machine.{HasNoBytes, HasTick}
 

@@ -5,22 +5,22 @@ use Rattle.os9_outer.specs.Host.{Files}
 use Rattle.script_text.specs.declared.script.ScriptKey.{ScriptKey}
 use Rattle.script_text.specs.Script.{keys_of}
 use Rattle.script_text.specs.Slices.{slices_of}
-use Rattle.event_rules.specs.declared.ends.BootFault.TheVariants.{OutOfMemory, BadModule as BadModuleFault, NoFirst as NoFirstFault, TooLarge as TooLargeFault}
+use Rattle.machine_model.specs.declared.ends.BootFault.TheVariants.{OutOfMemory, BadModule as BadModuleFault, NoFirst as NoFirstFault, TooLarge as TooLargeFault}
 use Rattle.os9_words.specs.declared.debug_words.DebugWords.{DebugWords}
 use Rattle.boot_run.specs.World.{World, HasNoFault}
-use Rattle.debug_text.specs.Commands.{commands_of}
-use Rattle.debug_text.specs.declared.command.Command.{Command}
+use Rattle.debug_run.specs.Commands.{commands_of}
+use Rattle.debug_run.specs.declared.command.Command.{Command}
 use Rattle.os9_debug.specs.Session.{FailsToPrint, PrintsSome, SessionCall, StopsAtTerminal}
 use Rattle.os9_debug.specs.declared.machine.Machine.{Machine}
 use Rattle.os9_debug.specs.declared.machine.SessionFault.{SessionFault}
 use Rattle.os9_debug.specs.declared.machine.SessionFault.TheVariants as Fault
-use Rattle.command_files.specs.Left.{IsSilent}
-use Rattle.command_files.specs.Reading.{RefusesTexts}
-use Rattle.command_files.specs.Setup.{HaveTexts}
-use Rattle.command_files.specs.Stops.{StopsAtRead}
-use Rattle.command_files.specs.declared.status.End.{End}
-use Rattle.command_files.specs.declared.status.End.TheVariants.{Ended, CannotRead, CannotWrite, NoMemory, BadText, BadModule, NoFirst, TooLarge, TerminalFailed}
-use Rattle.command_files.specs.declared.status.Input.TheVariants.{Script, Slices, Commands}
+use Rattle.boot_run.specs.Left.{IsSilent}
+use Rattle.boot_run.specs.Reading.{RefusesTexts}
+use Rattle.boot_run.specs.Setup.{HaveTexts}
+use Rattle.boot_run.specs.Stops.{StopsAtRead}
+use Rattle.boot_run.specs.declared.status.End.{End}
+use Rattle.boot_run.specs.declared.status.End.TheVariants.{Ended, CannotRead, CannotWrite, NoMemory, BadText, BadModule, NoFirst, TooLarge, TerminalFailed}
+use Rattle.boot_run.specs.declared.status.Input.TheVariants.{Script, Slices, Commands}
 use Rattle.os9_debug.specs.Call.{DebugCall}
 use Rattle.os9_debug.specs.Debug.{DebugComesTo, EndsRefused, PrintsWhole, SessionThen, debug_file_name}
 use Rattle.os9_debug.specs.Steps.{HadSession, HasDebugFiles, RefusesCommands, session_end}

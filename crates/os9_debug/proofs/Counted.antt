@@ -7,14 +7,14 @@ use Rattle.os9_outer.specs.TerminalState.{TerminalState, fault_counts}
 use Rattle.script_text.specs.declared.script.ScriptKey.{ScriptKey}
 use Rattle.boot_run.specs.Loaded.{loaded, loaded_from}
 use Rattle.boot_run.specs.Dropped.{FailsAt, LosesKeys}
-use Rattle.event_rules.specs.Console.{terminals_emptied}
-use Rattle.event_rules.specs.Terminals.{TerminalsOnlyGain}
+use Rattle.machine_model.specs.Console.{terminals_emptied}
+use Rattle.machine_model.specs.Terminals.{TerminalsOnlyGain}
 use Rattle.file_rules.specs.Files.{DriveState, drive_at}
 use Rattle.file_drives.specs.Drives.{drive_states}
 use Rattle.os9_kernel.specs.Outside.{Outside}
 use Rattle.run_laws.specs.Faults.{NotFailed}
 use Rattle.run_laws.proofs.Terminals.{rose-before, rose-later}
-use Rattle.event_run.specs.Devices.{DevicesGain, Unfailed}
+use Rattle.debug_run.specs.Devices.{DevicesGain, Unfailed}
 use Rattle.os9_debug.specs.Counts.{FailedOnce, HasNotFallen, NoneFell, RoseOnce, TerminalRose}
 use Rattle.os9_debug.specs.Machine.{loaded_devices}
 use Rattle.os9_debug.specs.declared.machine.Machine.{Machine}

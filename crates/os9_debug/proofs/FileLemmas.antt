@@ -5,13 +5,13 @@ use Rattle.os9_outer.specs.Host.{Files, file_contents}
 use Rattle.os9_words.specs.Notes.{Notes}
 use Rattle.os9_words.specs.declared.debug_words.DebugWords.{DebugWords}
 use Rattle.boot_run.specs.World.{World}
-use Rattle.command_files.specs.End.{run_file_name}
-use Rattle.command_files.specs.Setup.{script_of}
-use Rattle.command_files.specs.Stops.{NotesStop, StopsAtRead, StopsReads}
-use Rattle.command_files.specs.declared.status.End.{End}
-use Rattle.command_files.specs.declared.status.End.TheVariants.{CannotRead, NoMemory}
-use Rattle.command_files.specs.declared.status.Input.{Input}
-use Rattle.command_files.specs.declared.status.Input.TheVariants.{Commands}
+use Rattle.boot_run.specs.End.{run_file_name}
+use Rattle.boot_run.specs.Setup.{script_of}
+use Rattle.boot_run.specs.Stops.{NotesStop, StopsAtRead, StopsReads}
+use Rattle.boot_run.specs.declared.status.End.{End}
+use Rattle.boot_run.specs.declared.status.End.TheVariants.{CannotRead, NoMemory}
+use Rattle.boot_run.specs.declared.status.Input.{Input}
+use Rattle.boot_run.specs.declared.status.Input.TheVariants.{Commands}
 use Rattle.os9_debug.specs.Debug.{debug_file_name}
 use Rattle.os9_debug.specs.Steps.{HasDebugFiles}
 use Rattle.os9_debug.specs.declared.files.DebugFiles.{DebugFiles}

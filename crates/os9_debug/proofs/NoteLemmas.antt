@@ -2,15 +2,15 @@
 use Rattle.std.proofs.Common.{◌≡◌, ℕ, List, [], refl, sym, ◌∙◌, append-nil}
 use Rattle.os9_words.specs.Notes.{HasRead, Notes, having_read, having_written}
 use Rattle.os9_words.specs.declared.debug_words.DebugWords.{DebugWords}
-use Rattle.event_rules.specs.declared.ends.BootFault.TheVariants.{OutOfMemory, BadModule as BadModuleFault, NoFirst as NoFirstFault, TooLarge as TooLargeFault}
+use Rattle.machine_model.specs.declared.ends.BootFault.TheVariants.{OutOfMemory, BadModule as BadModuleFault, NoFirst as NoFirstFault, TooLarge as TooLargeFault}
 use Rattle.std.specs.Prelude.{Result, Ok, Err}
-use Rattle.command_files.specs.Noted.{Reads}
-use Rattle.command_files.specs.Reading.{RefusesTexts}
-use Rattle.command_files.specs.Stops.{NotesStop}
-use Rattle.command_files.specs.declared.status.End.{End}
-use Rattle.command_files.specs.declared.status.End.TheVariants.{CannotRead, CannotWrite, NoMemory, BadText, BadModule, NoFirst, TooLarge, TerminalFailed}
-use Rattle.command_files.specs.declared.status.Input.TheVariants.{Script, Slices, Commands}
-use Rattle.command_files.proofs.ReadLemmas.{written-none}
+use Rattle.boot_run.specs.Noted.{Reads}
+use Rattle.boot_run.specs.Reading.{RefusesTexts}
+use Rattle.boot_run.specs.Stops.{NotesStop}
+use Rattle.boot_run.specs.declared.status.End.{End}
+use Rattle.boot_run.specs.declared.status.End.TheVariants.{CannotRead, CannotWrite, NoMemory, BadText, BadModule, NoFirst, TooLarge, TerminalFailed}
+use Rattle.boot_run.specs.declared.status.Input.TheVariants.{Script, Slices, Commands}
+use Rattle.boot_run.proofs.ReadLemmas.{written-none}
 use Rattle.os9_debug.specs.declared.machine.SessionFault.{SessionFault}
 use Rattle.os9_debug.specs.declared.machine.SessionFault.TheVariants as Fault
 use Rattle.os9_debug.specs.Call.{NotesDebug}

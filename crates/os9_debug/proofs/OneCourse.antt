@@ -2,16 +2,16 @@
 use Rattle.std.proofs.Common.{◌≡◌, ℕ, suc, true, Option, Some, List, [], ◌∷◌, length, refl, sym, ap, subst, ◌∙◌, arith}
 use Rattle.std.specs.Prelude.{IfSome}
 use Rattle.os9_base.specs.declared.registers.TimePacket.{TimePacket}
-use Rattle.civil_time.specs.CivilTime.{is_time_packet}
+use Rattle.time_rules.specs.CivilTime.{is_time_packet}
 use Rattle.os9_outer.specs.Host.{Files}
 use Rattle.os9_outer.specs.TerminalState.{TerminalState}
 use Rattle.script_text.specs.declared.script.ScriptKey.{ScriptKey}
 use Rattle.boot_run.specs.Loaded.{loaded_from}
 use Rattle.os9_words.specs.declared.debug_words.DebugWords.{DebugWords}
 use Rattle.boot_run.specs.World.{World}
-use Rattle.debug_text.proofs.Courses.{course-one, course-some}
+use Rattle.debug_run.proofs.Courses.{course-one, course-some}
 use Rattle.os9_debug.specs.Machine.{boot_of}
-use Rattle.command_files.specs.declared.status.End.TheVariants.{Ended}
+use Rattle.boot_run.specs.declared.status.End.TheVariants.{Ended}
 use Rattle.os9_debug.specs.Call.{DebugCall}
 use Rattle.os9_debug.specs.Debug.{DebugComesTo, PrintsWhole, SessionThen}
 use Rattle.os9_debug.specs.OneCourse.{IsFaultless, ShowsOneCourse}

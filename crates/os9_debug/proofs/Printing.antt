@@ -8,16 +8,16 @@ use Rattle.os9_outer.specs.Stream.{GainsPrefix, stream_with}
 use Rattle.std.proofs.lemmas.List.{drop_all, take-append-drop, take_all}
 use Rattle.device_table.proofs.StreamLemmas.{appended-nothing, appended-twice}
 use Rattle.os9_words.proofs.Prefixes.{GainsPrefix-front, GainsPrefix-then}
-use Rattle.event_rules.specs.Start.{Refuses}
-use Rattle.event_rules.specs.declared.ends.BootFault.{BootFault}
+use Rattle.machine_model.specs.ProcessStart.{Refuses}
+use Rattle.machine_model.specs.declared.ends.BootFault.{BootFault}
 use Rattle.os9_kernel.specs.Outside.{Outside}
 use Rattle.boot_run.specs.World.{FailsToWrite, HasNoFault, World}
-use Rattle.debug_text.proofs.Courses.{course-one, course-some}
-use Rattle.debug_text.specs.Course.{Course, position_after}
-use Rattle.debug_text.specs.Prints.{printed_from, shows}
-use Rattle.debug_text.specs.declared.command.Command.{Command}
-use Rattle.event_run.specs.Devices.{Unfailed}
-use Rattle.event_run.specs.declared.position.Position.{Position}
+use Rattle.debug_run.proofs.Courses.{course-one, course-some}
+use Rattle.debug_run.specs.Course.{Course, position_after}
+use Rattle.debug_run.specs.Prints.{printed_from, shows}
+use Rattle.debug_run.specs.declared.command.Command.{Command}
+use Rattle.debug_run.specs.Devices.{Unfailed}
+use Rattle.debug_run.specs.declared.position.Position.{Position}
 use Rattle.os9_debug.specs.Counts.{NoneFell}
 use Rattle.os9_debug.specs.Machine.{CanStart, HasNoBytes, HasStart, InCourse, boot_of}
 use Rattle.os9_debug.specs.Moves.{FailsToMove, FailsToStart, HasShown, IsPositionOf, LeadsBack, MayFailSo, MovesOn}

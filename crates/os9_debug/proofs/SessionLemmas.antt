@@ -6,7 +6,7 @@ use Rattle.std.proofs.lemmas.List.{length-map}
 use Rattle.std.proofs.lemmas.List.Elements.{All-weaker}
 use Rattle.os9_base.specs.declared.limits.TheConstants.{LAST_TICK}
 use Rattle.os9_base.specs.declared.registers.TimePacket.{TimePacket}
-use Rattle.civil_time.specs.CivilTime.{is_time_packet}
+use Rattle.time_rules.specs.CivilTime.{is_time_packet}
 use Rattle.os9_outer.specs.TerminalState.{TerminalState, fault_counts}
 use Rattle.file_drives.specs.Drives.{DriveView, drive_states}
 use Rattle.script_text.specs.Script.{AreKeys, IsKey}
@@ -14,16 +14,16 @@ use Rattle.script_text.specs.declared.script.ScriptKey.{ScriptKey}
 use Rattle.boot_run.specs.Dropped.{FailsAt}
 use Rattle.os9_words.specs.declared.command.RunWords.{RunWords}
 use Rattle.os9_words.specs.Command.{IsRun}
-use Rattle.boot_images.specs.Drives.{IsEmpty, without_media}
-use Rattle.boot_images.specs.Ready.{AreEmptyAgain, AreFree}
-use Rattle.boot_images.proofs.DriveLemmas.{counts-without, empty-without, given-back}
+use Rattle.boot_run.specs.Drives.{IsEmpty, without_media}
+use Rattle.boot_run.specs.Ready.{AreEmptyAgain, AreFree}
+use Rattle.boot_run.proofs.DriveLemmas.{counts-without, empty-without, given-back}
 use Rattle.os9_kernel.specs.Outside.{Outside}
 use Rattle.run_laws.specs.Faults.{NoDriveFailed, NotFailed}
 use Rattle.boot_run.specs.World.{World}
-use Rattle.debug_text.specs.Course.{Course}
-use Rattle.debug_text.specs.Prints.{printed_from}
-use Rattle.debug_text.specs.declared.command.Command.{Command}
-use Rattle.event_run.specs.Devices.{Unfailed}
+use Rattle.debug_run.specs.Course.{Course}
+use Rattle.debug_run.specs.Prints.{printed_from}
+use Rattle.debug_run.specs.declared.command.Command.{Command}
+use Rattle.debug_run.specs.Devices.{Unfailed}
 use Rattle.os9_debug.specs.Counts.{FailedOnce, RoseOnce, TerminalRose}
 use Rattle.os9_debug.specs.Machine.{CanStart, HasTick, InCourse}
 use Rattle.os9_debug.specs.Session.{FailsToPrint, PrintsFirst, PrintsSome, SessionCall, StopsSession}

@@ -10,19 +10,19 @@ use Rattle.boot_run.specs.Loaded.{HasNoKeys, loaded, loaded_from}
 use Rattle.boot_run.specs.Dropped.{LosesKeys}
 use Rattle.file_rules.specs.Files.{DriveState, NoneFailed as NoDriveHasFailed}
 use Rattle.file_drives.specs.Drives.{DriveView, drive_state, drive_states}
-use Rattle.file_start.specs.Start.{FailsAmong, HaveImages, HaveVolumes, StartsDrives}
+use Rattle.cold_start.specs.Start.{FailsAmong, HaveImages, HaveVolumes, StartsDrives}
 use Rattle.file_state.specs.Tie.{StandsFor}
-use Rattle.event_rules.specs.Console.{terminals_emptied}
-use Rattle.event_rules.specs.Terminals.{TerminalsOnlyGain}
-use Rattle.event_rules.specs.declared.ends.BootFault.{BootFault}
-use Rattle.event_rules.specs.declared.ends.BootFault.TheVariants.{OutOfMemory, BadModule, NoFirst, TooLarge}
+use Rattle.machine_model.specs.Console.{terminals_emptied}
+use Rattle.machine_model.specs.Terminals.{TerminalsOnlyGain}
+use Rattle.machine_model.specs.declared.ends.BootFault.{BootFault}
+use Rattle.machine_model.specs.declared.ends.BootFault.TheVariants.{OutOfMemory, BadModule, NoFirst, TooLarge}
 use Rattle.machine_model.specs.Devices.{DrivesOnlyGain}
 use Rattle.machine_model.specs.Start.{Boot as Begun, Starts}
 use Rattle.machine_model.specs.State.{State}
-use Rattle.event_rules.proofs.TerminalLaws.{gain-same}
+use Rattle.machine_model.proofs.TerminalLaws.{gain-same}
 use Rattle.machine_model.proofs.Drives.{drives-same}
 use Rattle.machine_model.proofs.Starts.{starts-one}
-use Rattle.wake_laws.proofs.OpenRuns.{start-open}
+use Rattle.lock_laws.proofs.OpenRuns.{start-open}
 use Rattle.os9_kernel.specs.Outside.{Outside}
 use Rattle.os9_kernel.specs.Starting.{IsAccepted, IsStarted, StartIsRefused, WhereRefused, drive_fault}
 use Rattle.os9_kernel.specs.Tie.{Represents, Stands}
@@ -30,11 +30,11 @@ use Rattle.os9_kernel.specs.declared.kernel.Kernel.{Kernel}
 use Rattle.os9_kernel.specs.declared.new.StartError.{StartError}
 use Rattle.os9_kernel.specs.declared.new.StartError.TheVariants.{Boot, Drive}
 use Rattle.run_laws.specs.Faults.{NotFailed}
-use Rattle.debug_text.specs.Course.{Course}
-use Rattle.debug_text.specs.Prints.{IsCourse}
-use Rattle.event_run.specs.Devices.{DevicesGain, Unfailed}
-use Rattle.event_run.specs.Position.{CanGoOn, IsAt}
-use Rattle.event_run.specs.declared.position.Position.{Position}
+use Rattle.debug_run.specs.Course.{Course}
+use Rattle.debug_run.specs.Prints.{IsCourse}
+use Rattle.debug_run.specs.Devices.{DevicesGain, Unfailed}
+use Rattle.debug_run.specs.Position.{CanGoOn, IsAt}
+use Rattle.debug_run.specs.declared.position.Position.{Position}
 use Rattle.os9_debug.specs.Machine.{CanStart, HasNoBytes, boot_of, config_of, loaded_devices, start_fault}
 use Rattle.os9_debug.specs.Moves.{FailsToMove, FailsToStart, HasCome, HasRestarted, HasStarted, IsBack, IsPositionOf}
 use Rattle.os9_debug.specs.declared.machine.Machine.{Machine}

@@ -3,9 +3,9 @@ use Rattle.std.specs.Prelude.{IfSome}
 use Rattle.os9_words.specs.Notes.{Notes}
 use Rattle.os9_words.specs.declared.debug_words.DebugWords.{DebugWords}
 use Rattle.boot_run.specs.World.{World}
-use Rattle.command_files.specs.Fails.{FailsAsTold}
-use Rattle.command_files.specs.Noted.{NotesFiles}
-use Rattle.command_files.specs.declared.status.End.{End}
+use Rattle.boot_run.specs.Fails.{FailsAsTold}
+use Rattle.boot_run.specs.Noted.{NotesFiles}
+use Rattle.boot_run.specs.declared.status.End.{End}
 use Rattle.os9_debug.specs.Debug.{DebugComesTo, debug_file_name, debug_inputs}
 use Rattle.os9_debug.specs.Left.{DebugLeaves, DebugLeavesFiles, DebugMayEnd, DebugWrites}
 

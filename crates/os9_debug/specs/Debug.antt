@@ -3,23 +3,23 @@ use Rattle.std.specs.Prelude.{◌≡◌, ◌⊎◌, ℕ, ⊤, Option, Some, Ok, 
 use Rattle.os9_outer.specs.Host.{Files, file_contents}
 use Rattle.script_text.specs.declared.script.ScriptKey.{ScriptKey}
 use Rattle.script_text.specs.Script.{keys_of}
-use Rattle.event_rules.specs.Start.{Refuses}
-use Rattle.event_rules.specs.declared.ends.BootFault.{BootFault}
+use Rattle.machine_model.specs.ProcessStart.{Refuses}
+use Rattle.machine_model.specs.declared.ends.BootFault.{BootFault}
 use Rattle.os9_words.specs.declared.debug_words.DebugWords.{DebugWords}
 use Rattle.boot_run.specs.World.{World}
-use Rattle.debug_text.specs.Commands.{commands_of}
-use Rattle.debug_text.specs.declared.command.Command.{Command}
+use Rattle.debug_run.specs.Commands.{commands_of}
+use Rattle.debug_run.specs.declared.command.Command.{Command}
 use Rattle.os9_debug.specs.Machine.{HasStart}
 use Rattle.os9_debug.specs.Session.{FailsToPrint, PrintsAll, PrintsSome, StopsAtTerminal}
 use Rattle.os9_debug.specs.declared.machine.Machine.{Machine}
-use Rattle.command_files.specs.End.{boot_end, run_file_name}
-use Rattle.command_files.specs.FileNames.{script_names}
-use Rattle.command_files.specs.Reading.{BreaksSlices}
-use Rattle.command_files.specs.Setup.{HaveTexts, script_of}
-use Rattle.command_files.specs.declared.status.End.{End}
-use Rattle.command_files.specs.declared.status.End.TheVariants.{Ended, CannotRead, CannotWrite, NoMemory, BadText, TerminalFailed}
-use Rattle.command_files.specs.declared.status.Input.{Input}
-use Rattle.command_files.specs.declared.status.Input.TheVariants.{Script, Commands}
+use Rattle.boot_run.specs.End.{boot_end, run_file_name}
+use Rattle.boot_run.specs.FileNames.{script_names}
+use Rattle.boot_run.specs.Reading.{BreaksSlices}
+use Rattle.boot_run.specs.Setup.{HaveTexts, script_of}
+use Rattle.boot_run.specs.declared.status.End.{End}
+use Rattle.boot_run.specs.declared.status.End.TheVariants.{Ended, CannotRead, CannotWrite, NoMemory, BadText, TerminalFailed}
+use Rattle.boot_run.specs.declared.status.Input.{Input}
+use Rattle.boot_run.specs.declared.status.Input.TheVariants.{Script, Commands}
 
 -- ---- the words
 

@@ -4,17 +4,17 @@ use Rattle.os9_outer.specs.Stream.{emptied}
 use Rattle.os9_outer.specs.TerminalState.{TerminalState}
 use Rattle.script_text.specs.declared.script.ScriptKey.{ScriptKey}
 use Rattle.boot_run.specs.Loaded.{loaded}
-use Rattle.event_rules.specs.declared.ends.BootFault.{BootFault}
-use Rattle.event_rules.specs.declared.ends.BootFault.TheVariants.{OutOfMemory, BadModule, NoFirst, TooLarge}
+use Rattle.machine_model.specs.declared.ends.BootFault.{BootFault}
+use Rattle.machine_model.specs.declared.ends.BootFault.TheVariants.{OutOfMemory, BadModule, NoFirst, TooLarge}
 use Rattle.file_drives.specs.Drives.{drive_states}
 use Rattle.machine_model.specs.Start.{Boot as Begun, Starts}
 use Rattle.machine_model.specs.State.{State}
 use Rattle.os9_kernel.specs.Outside.{Outside}
 use Rattle.os9_kernel.specs.declared.new.Config.{Config}
 use Rattle.boot_run.specs.Machine.{CanRun}
-use Rattle.debug_text.specs.Course.{Course}
-use Rattle.debug_text.specs.Prints.{IsCourse}
-use Rattle.event_run.specs.Devices.{Unfailed}
+use Rattle.debug_run.specs.Course.{Course}
+use Rattle.debug_run.specs.Prints.{IsCourse}
+use Rattle.debug_run.specs.Devices.{Unfailed}
 use Rattle.os9_debug.specs.declared.machine.Machine.{Machine}
 use Rattle.os9_debug.specs.declared.machine.SessionFault.{SessionFault}
 use Rattle.os9_debug.specs.declared.machine.SessionFault.TheVariants.{Refused, NoMemory}

@@ -3,19 +3,19 @@ use Rattle.std.specs.Prelude.{◌≡◌, ℕ, ◌-◌, ◌<◌, ⊤, Result, All
 use Rattle.os9_base.specs.Cells.{Cells}
 use Rattle.boot_run.specs.Loaded.{loaded}
 use Rattle.boot_run.specs.Dropped.{FailsAt}
-use Rattle.event_rules.specs.Start.{Refuses}
-use Rattle.event_rules.specs.declared.ends.BootFault.{BootFault}
+use Rattle.machine_model.specs.ProcessStart.{Refuses}
+use Rattle.machine_model.specs.declared.ends.BootFault.{BootFault}
 use Rattle.file_drives.specs.Drives.{drive_states}
 use Rattle.machine_model.specs.State.{State}
 use Rattle.os9_kernel.specs.Outside.{Outside}
-use Rattle.debug_text.specs.Course.{Course, last_of, position_after, state_at}
-use Rattle.debug_text.specs.Prints.{shows}
-use Rattle.debug_text.specs.Show.{shown_cells}
-use Rattle.debug_text.specs.declared.command.Command.{Command}
-use Rattle.debug_text.specs.declared.command.Command.TheVariants.{To, Back}
-use Rattle.event_run.specs.Devices.{DevicesGain, Unfailed}
-use Rattle.event_run.specs.Position.{CanGoOn, IsAt}
-use Rattle.event_run.specs.declared.position.Position.{Position}
+use Rattle.debug_run.specs.Course.{Course, last_of, position_after, state_at}
+use Rattle.debug_run.specs.Prints.{shows}
+use Rattle.debug_run.specs.Show.{shown_cells}
+use Rattle.debug_run.specs.declared.command.Command.{Command}
+use Rattle.debug_run.specs.declared.command.Command.TheVariants.{To, Back}
+use Rattle.debug_run.specs.Devices.{DevicesGain, Unfailed}
+use Rattle.debug_run.specs.Position.{CanGoOn, IsAt}
+use Rattle.debug_run.specs.declared.position.Position.{Position}
 use Rattle.os9_debug.specs.Counts.{NoneFell}
 use Rattle.os9_debug.specs.Machine.{CanStart, CourseOf, HasNoBytes, HasStart, InCourse, loaded_devices}
 use Rattle.os9_debug.specs.declared.machine.Machine.{Machine}

@@ -3,10 +3,10 @@ use Rattle.std.specs.Prelude.{◌≡◌, Some, List, length, All}
 use Rattle.os9_outer.specs.Host.{Files}
 use Rattle.os9_words.specs.Command.{IsRun}
 use Rattle.os9_words.specs.declared.debug_words.DebugWords.{DebugWords}
-use Rattle.boot_images.specs.Ready.{AreFree}
+use Rattle.boot_run.specs.Ready.{AreFree}
 use Rattle.boot_run.specs.World.{World}
-use Rattle.event_run.specs.Devices.{Unfailed}
-use Rattle.debug_text.specs.declared.command.Command.{Command}
+use Rattle.debug_run.specs.Devices.{Unfailed}
+use Rattle.debug_run.specs.declared.command.Command.{Command}
 use Rattle.os9_debug.specs.Machine.{HasNoBytes}
 use Rattle.os9_debug.specs.Session.{CanFail, ShowsTheCourse}
 use Rattle.os9_debug.specs.declared.machine.Machine.{Machine}

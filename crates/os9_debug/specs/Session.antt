@@ -2,15 +2,15 @@
 use Rattle.std.specs.Prelude.{◌≡◌, ◌≢◌, ◌⊎◌, ℕ, All, Result, Some, Err, IfErr, OnOk, List, [], take, fold, slice_get}
 use Rattle.os9_outer.specs.Stream.{GainsPrefix, stream_with}
 use Rattle.boot_run.specs.Dropped.{FailsAt}
-use Rattle.event_rules.specs.Start.{Refuses}
+use Rattle.machine_model.specs.ProcessStart.{Refuses}
 use Rattle.machine_model.specs.Start.{Starts}
 use Rattle.machine_model.specs.State.{State}
 use Rattle.run_laws.specs.Faults.{CanRise}
-use Rattle.debug_text.specs.declared.command.Command.{Command}
+use Rattle.debug_run.specs.declared.command.Command.{Command}
 use Rattle.os9_kernel.specs.Outside.{Outside}
-use Rattle.debug_text.specs.Course.{Course, position_after}
-use Rattle.debug_text.specs.Prints.{printed_from}
-use Rattle.event_run.specs.Devices.{DevicesGain}
+use Rattle.debug_run.specs.Course.{Course, position_after}
+use Rattle.debug_run.specs.Prints.{printed_from}
+use Rattle.debug_run.specs.Devices.{DevicesGain}
 use Rattle.boot_run.specs.World.{FailsToWrite, HasNoFault, World}
 use Rattle.os9_debug.specs.Counts.{FailedOnce, TerminalRose}
 use Rattle.os9_debug.specs.Machine.{CourseOf, HasNoBytes, HasStart, InCourse, boot_of, loaded_devices}

@@ -3,17 +3,17 @@ use Rattle.std.specs.Prelude.{◌≡◌, ⊤, ℕ, Some, Result, Ok, Err, List, 
 use Rattle.os9_outer.specs.Host.{Files, file_contents}
 use Rattle.os9_words.specs.declared.debug_words.DebugWords.{DebugWords}
 use Rattle.boot_run.specs.World.{World}
-use Rattle.debug_text.specs.Commands.{commands_of}
-use Rattle.debug_text.specs.declared.command.Command.{Command}
+use Rattle.debug_run.specs.Commands.{commands_of}
+use Rattle.debug_run.specs.declared.command.Command.{Command}
 use Rattle.os9_debug.specs.Session.{SessionCall}
 use Rattle.os9_debug.specs.declared.machine.Machine.{Machine}
 use Rattle.os9_debug.specs.declared.machine.SessionFault.{SessionFault}
 use Rattle.os9_debug.specs.declared.machine.SessionFault.TheVariants as Fault
-use Rattle.command_files.specs.End.{boot_end}
-use Rattle.command_files.specs.Setup.{script_of}
-use Rattle.command_files.specs.declared.status.End.{End}
-use Rattle.command_files.specs.declared.status.End.TheVariants.{Ended, CannotWrite, NoMemory, BadText, TerminalFailed}
-use Rattle.command_files.specs.declared.status.Input.TheVariants.{Commands}
+use Rattle.boot_run.specs.End.{boot_end}
+use Rattle.boot_run.specs.Setup.{script_of}
+use Rattle.boot_run.specs.declared.status.End.{End}
+use Rattle.boot_run.specs.declared.status.End.TheVariants.{Ended, CannotWrite, NoMemory, BadText, TerminalFailed}
+use Rattle.boot_run.specs.declared.status.Input.TheVariants.{Commands}
 use Rattle.os9_debug.specs.declared.files.DebugFiles.{DebugFiles}
 
 -- the bytes that were read are those of the files that the words name

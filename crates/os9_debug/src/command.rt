@@ -4,15 +4,15 @@ ghost use Rattle.os9_words.specs.Notes.{notes_of};
 ghost use Rattle.file_drives.specs.Drives.{drives_seen};
 ghost use Rattle.os9_words.specs.Command.{IsRun};
 ghost use Rattle.os9_kernel.specs.Outside.{outside};
-ghost use Rattle.boot_images.specs.Ready.{AreEmptyAgain, AreFree};
+ghost use Rattle.boot_run.specs.Ready.{AreEmptyAgain, AreFree};
 ghost use Rattle.boot_run.specs.World.{OnWorld};
 ghost use Rattle.os9_debug.specs.Call.{DebugCall, NotesDebug};
 
 use crate::Machine;
 use crate::files::{commands_in, read_files};
 use crate::session::show;
-use command_files::status::End;
-use command_files::texts::read_texts;
+use boot_run::status::End;
+use boot_run::texts::read_texts;
 use device_table::devices::Devices;
 use os9_outer::drive::BlockDriver;
 use os9_outer::host::Host;

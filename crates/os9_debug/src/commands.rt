@@ -3,18 +3,17 @@
 ghost use Rattle.std.specs.Prelude.{◌≡◌, ◌<◌, IfOk, vec_len};
 ghost use Rattle.os9_base.specs.declared.limits.TheConstants.{PROCESS_PLACES};
 ghost use Rattle.os9_kernel.specs.Outside.{OnDevices, outside};
-ghost use Rattle.debug_text.specs.Prints.{shows};
-ghost use Rattle.debug_text.specs.Show as model;
-ghost use Rattle.debug_text.specs.declared.command.Command.TheVariants.{To, Back};
+ghost use Rattle.debug_run.specs.Prints.{shows};
+ghost use Rattle.debug_run.specs.Show as model;
+ghost use Rattle.debug_run.specs.declared.command.Command.TheVariants.{To, Back};
 ghost use Rattle.os9_debug.specs.Machine.{or_no_memory};
 ghost use Rattle.os9_debug.specs.Moves.{AtPosition, HasShown, IsUnderWay, MovesOn};
 
 use crate::machine::{Machine, SessionFault};
 use crate::memory::{push_instructions, push_memory};
 use crate::moves::go_to;
-use debug_text::{Command, Span, push_end, push_regs};
+use debug_run::{Command, Position, Span, Step, push_end, push_regs};
 use device_table::devices::Devices;
-use event_run::{Position, Step};
 use os9_outer::drive::BlockDriver;
 use os9_outer::terminal::CharDriver;
 use std::alloc::{AllocError, Global};

@@ -10,7 +10,7 @@ ghost use Rattle.os9_debug.specs.Session.{SessionCall};
 
 use crate::commands::obey;
 use crate::machine::{Machine, SessionFault, start};
-use debug_text::Command;
+use debug_run::Command;
 use device_table::devices::Devices;
 use os9_outer::drive::BlockDriver;
 use os9_outer::host::{Host, HostFault};

@@ -3,7 +3,7 @@
 ghost use Rattle.os9_outer.specs.Host.{Files};
 ghost use Rattle.os9_words.specs.declared.debug_words.DebugWords.{DebugWords};
 ghost use Rattle.boot_run.specs.World.{World};
-ghost use Rattle.command_files.specs.declared.status.End.TheVariants.{Ended};
+ghost use Rattle.boot_run.specs.declared.status.End.TheVariants.{Ended};
 ghost use Rattle.os9_debug.specs.Call.{DebugCall};
 ghost use Rattle.os9_debug.specs.OneCourse.{IsFaultless, ShowsOneCourse};
 

@@ -6,9 +6,9 @@ ghost use Rattle.os9_debug.specs.Machine.{CanStart, start_fault};
 ghost use Rattle.os9_debug.specs.Moves.{HasRestarted, HasStarted, HasCome};
 
 use boot_run::{drop_keys, load_keys};
+use debug_run::{Position, empty_terminals};
 use device_table::devices::Devices;
-use event_rules::ends::BootFault;
-use event_run::{Position, empty_terminals};
+use machine_model::ends::BootFault;
 use os9_base::registers::TimePacket;
 use os9_kernel::{Config, Kernel, StartError};
 use os9_outer::drive::BlockDriver;

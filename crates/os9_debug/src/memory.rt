@@ -2,14 +2,13 @@
 
 ghost use Rattle.std.specs.Prelude.{◌≡◌, ◌<◌, ◌≤◌, ◌++◌, OnOk};
 ghost use Rattle.os9_base.specs.declared.limits.TheConstants.{PROCESS_PLACES};
-ghost use Rattle.debug_text.specs.Disassembly as model;
-ghost use Rattle.debug_text.specs.Disassembly.{dis_lines, longest_instruction};
-ghost use Rattle.debug_text.specs.Show.{mem_line};
+ghost use Rattle.debug_run.specs.Disassembly as model;
+ghost use Rattle.debug_run.specs.Disassembly.{dis_lines, longest_instruction};
+ghost use Rattle.debug_run.specs.Show.{mem_line};
 ghost use Rattle.os9_debug.specs.Moves.{SeesCells};
 
 use arrayvec::ArrayVec;
-use debug_text::{Span, push_address, push_instruction, push_seen};
-use event_run::Position;
+use debug_run::{Position, Span, push_address, push_instruction, push_seen};
 use std::alloc::AllocError;
 
 /// The most bytes of an instruction.

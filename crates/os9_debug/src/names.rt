@@ -3,8 +3,8 @@
 ghost use Rattle.std.specs.Prelude.{◌≡◌, [], unwrap_or};
 ghost use Rattle.os9_debug.specs.Debug.{debug_file_name};
 
-use command_files::names::name_in;
-use command_files::status::Input;
+use boot_run::names::name_in;
+use boot_run::status::Input;
 use os9_words::debug_words::DebugWords;
 
 /// The name of a file that the words give; empty if they give no such file.

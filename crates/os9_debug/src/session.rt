@@ -2,8 +2,8 @@
 
 ghost use Rattle.std.specs.Prelude.{◌≡◌};
 ghost use Rattle.file_drives.specs.Drives.{drives_seen};
-ghost use Rattle.boot_images.specs.Drives.{HaveRoom};
-ghost use Rattle.boot_images.specs.Ready.{AreEmptyAgain};
+ghost use Rattle.boot_run.specs.Drives.{HaveRoom};
+ghost use Rattle.boot_run.specs.Ready.{AreEmptyAgain};
 ghost use Rattle.boot_run.specs.World.{OnWorld};
 ghost use Rattle.os9_debug.specs.Machine.{CanStart};
 ghost use Rattle.os9_debug.specs.Steps.{HadSession, session_end};
@@ -11,10 +11,10 @@ ghost use Rattle.os9_kernel.specs.Outside.{outside};
 ghost use Rattle.os9_words.specs.Notes.{notes_of};
 
 use crate::{Machine, SessionFault, debug};
-use boot_images::drives::eject_images;
-use boot_images::images::Images;
-use command_files::status::End;
-use debug_text::Command;
+use boot_run::drives::eject_images;
+use boot_run::images::Images;
+use boot_run::status::End;
+use debug_run::Command;
 use device_table::devices::Devices;
 use os9_outer::drive::BlockDriver;
 use os9_outer::host::Host;

@@ -3,24 +3,24 @@ use Rattle.std.proofs.Common.{◌≡◌, ℕ, Some, option_map, List, refl, sym,
 use Rattle.os9_base.specs.declared.registers.Pid.{Pid}
 use Rattle.os9_outer.specs.TerminalState.{TerminalState}
 use Rattle.proc_rules.specs.Records.{IsLiving, IsProcess}
-use Rattle.call_rules.specs.Processes.{Processes}
-use Rattle.call_rules.specs.Ready.{Act as MachineAct, act_of}
+use Rattle.proc_rules.specs.Processes.{Processes}
+use Rattle.proc_rules.specs.Ready.{Act as MachineAct, act_of}
 use Rattle.file_rules.specs.Files.{Files}
 use Rattle.file_state.specs.Tie.{StandsFor}
 use Rattle.proc_state.specs.Tie.{Represents as RepresentsProcesses}
 use Rattle.time_rules.specs.declared.clock.Clock.{Clock}
-use Rattle.event_rules.specs.declared.ends.EventEnd.{EventEnd}
-use Rattle.event_rules.specs.Event.{cost_of}
+use Rattle.machine_model.specs.declared.ends.EventEnd.{EventEnd}
+use Rattle.machine_model.specs.ProcessEvent.{cost_of}
 use Rattle.machine_model.specs.Event.{Acts, Event, cost}
 use Rattle.machine_model.specs.State.{State}
-use Rattle.wake_laws.specs.Living.{IsRunOpen}
+use Rattle.lock_laws.specs.Living.{IsRunOpen}
 use Rattle.os9_kernel.specs.declared.act.Act.{Act}
 use Rattle.os9_kernel.specs.declared.kernel.Kernel.{Kernel}
 use Rattle.os9_kernel.specs.Next.{DoesNext, act_in_machine, next_of}
 use Rattle.os9_kernel.specs.Outside.{Outside}
 use Rattle.os9_kernel.specs.Slice.{Instructions, last, more}
 use Rattle.os9_kernel.specs.Tie.{Represents, IsGoing, IsKnown, IsLooked}
-use Rattle.wake_laws.proofs.OpenRuns.{event-open}
+use Rattle.lock_laws.proofs.OpenRuns.{event-open}
 use Rattle.os9_kernel.proofs.Looking.{looks_again, never-looked}
 use Rattle.os9_kernel.proofs.Represented.{act-tied}
 

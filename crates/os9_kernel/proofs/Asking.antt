@@ -4,7 +4,7 @@ use Rattle.std.specs.Prelude.{IfSome}
 use Rattle.std.proofs.lemmas.Option.{none-some, same_Some}
 use Rattle.os9_base.specs.declared.registers.Pid.{Pid}
 use Rattle.os9_outer.specs.TerminalState.{TerminalState}
-use Rattle.call_rules.specs.Ready.{attempts, act_of}
+use Rattle.proc_rules.specs.Ready.{attempts, act_of}
 use Rattle.lock_model.specs.Locks.{request_of}
 use Rattle.lock_model.specs.Records.{Records}
 use Rattle.lock_model.specs.declared.lock.Request.{Request}
@@ -12,13 +12,13 @@ use Rattle.io_model.specs.declared.pending.PendingCall.{PendingCall}
 use Rattle.io_rules.specs.Codes.{io_call_of}
 use Rattle.io_rules.specs.Io.{Io, pending_at}
 use Rattle.io_rules.specs.declared.io_call.IoCall.{IoCall}
-use Rattle.io_dispatch.proofs.RunningCalls.{may-attempt}
+use Rattle.path_dispatch.proofs.RunningCalls.{may-attempt}
 use Rattle.call_laws.proofs.Codes.{attempts-code}
 use Rattle.proc_state.specs.Tie.{Represents}
 use Rattle.proc_state.specs.declared.state.ProcState.{ProcState}
 use Rattle.file_laws.proofs.Codes.{code-there}
 use Rattle.file_laws.specs.Devices.{device_call}
-use Rattle.file_dispatch.specs.Attempts.{MayAttempt, MayAttemptAs}
+use Rattle.path_dispatch.specs.Attempts.{MayAttempt, MayAttemptAs}
 use Rattle.file_rules.specs.Codes.{path_call_of}
 use Rattle.file_rules.specs.declared.path_call.PathCall.{PathCall}
 use Rattle.file_state.specs.Asking.{IsPendingRequest, KeepsRequest}

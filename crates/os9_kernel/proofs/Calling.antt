@@ -4,13 +4,13 @@ use Rattle.os9_base.specs.declared.call.CallEnd.{CallEnd}
 use Rattle.os9_base.specs.declared.registers.Regs.{Regs}
 use Rattle.proc_rules.specs.declared.record.Record.{Record}
 use Rattle.proc_rules.specs.Records.{IsLiving}
-use Rattle.call_rules.specs.Attempts.{attempt_end, after_attempt, done_regs, refused_regs, goes_on}
-use Rattle.call_rules.specs.CallResult.{CallResult, done, refused, waits, ends}
-use Rattle.call_rules.specs.Processes.{Processes, regs_at}
+use Rattle.proc_rules.specs.Attempts.{attempt_end, after_attempt, done_regs, refused_regs, goes_on}
+use Rattle.proc_rules.specs.CallResult.{CallResult, done, refused, waits, ends}
+use Rattle.proc_rules.specs.Processes.{Processes, regs_at}
 use Rattle.file_rules.specs.Files.{Files}
 use Rattle.proc_calls.specs.Telling.{LivesOn}
-use Rattle.event_rules.specs.declared.ends.EventEnd.TheVariants.{Ran, NoMemory}
-use Rattle.event_rules.specs.Event.{call_event_end}
+use Rattle.machine_model.specs.declared.ends.EventEnd.TheVariants.{Ran, NoMemory}
+use Rattle.machine_model.specs.ProcessEvent.{call_event_end}
 use Rattle.machine_model.specs.Services.{files_after_call}
 use Rattle.os9_kernel.specs.Ends.{event_end_of}
 use Rattle.os9_kernel.specs.Paths.{files_then}

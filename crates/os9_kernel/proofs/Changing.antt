@@ -14,7 +14,7 @@ use Rattle.file_rules.specs.declared.path_call.PathCall.{PathCall}
 use Rattle.file_state.proofs.MediaLemmas.{media-of_same, media-same}
 use Rattle.file_state.specs.Media.{KeepsDrives, MediaAfter}
 use Rattle.time_rules.specs.Clock.{IsNow}
-use Rattle.event_rules.specs.declared.ends.EventEnd.{EventEnd}
+use Rattle.machine_model.specs.declared.ends.EventEnd.{EventEnd}
 use Rattle.machine_model.specs.Event.{Event}
 use Rattle.machine_model.specs.Services.{on_paths, service_of}
 use Rattle.machine_model.specs.State.{State}

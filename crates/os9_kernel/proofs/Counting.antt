@@ -4,8 +4,8 @@ use Rattle.std.specs.Option.{option_map_or}
 use Rattle.os9_base.specs.declared.registers.Pid.{Pid}
 use Rattle.os9_base.specs.declared.registers.TimePacket.{TimePacket}
 use Rattle.os9_outer.specs.TerminalState.{TerminalState}
-use Rattle.call_rules.specs.Ready.{Act as MachineAct, act_of}
-use Rattle.civil_time.proofs.Days.{same-packet}
+use Rattle.proc_rules.specs.Ready.{Act as MachineAct, act_of}
+use Rattle.time_rules.proofs.Days.{same-packet}
 use Rattle.file_drives.specs.Drives.{DriveView}
 use Rattle.file_state.proofs.CountLemmas.{called-more, called-none}
 use Rattle.file_state.specs.Counted.{CalledAtMost}

@@ -11,19 +11,19 @@ use Rattle.proc_rules.specs.declared.record.Life.TheVariants.{Running}
 use Rattle.proc_rules.specs.declared.record.Record.{Record}
 use Rattle.proc_rules.specs.Records.{record_at, is_waiting, with_regs}
 use Rattle.proc_rules.specs.Signals.{with_signal}
-use Rattle.call_rules.specs.Attempts.{goes_on}
-use Rattle.call_rules.specs.Delivery.{delivered, after_delivery, interrupted, routine_regs, interrupted_regs, with_frame, routine_begun, has_no_room, stack_top}
-use Rattle.call_rules.specs.Processes.{Processes, no_own, own_at, regs_at, with_records}
-use Rattle.call_rules.specs.Ready.{next_act, delivers}
+use Rattle.proc_rules.specs.Attempts.{goes_on}
+use Rattle.proc_rules.specs.Delivery.{delivered, after_delivery, interrupted, routine_regs, interrupted_regs, with_frame, routine_begun, has_no_room, stack_top}
+use Rattle.proc_rules.specs.Processes.{Processes, no_own, own_at, regs_at, with_records}
+use Rattle.proc_rules.specs.Ready.{next_act, delivers}
 use Rattle.proc_state.specs.Delivery.{delivery_end as call_end}
 use Rattle.file_rules.specs.Files.{Files}
 use Rattle.file_rules.specs.Locking.{files_interrupted}
 use Rattle.file_rules.specs.Processes.{files_ended}
-use Rattle.event_rules.specs.declared.ends.EventEnd.TheVariants.{Ran, Ended}
-use Rattle.event_rules.specs.Event.{broken_off, delivery_end}
+use Rattle.machine_model.specs.declared.ends.EventEnd.TheVariants.{Ran, Ended}
+use Rattle.machine_model.specs.ProcessEvent.{broken_off, delivery_end}
 use Rattle.machine_model.specs.Event.{files_after_delivery}
 use Rattle.os9_kernel.proofs.Columns.{record-put}
-use Rattle.event_rules.proofs.Ticks.{ended-tick}
+use Rattle.machine_model.proofs.Ticks.{ended-tick}
 
 -- ---- how a delivery ends
 

@@ -10,14 +10,14 @@ use Rattle.proc_model.specs.declared.memory.TheConstants.{MOST_LINKS}
 use Rattle.proc_rules.specs.Records.{IsLiving, free_process, record_at}
 use Rattle.proc_state.specs.Tie.{Comes, Represents}
 use Rattle.proc_state.specs.declared.state.ProcState.{ProcState}
-use Rattle.call_rules.specs.Attempts.{after_attempt}
-use Rattle.call_rules.specs.CallResult.{CallResult, done, refused, waits, ends}
+use Rattle.proc_rules.specs.Attempts.{after_attempt}
+use Rattle.proc_rules.specs.CallResult.{CallResult, done, refused, waits, ends}
 use Rattle.call_dispatch.specs.Waits.{waits_for}
-use Rattle.call_rules.specs.Codes.{call_of}
-use Rattle.call_rules.specs.Processes.{Processes, no_own, own_at, regs_at}
-use Rattle.call_rules.specs.declared.proc_call.ProcCall.{ProcCall}
-use Rattle.call_rules.specs.declared.proc_call.ProcCall.TheVariants as Call
-use Rattle.call_rules.specs.Link.{links_at, mapped_group}
+use Rattle.proc_rules.specs.Codes.{call_of}
+use Rattle.proc_rules.specs.Processes.{Processes, no_own, own_at, regs_at}
+use Rattle.proc_rules.specs.declared.proc_call.ProcCall.{ProcCall}
+use Rattle.proc_rules.specs.declared.proc_call.ProcCall.TheVariants as Call
+use Rattle.proc_rules.specs.Link.{links_at, mapped_group}
 use Rattle.io_model.specs.declared.pending.PendingCall.{PendingCall}
 use Rattle.io_rules.specs.Io.{Io, pending_at}
 use Rattle.file_rules.specs.Locking.{call_wait}

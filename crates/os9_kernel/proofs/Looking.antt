@@ -11,11 +11,11 @@ use Rattle.proc_model.specs.Memory.{first_memory}
 use Rattle.proc_rules.specs.Ends.{ended_child}
 use Rattle.proc_rules.specs.Records.{IsLiving, is_living, is_waiting, record_at}
 use Rattle.proc_rules.specs.declared.own.Own.{Own}
-use Rattle.call_rules.specs.Processes.{Processes, no_own, own_at}
-use Rattle.call_rules.specs.Ready.{is_ready, may_go_on}
-use Rattle.call_rules.specs.Send.{is_call}
-use Rattle.call_rules.specs.Sleep.{may_wake}
-use Rattle.call_rules.specs.IoReady.{has_io}
+use Rattle.proc_rules.specs.Processes.{Processes, no_own, own_at}
+use Rattle.proc_rules.specs.Ready.{is_ready, may_go_on}
+use Rattle.proc_rules.specs.Send.{is_call}
+use Rattle.proc_rules.specs.Sleep.{may_wake}
+use Rattle.proc_rules.specs.IoReady.{has_io}
 use Rattle.io_rules.specs.Io.{Io}
 use Rattle.io_rules.specs.Waiting.{io_may_go, io_waits_for}
 use Rattle.lock_model.specs.Locks.{Locks, request_of}
@@ -28,7 +28,7 @@ use Rattle.machine_model.specs.State.{State}
 use Rattle.proc_state.proofs.Living.{place-living}
 use Rattle.proc_state.specs.Tie.{processes_of}
 use Rattle.proc_state.specs.declared.state.ProcState.{ProcState}
-use Rattle.process_choice.specs.Active.{AreActiveAt}
+use Rattle.proc_state.specs.Active.{AreActiveAt}
 use Rattle.os9_kernel.specs.Causes.{awaited}
 use Rattle.os9_kernel.specs.Looks.{EndsNotBefore, may_go_in}
 use Rattle.os9_kernel.specs.Outside.{Outside}

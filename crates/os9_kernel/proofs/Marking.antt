@@ -5,9 +5,9 @@ use Rattle.std.proofs.lemmas.Bool.{false≢true}
 use Rattle.os9_base.specs.declared.registers.TimePacket.{TimePacket}
 use Rattle.os9_sched.specs.declared.member.Cause.{Cause}
 use Rattle.proc_rules.specs.Records.{IsLiving}
-use Rattle.call_rules.specs.IoReady.{has_io}
-use Rattle.call_rules.specs.Ready.{act_of, attempts, delivers}
-use Rattle.call_rules.specs.declared.proc_call.ProcCall.TheVariants.{Fork}
+use Rattle.proc_rules.specs.IoReady.{has_io}
+use Rattle.proc_rules.specs.Ready.{act_of, attempts, delivers}
+use Rattle.proc_rules.specs.declared.proc_call.ProcCall.TheVariants.{Fork}
 use Rattle.io_model.specs.Path.{ArePaths}
 use Rattle.io_rules.specs.Io.{Io, OpenPath}
 use Rattle.io_rules.specs.Waiting.{io_may_go}
@@ -16,14 +16,14 @@ use Rattle.file_rules.specs.Attempts.{asker_of}
 use Rattle.file_rules.specs.Locking.{wait_cause}
 use Rattle.file_rules.specs.declared.path_call.PathCall.{PathCall}
 use Rattle.file_laws.specs.Devices.{number_in}
-use Rattle.event_rules.specs.declared.ends.EventEnd.{EventEnd}
+use Rattle.machine_model.specs.declared.ends.EventEnd.{EventEnd}
 use Rattle.machine_model.specs.Event.{Event}
 use Rattle.machine_model.specs.Services.{on_paths, on_processes, service_of}
 use Rattle.machine_model.specs.State.{State}
-use Rattle.wake_laws.specs.Living.{IsRunOpen}
-use Rattle.wake_laws.specs.Touches.{NamesCause, Touches, cause_on}
-use Rattle.wake_laws.proofs.Events.{event-same}
-use Rattle.wake_laws.proofs.Waits.{waits-same}
+use Rattle.lock_laws.specs.Living.{IsRunOpen}
+use Rattle.lock_laws.specs.Touches.{NamesCause, Touches, cause_on}
+use Rattle.lock_laws.proofs.Events.{event-same}
+use Rattle.lock_laws.proofs.Waits.{waits-same}
 use Rattle.os9_kernel.specs.Marks.{Concerns, named_cause}
 use Rattle.os9_kernel.specs.Tie.{IsKnown}
 use Rattle.os9_kernel.specs.declared.kernel.Kernel.{Kernel}

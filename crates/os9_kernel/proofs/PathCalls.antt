@@ -7,19 +7,19 @@ use Rattle.os9_outer.specs.TerminalState.{TerminalState}
 use Rattle.proc_rules.specs.declared.record.Record.{Record}
 use Rattle.proc_rules.specs.Records.{IsLiving}
 use Rattle.proc_calls.specs.Telling.{LivesOn}
-use Rattle.call_rules.specs.Attempts.{after_attempt, attempt_end}
-use Rattle.call_rules.specs.CallResult.{CallResult}
-use Rattle.call_rules.specs.Processes.{Processes}
+use Rattle.proc_rules.specs.Attempts.{after_attempt, attempt_end}
+use Rattle.proc_rules.specs.CallResult.{CallResult}
+use Rattle.proc_rules.specs.Processes.{Processes}
 use Rattle.io_rules.specs.Attempts.{result_by, result_of}
 use Rattle.io_rules.specs.Step.{IoEffect, IoEnd, answers, fails, keeps}
-use Rattle.event_rules.specs.declared.ends.EventEnd.TheVariants as Event
+use Rattle.machine_model.specs.declared.ends.EventEnd.TheVariants as Event
 use Rattle.file_rules.specs.Attempts.{FileAttempts, io_effect}
 use Rattle.file_rules.specs.Files.{Files}
 use Rattle.file_rules.specs.declared.path_call.PathCall.{PathCall}
-use Rattle.file_dispatch.specs.Dates.{IsTimeFor, sets_date}
+use Rattle.path_dispatch.specs.Dates.{IsTimeFor, sets_date}
 use Rattle.file_state.specs.Tie.{IsSound}
-use Rattle.civil_time.proofs.Days.{same-packet}
-use Rattle.civil_time.proofs.Next.{later-packet}
+use Rattle.time_rules.proofs.Days.{same-packet}
+use Rattle.time_rules.proofs.Next.{later-packet}
 use Rattle.time_rules.specs.Clock.{IsClock, IsNow, seconds_since}
 use Rattle.time_rules.specs.declared.clock.Clock.{Clock}
 use Rattle.machine_model.specs.State.{State}

@@ -5,20 +5,20 @@ use Rattle.std.proofs.lemmas.List.{get_or-set_same, length-set}
 use Rattle.os9_base.specs.declared.registers.Regs.{Regs}
 use Rattle.proc_rules.specs.declared.own.Own.{Own}
 use Rattle.proc_rules.specs.Records.{IsLiving}
-use Rattle.call_rules.specs.Attempts.{goes_on}
-use Rattle.call_rules.specs.Processes.{Processes, no_own, own_at}
-use Rattle.call_rules.specs.Ready.{act_of}
+use Rattle.proc_rules.specs.Attempts.{goes_on}
+use Rattle.proc_rules.specs.Processes.{Processes, no_own, own_at}
+use Rattle.proc_rules.specs.Ready.{act_of}
 use Rattle.proc_state.specs.declared.state.ProcState.{ProcState}
 use Rattle.proc_state.specs.Tie.{Represents}
-use Rattle.event_rules.specs.Console.{terminals_emptied}
+use Rattle.machine_model.specs.Console.{terminals_emptied}
 use Rattle.machine_model.specs.State.{State}
-use Rattle.wake_laws.proofs.OpenRuns.{emptied-open}
+use Rattle.lock_laws.proofs.OpenRuns.{emptied-open}
 use Rattle.os9_kernel.specs.declared.kernel.Kernel.{Kernel}
 use Rattle.os9_kernel.specs.Next.{next_of}
 use Rattle.os9_kernel.specs.Outside.{Outside}
 use Rattle.os9_kernel.specs.Tie.{Represents as RepresentsState}
 use Rattle.os9_kernel.proofs.Columns.{living-within}
-pub use Rattle.dir_calls.proofs.SameLemmas.{some-machine}
+pub use Rattle.name_calls.proofs.SameLemmas.{some-machine}
 
 -- there are 33 places for processes
 pub places-there : (processes : ProcState) (m : Processes) → Represents processes m → length m.records ≡ 33

@@ -6,11 +6,11 @@ use Rattle.cpu_model.specs.Step.{Outcome, Done}
 use Rattle.proc_model.specs.Memory.{MemoryState}
 use Rattle.proc_model.specs.MemoryChanges.{written}
 use Rattle.proc_rules.specs.Records.{IsLiving, record_at, is_waiting}
-use Rattle.call_rules.specs.Processes.{Processes, own_at, regs_at}
-use Rattle.call_rules.specs.Ready.{Act as MachineAct, executes, act_of, next_act}
-use Rattle.event_rules.specs.declared.ends.EventEnd.{EventEnd}
-use Rattle.event_rules.specs.declared.ends.EventEnd.TheVariants.{Ran}
-use Rattle.event_rules.specs.Event.{next_instruction, after_instruction, instruction_end}
+use Rattle.proc_rules.specs.Processes.{Processes, own_at, regs_at}
+use Rattle.proc_rules.specs.Ready.{Act as MachineAct, executes, act_of, next_act}
+use Rattle.machine_model.specs.declared.ends.EventEnd.{EventEnd}
+use Rattle.machine_model.specs.declared.ends.EventEnd.TheVariants.{Ran}
+use Rattle.machine_model.specs.ProcessEvent.{next_instruction, after_instruction, instruction_end}
 use Rattle.machine_model.specs.Event.{Acts, Event, cost, files_after_instruction}
 use Rattle.machine_model.specs.State.{State}
 use Rattle.os9_kernel.specs.Slice.{Instructions, last, more}

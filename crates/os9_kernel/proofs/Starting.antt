@@ -1,13 +1,13 @@
 -- The start of a kernel is one of the machine.
 use Rattle.std.proofs.Common.{◌≡◌, ℕ, ◌<◌, ◌≤◌, true, Ok, Err, None, option_map, List, length, refl, sym, subst, arith}
 use Rattle.os9_base.specs.declared.registers.Pid.{Pid}
-use Rattle.call_rules.specs.Processes.{Processes}
-use Rattle.civil_time.specs.CivilTime.{is_time_packet}
+use Rattle.proc_rules.specs.Processes.{Processes}
+use Rattle.time_rules.specs.CivilTime.{is_time_packet}
 use Rattle.file_drives.specs.Drives.{DriveView}
-use Rattle.file_start.specs.Start.{StartedOn, StartsDrives}
-use Rattle.file_start.specs.declared.fault.StartFault.TheVariants.{OutOfMemory, Drive}
+use Rattle.cold_start.specs.Start.{StartedOn, StartsDrives}
+use Rattle.cold_start.specs.declared.fault.StartFault.TheVariants.{OutOfMemory, Drive}
 use Rattle.file_state.specs.declared.state.FileState.{FileState}
-use Rattle.event_rules.specs.Start.{StartsProcesses, first_start, only_process}
+use Rattle.machine_model.specs.ProcessStart.{StartsProcesses, first_start, only_process}
 use Rattle.proc_state.specs.Tie.{Represents as RepresentsProcesses}
 use Rattle.proc_state.specs.declared.state.ProcState.{ProcState}
 use Rattle.time_rules.specs.Clock.{first_clock}
@@ -17,7 +17,7 @@ use Rattle.os9_kernel.specs.declared.kernel.Kernel.{Kernel}
 use Rattle.os9_kernel.specs.declared.new.Config.{Config}
 use Rattle.os9_kernel.specs.Outside.{Outside}
 use Rattle.os9_kernel.specs.Starting.{IsStarted, boot_of}
-use Rattle.wake_laws.proofs.OpenRuns.{start-open}
+use Rattle.lock_laws.proofs.OpenRuns.{start-open}
 
 -- the processes are those of a machine that starts
 abbrev pub ProcessesStart : List ℕ → ℕ → ProcState → Type 0

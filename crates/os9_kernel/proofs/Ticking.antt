@@ -1,7 +1,7 @@
 -- A tick of the kernel is one of the machine.
 use Rattle.std.proofs.Common.{◌≡◌, ℕ, ◌+◌, Bool, List, refl, sym, ap, subst, arith}
 use Rattle.os9_outer.specs.TerminalState.{TerminalState}
-use Rattle.call_rules.specs.Processes.{Processes}
+use Rattle.proc_rules.specs.Processes.{Processes}
 use Rattle.io_rules.specs.Arrivals.{Arrivals, ArrivesFrom, Desk}
 use Rattle.io_rules.specs.Io.{Io}
 use Rattle.key_arrivals.specs.Keys.{PollBreaks, desk}
@@ -12,7 +12,7 @@ use Rattle.file_rules.specs.Files.{with_io}
 use Rattle.file_state.proofs.StateLemmas.{stands-with_io}
 use Rattle.file_state.specs.Tie.{StandsFor}
 use Rattle.file_state.specs.declared.state.FileState.{FileState}
-use Rattle.process_choice.specs.Active.{AreActiveAt}
+use Rattle.proc_state.specs.Active.{AreActiveAt}
 use Rattle.machine_model.specs.Run.{BreaksTick, Tick, desk_of}
 use Rattle.machine_model.specs.State.{State}
 use Rattle.os9_kernel.specs.declared.kernel.Kernel.{Kernel}
@@ -21,7 +21,7 @@ use Rattle.os9_kernel.specs.Tie.{IsKnown, IsLooked, Represents, ticks}
 use Rattle.os9_kernel.specs.declared.marks.Known.{Known}
 use Rattle.os9_kernel.proofs.Looking.{looked-next}
 use Rattle.os9_kernel.proofs.Marking.{known-later}
-use Rattle.wake_laws.proofs.OpenRuns.{tick-open}
+use Rattle.lock_laws.proofs.OpenRuns.{tick-open}
 
 -- the kernel's files with this input and output
 abbrev pub with_keys : FileState → Io → FileState
@@ -63,7 +63,7 @@ module _ (old : Kernel) (before : Outside) (s : State) (tied : Represents old be
   tick-then processes io until known looked is_known after next drives arrives there =
       let here : Desk = desk next io after.terms in
       let arrivals : Arrivals (s.processes.tick + 1) (desk_of s) here =
-          subst (λ n. Arrivals n (desk_of s) here) tick-is (subst (λ (from : Desk). Arrivals (ticks old + 1) from here) desk-is arrives) in
+      subst (λ n. Arrivals n (desk_of s) here) tick-is (subst (λ (from : Desk). Arrivals (ticks old + 1) from here) desk-is arrives) in
       let t : State = record s { processes = next; files = with_io s.files io; terms = after.terms } in
       let ticked : Tick s t = (here, arrivals, refl) in
       let stands : StandsFor (with_keys old.files io) before.drives (with_io s.files io) = stands-with_io old.files before.drives s.files io io refl tied.files in (

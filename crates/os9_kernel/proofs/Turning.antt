@@ -8,12 +8,12 @@ use Rattle.cpu6809.specs.declared.execution.Ran.{Ran as RanOn}
 use Rattle.proc_model.specs.Memory.{MemoryState}
 use Rattle.proc_rules.specs.Records.{IsLiving}
 use Rattle.guest_memory.specs.Running.{LeavesMemory, FollowInMemory, EndsInMemory, RunsInMemory}
-use Rattle.call_rules.specs.End.{ended}
-use Rattle.call_rules.specs.Processes.{Processes, own_at, regs_at, with_own}
-use Rattle.call_rules.specs.Ready.{executes, act_of}
+use Rattle.proc_rules.specs.End.{ended}
+use Rattle.proc_rules.specs.Processes.{Processes, own_at, regs_at, with_own}
+use Rattle.proc_rules.specs.Ready.{executes, act_of}
 use Rattle.file_rules.specs.Processes.{files_ended}
-use Rattle.event_rules.specs.declared.ends.EventEnd.{EventEnd}
-use Rattle.event_rules.specs.declared.ends.EventEnd.TheVariants.{Ran, Ended}
+use Rattle.machine_model.specs.declared.ends.EventEnd.{EventEnd}
+use Rattle.machine_model.specs.declared.ends.EventEnd.TheVariants.{Ran, Ended}
 use Rattle.machine_model.specs.Event.{Event}
 use Rattle.machine_model.specs.State.{State}
 use Rattle.os9_kernel.specs.Slice.{Instructions, last}
@@ -76,7 +76,7 @@ module _ (s : State) (p : ℕ) (chosen : s.chosen ≡ Some p) (lives : IsLiving 
       (subst (λ (x : MemoryState). Event (at held before) Ran (record s { processes = calling x now other })) (sym memory)
       (subst (λ (r : Regs). Event (at held before) Ran (record s { processes = calling held r other })) (sym registers)
       (subst (λ (m : Processes). Event (at held before) Ran (record s { processes = with_own m p (record (own_at s.processes p) { call = Some other }) }))
-          (processes_at-then s.processes p lives held held before past)
+      (processes_at-then s.processes p lives held held before past)
       (instruction-event s p chosen lives next held before (Calls other past) is))))
   by_call before held (Aborts status) code is left = cc (left.0)
 

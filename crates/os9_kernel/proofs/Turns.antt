@@ -2,9 +2,9 @@
 use Rattle.std.proofs.Common.{◌≡◌, ℕ, ◌+◌, ◌-◌, ◌<◌, ◌≤◌, false, Option, Some, None, List, [], ◌∷◌, ◌++◌, inl, inr, refl, sym, ◌∙◌, subst, arith, append_assoc, append-nil}
 use Rattle.std.specs.Prelude.{MatchOption}
 use Rattle.os9_base.specs.declared.registers.Pid.{Pid}
-use Rattle.event_rules.specs.declared.ends.EventEnd.{EventEnd}
-use Rattle.event_rules.specs.declared.ends.SliceEnd.TheVariants.{Idle, Ran}
-use Rattle.event_rules.specs.Event.{cost_of}
+use Rattle.machine_model.specs.declared.ends.EventEnd.{EventEnd}
+use Rattle.machine_model.specs.declared.ends.SliceEnd.TheVariants.{Idle, Ran}
+use Rattle.machine_model.specs.ProcessEvent.{cost_of}
 use Rattle.machine_model.specs.Event.{Event, cost}
 use Rattle.machine_model.specs.Run.{Steps, FirstSteps, Slice, Tick, Choose, is_going}
 use Rattle.machine_model.specs.State.{State}

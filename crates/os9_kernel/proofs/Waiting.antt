@@ -13,11 +13,11 @@ use Rattle.proc_rules.specs.Records.{IsLiving, record_at, is_waiting}
 use Rattle.proc_calls.specs.Telling.{WaitsFor}
 use Rattle.proc_state.specs.Tie.{Comes}
 use Rattle.proc_state.specs.declared.state.ProcState.{ProcState}
-use Rattle.call_rules.specs.Processes.{Processes}
-use Rattle.call_rules.specs.Ready.{attempts, next_act}
+use Rattle.proc_rules.specs.Processes.{Processes}
+use Rattle.proc_rules.specs.Ready.{attempts, next_act}
 use Rattle.io_rules.specs.Attempts.{result_by, result_of}
 use Rattle.io_rules.specs.Step.{IoEffect, IoEnd, answers, fails, keeps}
-use Rattle.event_rules.specs.declared.ends.EventEnd.TheVariants as Event
+use Rattle.machine_model.specs.declared.ends.EventEnd.TheVariants as Event
 use Rattle.os9_kernel.specs.Ends.{event_end_of}
 
 -- an event waits where its call does

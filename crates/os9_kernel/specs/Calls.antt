@@ -1,8 +1,8 @@
 -- What the calls of a kernel leave; the devices are those before and after.
 use Rattle.std.specs.Prelude.{◌≡◌, ◌≢◌, ◌⊎◌, ℕ, ◌+◌, Result, IsOk, IsErr, List}
 use Rattle.os9_base.specs.declared.call.OutOfMemory.{OutOfMemory}
-use Rattle.event_rules.specs.declared.ends.EventEnd.{EventEnd}
-use Rattle.event_rules.specs.declared.ends.SliceEnd.{SliceEnd}
+use Rattle.machine_model.specs.declared.ends.EventEnd.{EventEnd}
+use Rattle.machine_model.specs.declared.ends.SliceEnd.{SliceEnd}
 use Rattle.machine_model.specs.Event.{Event}
 use Rattle.machine_model.specs.Run.{BeginsSlice, BreaksTick, Slice, Tick}
 use Rattle.machine_model.specs.State.{State}

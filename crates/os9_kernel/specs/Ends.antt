@@ -1,7 +1,7 @@
 -- How a call of a process ends its event.
 use Rattle.os9_base.specs.declared.call.CallEnd.{CallEnd}
-use Rattle.event_rules.specs.declared.ends.EventEnd.{EventEnd}
-use Rattle.event_rules.specs.declared.ends.EventEnd.TheVariants.{Ran, Waits, Ended, NoMemory}
+use Rattle.machine_model.specs.declared.ends.EventEnd.{EventEnd}
+use Rattle.machine_model.specs.declared.ends.EventEnd.TheVariants.{Ran, Waits, Ended, NoMemory}
 
 abbrev pub event_end_of : CallEnd → EventEnd
 event_end_of CallEnd.Done = Ran

@@ -6,8 +6,8 @@ use Rattle.os9_base.specs.declared.call.CallEnd.{CallEnd}
 use Rattle.os9_base.specs.declared.registers.TimePacket.{TimePacket}
 use Rattle.os9_outer.specs.declared.drive.BlockDriver.{Ghosts}
 use Rattle.device_table.specs.declared.devices.DeviceTable.{DeviceTable}
-use Rattle.call_rules.specs.CallResult.{CallResult}
-use Rattle.call_rules.specs.Processes.{Processes}
+use Rattle.proc_rules.specs.CallResult.{CallResult}
+use Rattle.proc_rules.specs.Processes.{Processes}
 use Rattle.file_rules.specs.Attempts.{asker_of}
 use Rattle.file_rules.specs.Files.{Asker, Files}
 use Rattle.file_rules.specs.Load.{LoadAttempts}

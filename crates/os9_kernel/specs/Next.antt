@@ -2,10 +2,10 @@
 use Rattle.std.specs.Prelude.{◌≡◌, ◌≢◌, ℕ, ◌+◌, ◌-◌, ◌*◌, ◌<◌, ◌≤◌, Some, slice_index_or}
 use Rattle.os9_base.specs.declared.registers.Pid.{Pid}
 use Rattle.proc_rules.specs.Records.{IsLiving, IsProcess, record_at, is_waiting}
-use Rattle.call_rules.specs.Processes.{no_own}
-use Rattle.call_rules.specs.Ready.{Act as MachineAct, attempts, delivers, executes, next_act}
+use Rattle.proc_rules.specs.Processes.{no_own}
+use Rattle.proc_rules.specs.Ready.{Act as MachineAct, attempts, delivers, executes, next_act}
 use Rattle.proc_state.specs.declared.state.ProcState.{ProcState}
-use Rattle.event_rules.specs.declared.ends.EventEnd.{EventEnd}
+use Rattle.machine_model.specs.declared.ends.EventEnd.{EventEnd}
 use Rattle.machine_model.specs.State.{State}
 use Rattle.os9_kernel.specs.declared.act.Act.{Act}
 use Rattle.os9_kernel.specs.declared.act.Act.TheVariants.{Attempt, Delivery, Instruction}

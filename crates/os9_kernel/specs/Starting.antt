@@ -1,12 +1,12 @@
 -- The start of a kernel.
 use Rattle.std.specs.Prelude.{◌≡◌, ◌≢◌, ℕ, ⊤, Result, Ok, Err, IfErr, IfOk, List, OnOk}
-use Rattle.event_rules.specs.Start.{Refuses}
-use Rattle.event_rules.specs.declared.ends.BootFault.{BootFault}
-use Rattle.event_rules.specs.declared.ends.BootFault.TheVariants.{OutOfMemory}
+use Rattle.machine_model.specs.ProcessStart.{Refuses}
+use Rattle.machine_model.specs.declared.ends.BootFault.{BootFault}
+use Rattle.machine_model.specs.declared.ends.BootFault.TheVariants.{OutOfMemory}
 use Rattle.file_drives.specs.Drives.{drive_states}
-use Rattle.file_start.specs.Start.{HaveImages, StartsDrives}
-use Rattle.file_start.specs.declared.fault.StartFault.{StartFault}
-use Rattle.file_start.specs.declared.fault.StartFault.TheVariants as Fault
+use Rattle.cold_start.specs.Start.{HaveImages, StartsDrives}
+use Rattle.cold_start.specs.declared.fault.StartFault.{StartFault}
+use Rattle.cold_start.specs.declared.fault.StartFault.TheVariants as Fault
 use Rattle.machine_model.specs.Start.{Boot as Started, Starts}
 use Rattle.machine_model.specs.State.{State}
 use Rattle.os9_kernel.specs.declared.kernel.Kernel.{Kernel}

@@ -2,16 +2,16 @@
 use Rattle.std.specs.Prelude.{◌≡◌, ◌<◌, ◌≤◌, ℕ, ◌+◌, ◌*◌, is_some, Bool, true, false, Option, Some, None, option_map, slice_index_or}
 use Rattle.os9_base.specs.declared.registers.Pid.{Pid}
 use Rattle.proc_rules.specs.Records.{IsLiving, record_at}
-use Rattle.call_rules.specs.Processes.{no_own}
-use Rattle.call_rules.specs.IoReady.{has_io}
+use Rattle.proc_rules.specs.Processes.{no_own}
+use Rattle.proc_rules.specs.IoReady.{has_io}
 use Rattle.os9_sched.specs.declared.member.Cause.{Cause}
 use Rattle.file_rules.specs.Locking.{wait_cause}
 use Rattle.proc_state.specs.declared.state.ProcState.{ProcState}
 use Rattle.proc_state.specs.Tie.{Represents as RepresentsProcesses}
 use Rattle.file_state.specs.Tie.{StandsFor}
 use Rattle.machine_model.specs.State.{State}
-use Rattle.wake_laws.specs.Living.{IsRunOpen}
-use Rattle.process_choice.specs.Active.{AreActiveAt}
+use Rattle.lock_laws.specs.Living.{IsRunOpen}
+use Rattle.proc_state.specs.Active.{AreActiveAt}
 use Rattle.os9_kernel.specs.Looks.{may_go_in}
 use Rattle.os9_kernel.specs.Marks.{Concerns}
 use Rattle.os9_kernel.specs.Outside.{Outside}

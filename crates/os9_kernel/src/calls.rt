@@ -1,7 +1,7 @@
 //! Attempts of calls on processes and modules that load nothing, and unknown codes.
 
 ghost use Rattle.std.specs.Prelude.{◌≡◌, ◌<◌, List};
-ghost use Rattle.call_rules.specs.Codes.{call_of};
+ghost use Rattle.proc_rules.specs.Codes.{call_of};
 ghost use Rattle.file_drives.specs.Drives.{DriveView};
 ghost use Rattle.file_rules.specs.Files.{Files};
 ghost use Rattle.file_state.specs.Tie.{StandsFor};
@@ -17,11 +17,11 @@ ghost use Rattle.os9_kernel.specs.Tie.{HasState, IsKnown, executed, pending};
 use crate::act::Act;
 use crate::kernel::Kernel;
 use crate::marks::Marks;
-use call_rules::proc_call::ProcCall;
-use event_rules::ends::EventEnd;
+use machine_model::ends::EventEnd;
 use os9_base::call::CallEnd;
 use os9_base::errors::E_UNKSVC;
 use os9_base::registers::Pid;
+use proc_rules::proc_call::ProcCall;
 
 impl Kernel {
     /// An attempt of a call on processes and modules that loads nothing.

@@ -13,12 +13,12 @@ use crate::service::{Service, service_by_code};
 use crate::turn::Turn;
 use cpu6809::Stop;
 use device_table::devices::Devices;
-use event_rules::ends::EventEnd;
+use machine_model::ends::EventEnd;
 use os9_base::call::CallEnd;
 use os9_base::registers::Pid;
 use os9_outer::drive::BlockDriver;
 use os9_outer::terminal::CharDriver;
-use process_choice::regs::set_regs;
+use proc_state::regs::set_regs;
 
 impl Kernel {
     /// An attempt of the call of the chosen process, with this code.

@@ -1,5 +1,5 @@
 ghost use Rattle.std.specs.Prelude.{◌≡◌, ◌<◌, ◌+◌, ◌^◌, IfSome, option_map, vec_len};
-ghost use Rattle.event_rules.specs.State.{living_count};
+ghost use Rattle.machine_model.specs.Living.{living_count};
 ghost use Rattle.file_rules.specs.Locking.{files_may_go};
 ghost use Rattle.machine_model.specs.Event.{cost};
 ghost use Rattle.machine_model.specs.State.{State};
@@ -7,21 +7,21 @@ ghost use Rattle.machine_model.specs.Run.{Choose};
 ghost use Rattle.os9_kernel.specs.Calls.{HasEvent, HasSlice, HasTick};
 ghost use Rattle.os9_kernel.specs.Outside.{OnDevices, Outside, outside};
 ghost use Rattle.os9_kernel.specs.Tie.{Represents, Stands, IsGoing, executed, ticks};
-ghost use Rattle.process_choice.specs.Active.{AreActiveAt};
+ghost use Rattle.proc_state.specs.Active.{AreActiveAt};
 
 use crate::act::Act;
 use crate::marks::{Known, Marks};
 use device_table::devices::Devices;
-use event_rules::ends::{EventEnd, SliceEnd};
 use file_state::state::FileState;
 use key_arrivals::keys::arrive_keys;
+use machine_model::ends::{EventEnd, SliceEnd};
 use os9_base::call::OutOfMemory;
 use os9_base::limits::LAST_TICK;
 use os9_base::registers::Pid;
 use os9_outer::drive::BlockDriver;
 use os9_outer::terminal::CharDriver;
+use proc_state::choice::dispatch;
 use proc_state::state::ProcState;
-use process_choice::choice::dispatch;
 use time_rules::clock::Clock;
 
 /// The kernel and the processes that it runs.

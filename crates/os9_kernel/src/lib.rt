@@ -1,8 +1,8 @@
 //! The kernel: its start, and slices of events, each of which is an event of the abstract machine.
 #![tactic(auto)]
 
-pub use event_rules::ends::{BootFault, EventEnd, SliceEnd};
 pub use kernel::Kernel;
+pub use machine_model::ends::{BootFault, EventEnd, SliceEnd};
 pub use new::{Config, StartError};
 pub use turn::Turn;
 

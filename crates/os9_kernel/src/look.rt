@@ -1,8 +1,8 @@
 //! Who is Ready: whom a choice looks at.
 
 ghost use Rattle.std.specs.Prelude.{◌≡◌, ◌<◌, ◌^◌, ℕ, true, IfNone, IfSome, option_and_then, slice_index_or};
-ghost use Rattle.call_rules.specs.Processes.{no_own};
-ghost use Rattle.call_rules.specs.IoReady.{has_io};
+ghost use Rattle.proc_rules.specs.Processes.{no_own};
+ghost use Rattle.proc_rules.specs.IoReady.{has_io};
 ghost use Rattle.file_rules.specs.Locking.{files_may_go};
 ghost use Rattle.machine_model.specs.State.{State};
 ghost use Rattle.os9_kernel.specs.Causes.{awaited};
@@ -10,15 +10,15 @@ ghost use Rattle.os9_kernel.specs.Looks.{EndsNotBefore, may_go_in};
 ghost use Rattle.os9_kernel.specs.Marks.{Concerns};
 ghost use Rattle.os9_kernel.specs.Outside.{Outside};
 ghost use Rattle.os9_kernel.specs.Tie.{IsKnown, Represents, ticks};
-ghost use Rattle.process_choice.specs.Active.{AreActiveAt};
+ghost use Rattle.proc_state.specs.Active.{AreActiveAt};
 
 use crate::kernel::Kernel;
 use crate::marks::{Known, Marks, with};
-use call_rules::io_ready::IoReady;
 use os9_base::limits::PROCESS_PLACES;
 use os9_base::registers::Pid;
 use os9_sched::{Cause, Wait};
-use process_choice::choice::settle;
+use proc_rules::io_ready::IoReady;
+use proc_state::choice::settle;
 
 impl Kernel {
     /// Makes exactly the Ready processes active. If only instructions were executed since the last

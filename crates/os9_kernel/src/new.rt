@@ -2,22 +2,22 @@
 
 ghost use Rattle.std.specs.Prelude.{◌≡◌, ◌<◌, ◌≤◌, true, IfErr, vec_len};
 ghost use Rattle.file_drives.specs.Drives.{drives_seen};
-ghost use Rattle.civil_time.specs.CivilTime.{is_time_packet};
-ghost use Rattle.file_start.specs.Start.{HaveVolumes};
+ghost use Rattle.time_rules.specs.CivilTime.{is_time_packet};
+ghost use Rattle.cold_start.specs.Start.{HaveVolumes};
 ghost use Rattle.os9_kernel.specs.Outside.{OnDevices};
 ghost use Rattle.os9_kernel.specs.Starting.{KernelStarts, WhereRefused};
 
 use crate::kernel::Kernel;
 use crate::marks::{Known, Marks};
-use call_rules::io_ready::IoReady;
+use cold_start::fault::StartFault;
+use cold_start::files::start_files;
+use cold_start::start;
 use device_table::devices::Devices;
-use event_rules::ends::BootFault;
-use file_start::fault::StartFault;
-use file_start::start::start_files;
+use machine_model::ends::BootFault;
 use os9_base::registers::TimePacket;
 use os9_outer::drive::BlockDriver;
 use os9_outer::terminal::CharDriver;
-use process_start::start;
+use proc_rules::io_ready::IoReady;
 use std::alloc::Global;
 use time_rules::clock::Clock;
 

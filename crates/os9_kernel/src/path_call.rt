@@ -3,10 +3,10 @@
 ghost use Rattle.std.specs.Prelude.{◌≡◌, ◌<◌, ℕ, true, Some, IfSome, vec_len};
 ghost use Rattle.proc_calls.specs.Telling.{LivesOn, WaitsFor};
 ghost use Rattle.proc_state.specs.Tie.{Comes, Represents};
-ghost use Rattle.call_rules.specs.Attempts.{after_attempt, attempt_end};
-ghost use Rattle.call_rules.specs.CallResult.{CallResult};
-ghost use Rattle.call_rules.specs.Processes.{Processes};
-ghost use Rattle.file_dispatch.specs.Dates.{sets_date as sets_date_model};
+ghost use Rattle.proc_rules.specs.Attempts.{after_attempt, attempt_end};
+ghost use Rattle.proc_rules.specs.CallResult.{CallResult};
+ghost use Rattle.proc_rules.specs.Processes.{Processes};
+ghost use Rattle.path_dispatch.specs.Dates.{sets_date as sets_date_model};
 ghost use Rattle.file_state.specs.Attempt.{records_settled};
 ghost use Rattle.machine_model.specs.Services.{on_paths, service_of};
 ghost use Rattle.file_rules.specs.Attempts.{asker_of};
@@ -23,26 +23,26 @@ ghost use Rattle.os9_sched.specs.declared.member.Cause.{Cause as CauseModel};
 ghost use Rattle.proc_rules.specs.Records.{IsLiving};
 ghost use Rattle.time_rules.specs.Clock.{IsClock, IsNow};
 ghost use Rattle.file_laws.specs.Devices.{number_in as number_in_model};
-ghost use Rattle.wake_laws.specs.Touches.{cause_on as cause_on_model};
+ghost use Rattle.lock_laws.specs.Touches.{cause_on as cause_on_model};
 
 use crate::act::Act;
 use crate::calls::event_end;
 use crate::kernel::Kernel;
 use crate::marks::Marks;
+use call_dispatch::clock::now;
 use device_table::devices::Devices;
-use event_rules::ends::EventEnd;
-use file_dispatch::calls::{attempt, sets_date};
 use file_rules::path_call::PathCall;
 use io_model::path::Target;
 use io_rules::modes::STANDARD_ERROR;
+use machine_model::ends::EventEnd;
 use os9_base::call::CallEnd;
 use os9_base::registers::{Pid, Regs, TimePacket};
 use os9_outer::drive::BlockDriver;
 use os9_outer::terminal::CharDriver;
 use os9_sched::{Cause, Wait};
+use path_dispatch::calls::{attempt, sets_date};
 use proc_calls::telling::tell;
 use record_locks::records::Records;
-use time_calls::clock::now;
 
 /// What is told of a call that does not wait.
 const NO_WAIT: Wait = Wait {

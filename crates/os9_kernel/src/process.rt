@@ -3,15 +3,15 @@
 ghost use Rattle.std.specs.Prelude.{◌≡◌, ◌<◌, List, Some};
 ghost use Rattle.proc_rules.specs.Records.{IsLiving, record_at};
 ghost use Rattle.proc_state.specs.Tie.{Represents};
-ghost use Rattle.call_rules.specs.End.{ended};
-ghost use Rattle.call_rules.specs.Processes.{Processes, own_at, with_own};
+ghost use Rattle.proc_rules.specs.End.{ended};
+ghost use Rattle.proc_rules.specs.Processes.{Processes, own_at, with_own};
 ghost use Rattle.io_rules.specs.Waiting.{interrupted_count};
 ghost use Rattle.file_drives.specs.Drives.{DriveView};
 ghost use Rattle.file_rules.specs.Files.{Files};
 ghost use Rattle.file_rules.specs.Locking.{files_interrupted};
 ghost use Rattle.file_rules.specs.Processes.{files_ended};
 ghost use Rattle.file_state.specs.Tie.{StandsFor};
-ghost use Rattle.event_rules.specs.Event.{broken_off};
+ghost use Rattle.machine_model.specs.ProcessEvent.{broken_off};
 ghost use Rattle.os9_kernel.specs.Tie.{executed};
 
 use crate::kernel::Kernel;

@@ -10,9 +10,9 @@ ghost use Rattle.os9_kernel.specs.Tie.{HasState, executed, pending};
 use crate::act::Act;
 use crate::calls::event_end;
 use crate::kernel::Kernel;
-use event_rules::ends::EventEnd;
+use call_dispatch::time_calls::attempt;
+use machine_model::ends::EventEnd;
 use os9_base::registers::Pid;
-use time_calls::calls::attempt;
 use time_rules::time_call::TimeCall;
 
 impl Kernel {

@@ -9,7 +9,7 @@ ghost use Rattle.os9_kernel.specs.Tie.{IsGoing, Stands, executed};
 use crate::act::Act;
 use crate::kernel::Kernel;
 use device_table::devices::Devices;
-use event_rules::ends::{EventEnd, SliceEnd};
+use machine_model::ends::{EventEnd, SliceEnd};
 use os9_base::registers::Pid;
 use os9_outer::drive::BlockDriver;
 use os9_outer::terminal::CharDriver;

@@ -2,14 +2,14 @@
 //! record locks, and of each process the registers, the bytes and whether a tick ends its wait.
 
 ghost use Rattle.std.specs.Prelude.{◌≡◌, ◌<◌, option_map};
-ghost use Rattle.call_rules.specs.Processes.{cells_at};
-ghost use Rattle.call_rules.specs.Send.{is_call as is_call_model};
+ghost use Rattle.proc_rules.specs.Processes.{cells_at};
+ghost use Rattle.proc_rules.specs.Send.{is_call as is_call_model};
 ghost use Rattle.lock_model.specs.History.{AtomicPairs};
 ghost use Rattle.machine_model.specs.State.{State};
 ghost use Rattle.os9_kernel.specs.Outside.{Outside};
 ghost use Rattle.os9_kernel.specs.Tie.{Represents, executed};
 ghost use Rattle.os9_kernel.specs.View.{has_limit as has_limit_model, living_regs, sleeps_by_clock as sleeps_by_clock_model, wakes_by_clock as wakes_by_clock_model};
-ghost use Rattle.user_names.specs.UserNames.{user_cell};
+ghost use Rattle.os9_base.specs.UserNames.{user_cell};
 
 use crate::kernel::Kernel;
 use lock_model::history::Entry;

@@ -4,10 +4,10 @@ use Rattle.std.specs.Prelude.{nat_le, ◌&&◌, option_and_then, option_map, if�
 use Rattle.std.specs.Option.{option_map_or}
 use Rattle.std.proofs.lemmas.Bool.{leb-true}
 use Rattle.os9_base.specs.declared.registers.TimePacket.{TimePacket}
-use Rattle.civil_time.specs.CivilTime.{is_time_packet}
+use Rattle.time_rules.specs.CivilTime.{is_time_packet}
 use Rattle.text_values.specs.Number.{number_of, within}
-use Rattle.time_text.specs.TimeText.{time_in}
-use Rattle.time_text.proofs.Places.{is-read}
+use Rattle.os9_clock.specs.TimeText.{time_in}
+use Rattle.os9_clock.proofs.Places.{is-read}
 use Rattle.option_reader.specs.Given.{Given, only_argument, value_of, words_give}
 use Rattle.os9_words.specs.declared.asm_words.AsmWords.{AsmWords}
 use Rattle.os9_words.specs.declared.command.Command.{Command}

@@ -6,7 +6,7 @@ use Rattle.std.proofs.lemmas.Bool.{eqb-true, leb-true}
 use Rattle.std.proofs.lemmas.List.{length-take, take_all}
 use Rattle.std.proofs.lemmas.Slice.Eq.{bytes_eq-Decides}
 use Rattle.os9_base.specs.declared.registers.TimePacket.{TimePacket}
-use Rattle.civil_time.specs.CivilTime.{is_time_packet}
+use Rattle.time_rules.specs.CivilTime.{is_time_packet}
 use Rattle.text_values.specs.Number.{number_of, within}
 use Rattle.rbf_model.specs.Geometry.{is_cluster_size}
 use Rattle.option_reader.specs.Given.{Given, value_of}

@@ -2,7 +2,7 @@
 use Rattle.std.specs.Prelude.{◌≡◌, ℕ, ◌<◌, ◌≤◌, true, nat_le, ◌&&◌, length, Option, Some, None, IsSome, option_and_then, option_map, Result, Ok, Err, ⊤, List, [], ◌∷◌, ◌++◌, bytes_eq, codes, if◌then◌else◌}
 use Rattle.std.specs.Option.{option_map_or}
 use Rattle.os9_base.specs.declared.registers.TimePacket.{TimePacket}
-use Rattle.civil_time.specs.CivilTime.{is_time_packet}
+use Rattle.time_rules.specs.CivilTime.{is_time_packet}
 use Rattle.text_values.specs.Number.{number_of, within}
 use Rattle.option_reader.specs.Given.{Given, only_argument, value_of, words_give}
 use Rattle.os9_words.specs.Asm.{asm_of, asm_options}

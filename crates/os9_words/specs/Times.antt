@@ -2,7 +2,7 @@
 use Rattle.std.specs.Prelude.{codes, Option, Some}
 use Rattle.std.specs.Option.{option_map_or}
 use Rattle.os9_base.specs.declared.registers.TimePacket.{TimePacket}
-use Rattle.time_text.specs.TimeText.{time_in}
+use Rattle.os9_clock.specs.TimeText.{time_in}
 use Rattle.option_reader.specs.Given.{Given, value_of}
 
 -- the start without `--time`: the beginning of 1990

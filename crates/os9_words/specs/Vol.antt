@@ -2,7 +2,7 @@
 use Rattle.std.specs.Prelude.{◌≡◌, ◌≢◌, ℕ, ◌+◌, ◌≤◌, nat_eq, true, length, Option, Some, None, option_and_then, List, [], ◌∷◌, bytes_eq, codes, drop, slice_get, if◌then◌else◌}
 use Rattle.std.specs.Option.{option_map_or}
 use Rattle.os9_base.specs.declared.registers.TimePacket.{TimePacket}
-use Rattle.civil_time.specs.CivilTime.{is_time_packet}
+use Rattle.time_rules.specs.CivilTime.{is_time_packet}
 use Rattle.text_values.specs.Number.{number_of, within}
 use Rattle.rbf_model.specs.Geometry.{is_cluster_size}
 use Rattle.option_reader.specs.Given.{Given, value_of}

@@ -1,6 +1,6 @@
 ghost use Rattle.std.specs.Prelude.{◌≡◌, ◌≢◌, ◌<◌, ◌≤◌, ◌&&◌, nat_le, true, None, Some, IfOk, IfSome, [], ◌∷◌, codes, length, map, option_and_then, option_map, string_bytes, take};
 ghost use Rattle.std.specs.List.{All};
-ghost use Rattle.civil_time.specs.CivilTime.{is_time_packet};
+ghost use Rattle.time_rules.specs.CivilTime.{is_time_packet};
 ghost use Rattle.os9_words.specs.Command.{boot_options, command_of, check_options, most_images, stress_options, IsCommand, IsRun, OnRefused};
 ghost use Rattle.os9_words.specs.Command.{boot_of as boot_of_model, check_of as check_of_model, run_of as run_of_model};
 ghost use Rattle.os9_words.specs.Command.{seed_of as seed_of_model, stress_of as stress_of_model};
@@ -18,10 +18,10 @@ use crate::vol_words::{VolWords, read_vol};
 use crate::word::{Word, Words};
 use option_reader::{GivenWords, read_given};
 use os9_base::registers::TimePacket;
+use os9_clock::read_time;
 use std::alloc::{AllocError, Global};
 use text_values::read_number;
 use thiserror::Error;
-use time_text::read_time;
 
 /// The words of a command that runs programs.
 #[derive(Debug, Drop)]

@@ -1,7 +1,7 @@
 //! The words of `vol`, the tools for the images of disks.
 
 ghost use Rattle.std.specs.Prelude.{◌≡◌, ◌≢◌, ◌+◌, ◌≤◌, nat_eq, codes, IfOk, IfSome, Some, None, drop, length, map, option_and_then, slice_get, string_bytes, take, true};
-ghost use Rattle.civil_time.specs.CivilTime.{is_time_packet};
+ghost use Rattle.time_rules.specs.CivilTime.{is_time_packet};
 ghost use Rattle.rbf_model.specs.Geometry.{is_cluster_size as is_cluster_size_model};
 ghost use Rattle.option_reader.specs.Given.{value_of, words_give};
 ghost use Rattle.os9_words.specs.Command.{OnRefused};

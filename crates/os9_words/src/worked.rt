@@ -1,7 +1,7 @@
 //! Words with the commands that they spell, as laws that the check computes from the definitions.
 
 ghost use Rattle.std.specs.Prelude.{◌≡◌, [], ◌∷◌, Some, None, codes, option_map};
-ghost use Rattle.civil_time.specs.Rows.{at};
+ghost use Rattle.time_rules.specs.CivilRows.{at};
 ghost use Rattle.os9_words.specs.Command.{boot_words_with, command_of, run_with, with_history};
 ghost use Rattle.os9_words.specs.Debug.{debug_with};
 ghost use Rattle.os9_words.specs.Run.{run_words_with};

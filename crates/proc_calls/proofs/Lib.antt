@@ -1,3 +1,8 @@
+pub mod Addresses
+pub mod Linking
+pub mod Naming
+pub mod Steps
+pub mod Unlinking
 pub mod Turns
 pub mod Comparing
 pub mod Seen

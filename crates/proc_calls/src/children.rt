@@ -3,9 +3,9 @@
 ghost use Rattle.std.specs.Prelude.{◌≡◌, OnErr};
 ghost use Rattle.proc_rules.specs.Ends.{reaped, after_reap};
 ghost use Rattle.proc_rules.specs.Records.{IsLiving, record_at};
-ghost use Rattle.call_rules.specs.Exit.{f_exit as f_exit_model};
-ghost use Rattle.call_rules.specs.Processes.{Processes, with_records};
-ghost use Rattle.call_rules.specs.Wait.{f_wait as f_wait_model};
+ghost use Rattle.proc_rules.specs.Exit.{f_exit as f_exit_model};
+ghost use Rattle.proc_rules.specs.Processes.{Processes, with_records};
+ghost use Rattle.proc_rules.specs.Wait.{f_wait as f_wait_model};
 ghost use Rattle.proc_state.specs.Tie.{Represents, Comes};
 ghost use Rattle.proc_calls.specs.Telling.{KeepsTurns};
 

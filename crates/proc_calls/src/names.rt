@@ -3,18 +3,18 @@
 ghost use Rattle.std.specs.Prelude.{◌≡◌, ◌<◌, IfNone, IfSome};
 ghost use Rattle.os9_base.specs.Name.{lower as lower_model};
 ghost use Rattle.proc_rules.specs.Records.{IsLiving};
-ghost use Rattle.call_rules.specs.CmpNam.{f_cmpnam as f_cmpnam_model, agrees as agrees_model, same_names as same_names_model};
-ghost use Rattle.call_rules.specs.Processes.{Processes, cells_at, regs_at};
-ghost use Rattle.call_rules.specs.PrsNam.{f_prsnam as f_prsnam_model, past_slash as past_slash_model, parses_name as parses_name_model};
+ghost use Rattle.proc_rules.specs.CmpNam.{f_cmpnam as f_cmpnam_model, agrees as agrees_model, same_names as same_names_model};
+ghost use Rattle.proc_rules.specs.Processes.{Processes, cells_at, regs_at};
+ghost use Rattle.proc_rules.specs.PrsNam.{f_prsnam as f_prsnam_model, past_slash as past_slash_model, parses_name as parses_name_model};
 ghost use Rattle.guest_memory.specs.Tie.{cells_of};
 ghost use Rattle.proc_state.specs.Tie.{Represents, Comes};
 
 use guest_memory::memory::Memory;
 use os9_base::call::CallEnd;
 use os9_base::errors::{E_BNAM, E_BPADDR};
+use os9_base::name_fault::NameFault;
 use os9_base::registers::{Pid, Regs};
 use proc_state::state::ProcState;
-use user_names::name_fault::NameFault;
 
 /// F$PrsNam: parses the name at the address in X, and skips one slash before it (System
 /// Programmer's Manual, F$PrsNam). Returns the address of its first character in X, the address

@@ -3,10 +3,10 @@
 ghost use Rattle.std.specs.Prelude.{◌≡◌};
 ghost use Rattle.proc_rules.specs.Records.{IsLiving, is_living};
 ghost use Rattle.proc_rules.specs.Signals.{is_reached};
-ghost use Rattle.call_rules.specs.Processes.{Processes};
-ghost use Rattle.call_rules.specs.Id.{f_id as f_id_model};
-ghost use Rattle.call_rules.specs.SPrior.{f_sprior as f_sprior_model};
-ghost use Rattle.call_rules.specs.SUser.{f_suser as f_suser_model};
+ghost use Rattle.proc_rules.specs.Processes.{Processes};
+ghost use Rattle.proc_rules.specs.Id.{f_id as f_id_model};
+ghost use Rattle.proc_rules.specs.SPrior.{f_sprior as f_sprior_model};
+ghost use Rattle.proc_rules.specs.SUser.{f_suser as f_suser_model};
 ghost use Rattle.proc_state.specs.Tie.{Represents, Comes};
 
 use os9_base::call::CallEnd;

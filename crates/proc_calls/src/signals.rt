@@ -2,9 +2,9 @@
 
 ghost use Rattle.std.specs.Prelude.{◌≡◌};
 ghost use Rattle.proc_rules.specs.Records.{IsLiving};
-ghost use Rattle.call_rules.specs.Processes.{Processes};
-ghost use Rattle.call_rules.specs.Icpt.{f_icpt as f_icpt_model};
-ghost use Rattle.call_rules.specs.Send.{f_send as f_send_model, is_call as is_call_model, woken};
+ghost use Rattle.proc_rules.specs.Processes.{Processes};
+ghost use Rattle.proc_rules.specs.Icpt.{f_icpt as f_icpt_model};
+ghost use Rattle.proc_rules.specs.Send.{f_send as f_send_model, is_call as is_call_model, woken};
 ghost use Rattle.proc_state.specs.Tie.{Represents, Comes};
 
 use os9_base::call::CallEnd;

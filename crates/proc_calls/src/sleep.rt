@@ -3,8 +3,8 @@
 ghost use Rattle.std.specs.Prelude.{◌≡◌, ◌+◌, ◌≤◌};
 ghost use Rattle.std.specs.Option.{ForSome};
 ghost use Rattle.proc_rules.specs.Records.{IsLiving};
-ghost use Rattle.call_rules.specs.Processes.{Processes};
-ghost use Rattle.call_rules.specs.Sleep as model;
+ghost use Rattle.proc_rules.specs.Processes.{Processes};
+ghost use Rattle.proc_rules.specs.Sleep as model;
 ghost use Rattle.os9_base.specs.declared.limits.TheConstants.{LAST_TICK};
 ghost use Rattle.proc_state.specs.Tie.{Represents, Comes};
 ghost use Rattle.proc_calls.specs.Telling.{KeepsTurns};

@@ -11,10 +11,10 @@ use Rattle.proc_model.specs.MemoryChanges.{stored}
 use Rattle.proc_rules.specs.declared.record.Intercept.{Intercept}
 use Rattle.proc_rules.specs.Records.{record_at, is_waiting}
 use Rattle.proc_rules.specs.Signals.{with_signal}
-use Rattle.call_rules.specs.Attempts.{goes_on, refused_regs}
-use Rattle.call_rules.specs.Delivery.{frame_bytes, stack_top, has_no_room, interrupted, interrupted_regs, routine_begun, routine_regs, with_frame}
-use Rattle.call_rules.specs.Processes.{Processes, cells_at, regs_at, with_memory, with_records, with_regs_of}
-use Rattle.call_rules.specs.UserBytes.{user_bytes}
+use Rattle.proc_rules.specs.Attempts.{goes_on, refused_regs}
+use Rattle.proc_rules.specs.Delivery.{frame_bytes, stack_top, has_no_room, interrupted, interrupted_regs, routine_begun, routine_regs, with_frame}
+use Rattle.proc_rules.specs.Processes.{Processes, cells_at, regs_at, with_memory, with_records, with_regs_of}
+use Rattle.proc_rules.specs.UserBytes.{user_bytes}
 use Rattle.proc_state.specs.Delivery.{frame_place}
 use Rattle.proc_state.proofs.UserBytes.{user_bytes-fits, user_bytes-None}
 

@@ -6,9 +6,9 @@ use Rattle.std.proofs.lemmas.Bool.{cases_lt}
 use Rattle.block_pool.specs.Blocks.{IsLive}
 use Rattle.guest_memory.specs.declared.memory.Memory.{Memory}
 use Rattle.guest_memory.specs.Tie.{Represents, modules_of}
-use Rattle.memory_laws.specs.Memory.{memory_of}
-use Rattle.memory_laws.specs.Renaming.{renamed_entry}
-use Rattle.memory_laws.proofs.Directory.{entry_at-renamed}
+use Rattle.guest_memory.specs.Memory.{memory_of}
+use Rattle.guest_memory.specs.Renaming.{renamed_entry}
+use Rattle.guest_memory.proofs.Directory.{entry_at-renamed}
 use Rattle.proc_model.specs.Memory.{MemoryState}
 use Rattle.proc_model.specs.ModuleList.{ModuleEntry, module_entry_at}
 

@@ -9,3 +9,5 @@ pub mod Primaries
 mod Sleeps
 pub mod UserBytes
 pub mod FreeNumbers
+mod Choosing
+mod Registers

@@ -2,7 +2,7 @@
 use Rattle.std.proofs.Common.{◌≡◌, ℕ, suc, ◌+◌, ◌<◌, ◌==◌, cond, Bool, true, false, not, Option, None, List, [], ◌∷◌, length, set, get_or, refl, sym, ap, arith}
 use Rattle.std.proofs.lemmas.Bool.Decides.{nat_tests}
 use Rattle.std.proofs.lemmas.Grind.{common_steps}
-use Rattle.std.proofs.lemmas.List.Sums.{sum_by-set}
+use Rattle.std.proofs.lemmas.List.Sums.{sum_by-cons, sum_by-set}
 use Rattle.proc_rules.specs.declared.record.Record.{Record}
 use Rattle.proc_rules.specs.declared.turn.Turn.{Turn}
 use Rattle.proc_rules.specs.Records.{has_ended, is_living, record_passes}
@@ -19,15 +19,17 @@ nobody : (records : List (Option Record)) → ((p : ℕ) → is_living records p
 nobody [] none = refl
 nobody (place ∷ records) none =
     let others : living_count records ≡ 0 = nobody records (λ p. none (suc p)) in
-    let here : cond (lives place) 1 0 ≡ 0 = ap (λ (b : Bool). cond b 1 0) (none 0) in
-    omega (arith, here, others)
+    let here : ◌≡◌ {A = ℕ} (cond (lives place) 1 0) 0 = ap (λ (b : Bool). cond b 1 0) (none 0) in
+    let step : living_count (place ∷ records) ≡ cond (lives place) 1 0 + living_count records =
+    sum_by-cons (λ (other : Option Record). cond (lives other) 1 0) place records in
+    omega (arith, step, here, others)
 
 -- one lives fewer, without one of them
 one-less : (records : List (Option Record)) (p : ℕ) → is_living records p ≡ true → living_count (set records p None) + 1 ≡ living_count records
 one-less records p living =
     let both : living_count (set records p None) + cond (lives (get_or records p None)) 1 0 ≡ living_count records + 0 =
     sum_by-set (λ (place : Option Record). cond (lives place) 1 0) records p None None (place-living records p living) in
-    let here : cond (lives (get_or records p None)) 1 0 ≡ 1 = ap (λ (b : Bool). cond b 1 0) living in
+    let here : ◌≡◌ {A = ℕ} (cond (lives (get_or records p None)) 1 0) 1 = ap (λ (b : Bool). cond b 1 0) living in
     omega (arith, both, here)
 
 -- who lives without one of them

@@ -6,8 +6,8 @@ use Rattle.std.proofs.lemmas.Option.{none-some}
 use Rattle.std.specs.Option.{ForSome}
 use Rattle.proc_model.specs.ModuleList.{ModuleEntry}
 use Rattle.proc_rules.specs.declared.own.Own.{Own}
-use Rattle.call_rules.specs.Processes.{no_own}
-use Rattle.call_rules.specs.ModuleLinks.{still_primary}
+use Rattle.proc_rules.specs.Processes.{no_own}
+use Rattle.proc_rules.specs.ModuleLinks.{still_primary}
 use Rattle.proc_state.specs.Sound.{AreSleeps}
 
 -- no sleep ends later than it did

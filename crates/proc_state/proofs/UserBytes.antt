@@ -4,8 +4,8 @@ use Rattle.std.proofs.Math.Seq.{take-append_seam}
 use Rattle.std.proofs.lemmas.Bool.{cases_lt, cond-true, cond-false, lt-ltb, le-ltb, false≢true}
 use Rattle.std.proofs.lemmas.Option.{none-some}
 use Rattle.os9_base.specs.Cells.{Cells, FitsIn, Holds}
-use Rattle.user_names.specs.UserNames.{user_cell}
-use Rattle.call_rules.specs.UserBytes.{user_bytes, byte_before}
+use Rattle.os9_base.specs.UserNames.{user_cell}
+use Rattle.proc_rules.specs.UserBytes.{user_bytes, byte_before}
 use Rattle.guest_memory.specs.declared.memory.Memory.{Memory}
 use Rattle.guest_memory.specs.Tie.{IsSame}
 

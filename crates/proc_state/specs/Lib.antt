@@ -4,3 +4,4 @@ pub mod Ready
 pub mod Sound
 pub mod Tie
 pub mod Beginning
+pub mod Active

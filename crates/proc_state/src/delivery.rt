@@ -6,8 +6,8 @@ ghost use Rattle.os9_base.specs.Cells.{FitsIn};
 ghost use Rattle.proc_model.specs.MemoryChanges.{stored};
 ghost use Rattle.proc_rules.specs.Records.{IsLiving, record_at};
 ghost use Rattle.proc_rules.specs.Signals.{with_signal};
-ghost use Rattle.call_rules.specs.Delivery.{frame_bytes as frame_bytes_model, interrupted_regs as interrupted_regs_model, interrupted, routine_begun, routine_regs as routine_regs_model, with_frame, delivered, after_delivery};
-ghost use Rattle.call_rules.specs.Processes.{Processes, with_memory, with_records};
+ghost use Rattle.proc_rules.specs.Delivery.{frame_bytes as frame_bytes_model, interrupted_regs as interrupted_regs_model, interrupted, routine_begun, routine_regs as routine_regs_model, with_frame, delivered, after_delivery};
+ghost use Rattle.proc_rules.specs.Processes.{Processes, with_memory, with_records};
 ghost use Rattle.proc_state.specs.Delivery.{delivery_end, frame_place as frame_place_model};
 ghost use Rattle.proc_state.specs.Tie.{Represents, IsSame};
 

@@ -5,9 +5,9 @@ ghost use Rattle.std.specs.Option.{ForSome};
 ghost use Rattle.guest_memory.specs.Tie.{modules_of};
 ghost use Rattle.proc_model.specs.ModuleList.{module_entry_at};
 ghost use Rattle.proc_rules.specs.Records.{IsLiving};
-ghost use Rattle.call_rules.specs.End.{ended, without_process};
-ghost use Rattle.call_rules.specs.Processes.{Processes, no_own};
-ghost use Rattle.call_rules.specs.ModuleLinks.{without_primary_link};
+ghost use Rattle.proc_rules.specs.End.{ended, without_process};
+ghost use Rattle.proc_rules.specs.Processes.{Processes, no_own};
+ghost use Rattle.proc_rules.specs.ModuleLinks.{without_primary_link};
 ghost use Rattle.proc_state.specs.Tie.{Represents};
 
 use crate::state::ProcState;

@@ -1,8 +1,8 @@
 //! The frame of a delivery, and the registers before and after it.
 
 ghost use Rattle.std.specs.Prelude.{◌≡◌, ◌/◌, ◌%◌};
-ghost use Rattle.call_rules.specs.Attempts.{refused_regs as refused_regs_model};
-ghost use Rattle.call_rules.specs.Delivery.{frame_bytes as frame_bytes_model, routine_regs as routine_regs_model, stack_top as stack_top_model};
+ghost use Rattle.proc_rules.specs.Attempts.{refused_regs as refused_regs_model};
+ghost use Rattle.proc_rules.specs.Delivery.{frame_bytes as frame_bytes_model, routine_regs as routine_regs_model, stack_top as stack_top_model};
 
 use os9_base::registers::Regs;
 use proc_rules::record::Intercept;

@@ -1,8 +1,10 @@
 //! The processes of the machine: their memory, their records, their turns, and the other data of
-//! each.
+//! each; who is Ready, and the choice of the next process among them (Level Two manual, process
+//! scheduling).
 #![tactic(auto)]
 
 mod bytes;
+pub mod choice;
 mod columns;
 mod delivery;
 mod ends;
@@ -12,5 +14,6 @@ mod making;
 mod new;
 pub mod outcome;
 mod ready;
+pub mod regs;
 pub mod state;
 mod turns;

@@ -3,9 +3,9 @@
 ghost use Rattle.std.specs.Prelude.{◌≡◌, IsSome, map};
 ghost use Rattle.guest_memory.specs.Tie.{modules_of};
 ghost use Rattle.proc_model.specs.ModuleList.{module_entry_at};
-ghost use Rattle.call_rules.specs.Processes.{Processes};
-ghost use Rattle.call_rules.specs.ModuleLinks as model;
-ghost use Rattle.call_rules.specs.ModuleLinks.{without_module_link};
+ghost use Rattle.proc_rules.specs.Processes.{Processes};
+ghost use Rattle.proc_rules.specs.ModuleLinks as model;
+ghost use Rattle.proc_rules.specs.ModuleLinks.{without_module_link};
 ghost use Rattle.proc_state.specs.Tie.{Represents};
 
 use crate::state::ProcState;

@@ -2,7 +2,7 @@
 
 ghost use Rattle.std.specs.Prelude.{◌≡◌, ℕ, IfNone, IfSome, option_map};
 ghost use Rattle.proc_rules.specs.Records.{IsLiving, free_process};
-ghost use Rattle.call_rules.specs.Processes.{Processes};
+ghost use Rattle.proc_rules.specs.Processes.{Processes};
 ghost use Rattle.proc_state.specs.Beginning.{with_made};
 ghost use Rattle.proc_state.specs.Tie.{Represents};
 

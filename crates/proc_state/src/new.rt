@@ -1,7 +1,7 @@
 //! The processes of a machine before the first one begins, and the number of living ones.
 
 ghost use Rattle.std.specs.Prelude.{◌≡◌, ◌≤◌, IfOk, replicate, vec_len};
-ghost use Rattle.call_rules.specs.Processes.{Processes, no_own};
+ghost use Rattle.proc_rules.specs.Processes.{Processes, no_own};
 ghost use Rattle.proc_state.specs.First.{first_processes, living_count};
 ghost use Rattle.proc_state.specs.Tie.{Represents};
 

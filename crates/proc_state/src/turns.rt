@@ -2,9 +2,9 @@
 
 ghost use Rattle.std.specs.Prelude.{◌≡◌, Some, true, false};
 ghost use Rattle.proc_rules.specs.Records.{IsLiving, record_at, is_waiting, with_waiting};
-ghost use Rattle.call_rules.specs.Attempts as model;
-ghost use Rattle.call_rules.specs.Attempts.{done_regs, goes_on, waiting};
-ghost use Rattle.call_rules.specs.Processes.{Processes, regs_at, with_records};
+ghost use Rattle.proc_rules.specs.Attempts as model;
+ghost use Rattle.proc_rules.specs.Attempts.{done_regs, goes_on, waiting};
+ghost use Rattle.proc_rules.specs.Processes.{Processes, regs_at, with_records};
 ghost use Rattle.os9_sched.specs.Schedule.{after_wait};
 ghost use Rattle.proc_state.specs.Tie.{Represents};
 

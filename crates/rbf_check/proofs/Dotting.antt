@@ -14,20 +14,20 @@ use Rattle.rbf_model.specs.Search.{IsFound, searchable_bytes}
 use Rattle.rbf_model.specs.Faults.Breaks.{no_dots}
 use Rattle.rbf_sector.specs.declared.entry.Entry.{Entry}
 use Rattle.rbf_sector.specs.Ident.{geometry_of}
-use Rattle.rbf_reach.specs.declared.image.IdentifiedImage.{IdentifiedImage}
-use Rattle.rbf_reach.specs.declared.links.Link.{Link}
-use Rattle.rbf_reach.specs.Linked.{AreLinks}
-use Rattle.rbf_reach.specs.Least.{IsLeast, Before, IsLeastBreach}
+use Rattle.rbf_sector_rules.specs.declared.image.IdentifiedImage.{IdentifiedImage}
+use Rattle.rbf_sector_rules.specs.declared.links.Link.{Link}
+use Rattle.rbf_sector_rules.specs.Linked.{AreLinks}
+use Rattle.rbf_sector_rules.specs.Least.{IsLeast, Before, IsLeastBreach}
 use Rattle.rbf_check.specs.Named.{link_at}
 use Rattle.rbf_check.specs.Dots.{NamesSo, AreDots, BeginsWithDots, MarksDots, AreDotted, IsWithoutDots, AreDotsDecided}
-use Rattle.rbf_reach.proofs.Cases.{dots_of}
-use Rattle.rbf_reach.proofs.Tables.{filled}
-use Rattle.rbf_reach.proofs.Leasts.{least_along, least_in_list}
-use Rattle.rbf_reach.proofs.Options.{none_some}
-use Rattle.rbf_reach.specs.declared.file.FoundFile.{FoundFile}
-use Rattle.rbf_reach.specs.Files.{AreFiles}
-use Rattle.rbf_reach.proofs.FoundFiles.{file_reached}
-use Rattle.rbf_reach.proofs.FoundNumbers.{number_reached}
+use Rattle.rbf_sector_rules.proofs.Cases.{dots_of}
+use Rattle.rbf_sector_rules.proofs.Tables.{filled}
+use Rattle.rbf_sector_rules.proofs.Leasts.{least_along, least_in_list}
+use Rattle.rbf_sector_rules.proofs.Options.{none_some}
+use Rattle.rbf_sector_rules.specs.declared.file.FoundFile.{FoundFile}
+use Rattle.rbf_sector_rules.specs.Files.{AreFiles}
+use Rattle.rbf_sector_rules.proofs.FoundFiles.{file_reached}
+use Rattle.rbf_sector_rules.proofs.FoundNumbers.{number_reached}
 
 -- an entry that is read
 module _ (entry : List ℕ) (read : Entry) (name_is : read.name ≡ take 29 entry) (lsn : read.lsn ≡ descriptor_field entry) (name : List ℕ) (n : ℕ) where

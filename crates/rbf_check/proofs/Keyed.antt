@@ -18,11 +18,11 @@ use Rattle.rbf_model.specs.Tree.{dot, dot_dot, HasEntry, IsProper, HasNames, Has
 use Rattle.rbf_model.specs.Faults.{Breaks}
 use Rattle.rbf_model.specs.Search.{IsFound, searchable_bytes}
 use Rattle.rbf_model.specs.Faults.Breaks.{bad_name, same_name}
-use Rattle.rbf_reach.specs.Least.{IsLeast, Before, IsLeastBreach}
+use Rattle.rbf_sector_rules.specs.Least.{IsLeast, Before, IsLeastBreach}
 use Rattle.rbf_check.specs.Keys.{IsKey, HasKey, IsKeyAdded, IsNamedSo, IsKeyOf, AreNamed, IsBadlyNamed, IsBadlyNamedAt}
-use Rattle.rbf_reach.proofs.Cases.{names_of}
-use Rattle.rbf_reach.proofs.Leasts.{least_along, least_in_list}
-use Rattle.rbf_reach.proofs.Options.{none_some, some_same}
+use Rattle.rbf_sector_rules.proofs.Cases.{names_of}
+use Rattle.rbf_sector_rules.proofs.Leasts.{least_along, least_in_list}
+use Rattle.rbf_sector_rules.proofs.Options.{none_some, some_same}
 
 length_of_map : (f : ℕ → ℕ) (xs : List ℕ) → length (map f xs) ≡ length xs
 length_of_map f xs = length-map xs f

@@ -4,9 +4,9 @@ use Rattle.std.specs.Prelude.{Contains}
 use Rattle.std.proofs.lemmas.Bool.{cases_eq}
 use Rattle.std.proofs.lemmas.List.{take_more, get_or-set_same, get_or-set_other, length-set}
 use Rattle.std.proofs.lemmas.List.Elements.{Contains-append_left, Contains-append_cases, Contains-push}
-use Rattle.rbf_reach.specs.declared.links.Link.{Link}
+use Rattle.rbf_sector_rules.specs.declared.links.Link.{Link}
 use Rattle.rbf_check.specs.Places.{ArePlaces}
-use Rattle.rbf_reach.proofs.Options.{none_some, some_same}
+use Rattle.rbf_sector_rules.proofs.Options.{none_some, some_same}
 
 -- the one element of a list
 only_one : (x l : Link) → Contains (x ∷ []) l → l ≡ x

@@ -9,14 +9,14 @@ use Rattle.rbf_model.specs.Tree.{Links}
 use Rattle.rbf_model.specs.Faults.{Breaks}
 use Rattle.rbf_model.specs.Search.{searchable_bytes}
 use Rattle.rbf_model.specs.Faults.Breaks.{named_twice, named_root}
-use Rattle.rbf_reach.specs.declared.links.Link.{Link}
-use Rattle.rbf_reach.specs.Linked.{AreLinks}
-use Rattle.rbf_reach.specs.Least.{IsLeast, Before, IsLeastBreach}
-use Rattle.rbf_reach.specs.Given.{IsGiven}
+use Rattle.rbf_sector_rules.specs.declared.links.Link.{Link}
+use Rattle.rbf_sector_rules.specs.Linked.{AreLinks}
+use Rattle.rbf_sector_rules.specs.Least.{IsLeast, Before, IsLeastBreach}
+use Rattle.rbf_sector_rules.specs.Given.{IsGiven}
 use Rattle.rbf_check.specs.Named.{link_at, AreSame, IsFirst, AreFirsts, IsNamedAgain}
-use Rattle.rbf_reach.proofs.Cases.{named_of}
-use Rattle.rbf_reach.proofs.Leasts.{least_along}
-use Rattle.rbf_reach.proofs.Options.{some_same}
+use Rattle.rbf_sector_rules.proofs.Cases.{named_of}
+use Rattle.rbf_sector_rules.proofs.Leasts.{least_along}
+use Rattle.rbf_sector_rules.proofs.Options.{some_same}
 
 pub firsts_none : (links : List Link) (firsts : List (Option ℕ)) → ((s m : ℕ) → get_or firsts s None ≡ Some m → ⊥) → AreFirsts links firsts 0
 firsts_none links firsts none = record {

@@ -19,13 +19,13 @@ use Rattle.rbf_model.proofs.Free.{free_clusters_are}
 use Rattle.rbf_model.proofs.Owners.{cluster_positive}
 use Rattle.rbf_model.proofs.Keeps.{searched_is}
 use Rattle.rbf_model.proofs.Built.{sound_from_keeps}
-use Rattle.rbf_reach.specs.declared.links.Link.{Link}
+use Rattle.rbf_sector_rules.specs.declared.links.Link.{Link}
 use Rattle.rbf_check.specs.declared.survey.Survey.{Survey}
-use Rattle.rbf_reach.specs.Files.{found_numbers}
+use Rattle.rbf_sector_rules.specs.Files.{found_numbers}
 use Rattle.rbf_sector.specs.Ident.{geometry_of}
 use Rattle.rbf_check.specs.Survey.{IsSurvey}
-use Rattle.rbf_reach.proofs.Headers.{header_of, is_disk_of}
-use Rattle.rbf_reach.proofs.FoundNumbers.{number_reached}
+use Rattle.rbf_sector_rules.proofs.Headers.{header_of, is_disk_of}
+use Rattle.rbf_sector_rules.proofs.FoundNumbers.{number_reached}
 use Rattle.rbf_check.proofs.Counted.{ceil_is}
 use Rattle.rbf_check.specs.Places.{ArePlaces}
 use Rattle.rbf_check.specs.VolumeNodes.{volume_from}

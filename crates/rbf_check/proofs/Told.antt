@@ -10,9 +10,9 @@ use Rattle.rbf_model.specs.Geometry.{sector}
 use Rattle.rbf_model.specs.Segments.{has}
 use Rattle.rbf_model.specs.File.{DiskFile, file_at}
 use Rattle.rbf_model.specs.Search.{IsReachedOn}
-use Rattle.rbf_reach.specs.declared.links.Link.{Link}
+use Rattle.rbf_sector_rules.specs.declared.links.Link.{Link}
 use Rattle.rbf_check.specs.declared.survey.Survey.{Survey}
-use Rattle.rbf_reach.specs.Files.{found_numbers}
+use Rattle.rbf_sector_rules.specs.Files.{found_numbers}
 use Rattle.rbf_sector.specs.Ident.{geometry_of}
 use Rattle.rbf_check.specs.Survey.{IsSurvey}
 use Rattle.rbf_check.specs.declared.tree.Node.{Node}

@@ -18,12 +18,12 @@ use Rattle.rbf_model.specs.Faults.Breaks.{bad_number, bad_segment, bad_map, unma
 use Rattle.rbf_model.specs.Faults.ImageBreaks.{bad_header, breaks}
 use Rattle.rbf_model.proofs.Keeps.{number_of_reached}
 use Rattle.rbf_sector.specs.Ident.{geometry_of}
-use Rattle.rbf_reach.specs.declared.image.IdentifiedImage.{IdentifiedImage}
-use Rattle.rbf_reach.specs.Least.{IsLeastBreach}
+use Rattle.rbf_sector_rules.specs.declared.image.IdentifiedImage.{IdentifiedImage}
+use Rattle.rbf_sector_rules.specs.Least.{IsLeastBreach}
 use Rattle.rbf_check.specs.Dots.{AreDotsDecided}
 use Rattle.rbf_check.specs.Verdict.{KeepsBefore, IsLeastFault, IsLeastError, IsErrorOf}
 use Rattle.rbf_sector_rules.proofs.Owned.{lie_within}
-use Rattle.rbf_reach.proofs.Options.{none_some, some_same}
+use Rattle.rbf_sector_rules.proofs.Options.{none_some, some_same}
 
 -- an error that is handed on as it is
 pub handed_on : {T : Type 0} (r : Result T CheckError) (e : CheckError) (P : CheckError → Type 0) → IsErrAnd r (λ y. y ≡ e) → P e → IfErr r P

@@ -13,7 +13,7 @@ use Rattle.rbf_model.specs.Keeps.{Keeps}
 use Rattle.rbf_model.specs.Search.{IsFound, volume_of, image_volume}
 use Rattle.rbf_model.proofs.Images.{vol_from_keeps}
 use Rattle.rbf_check.specs.declared.survey.Survey.{Survey}
-use Rattle.rbf_reach.specs.Files.{found_numbers}
+use Rattle.rbf_sector_rules.specs.Files.{found_numbers}
 use Rattle.rbf_sector.specs.Ident.{geometry_of}
 use Rattle.rbf_check.specs.Survey.{IsSurvey}
 use Rattle.rbf_check.specs.declared.tree.Node.{Node}

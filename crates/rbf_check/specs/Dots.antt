@@ -8,7 +8,7 @@ use Rattle.rbf_model.specs.File.{file_at, is_directory}
 use Rattle.rbf_model.specs.Tree.{dot, dot_dot, IsEntry, HasDots}
 use Rattle.rbf_model.specs.Search.{searchable_bytes}
 use Rattle.rbf_sector.specs.declared.entry.Entry.{Entry}
-use Rattle.rbf_reach.specs.declared.links.Link.{Link}
+use Rattle.rbf_sector_rules.specs.declared.links.Link.{Link}
 
 -- the entry has this name and this descriptor
 abbrev pub NamesSo : Entry → List ℕ → ℕ → Type 0

@@ -1,6 +1,6 @@
 -- The links that name a descriptor that another link also names, for rule 9.
 use Rattle.std.specs.Prelude.{◌≡◌, ◌⊎◌, ℕ, ◌<◌, ◌≤◌, List, get_or, Option, Some, None}
-use Rattle.rbf_reach.specs.declared.links.Link.{Link}
+use Rattle.rbf_sector_rules.specs.declared.links.Link.{Link}
 
 -- the link in a place of the list
 abbrev pub link_at : List Link → ℕ → Link

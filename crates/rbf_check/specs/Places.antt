@@ -1,6 +1,6 @@
 -- The link that names a descriptor.
 use Rattle.std.specs.Prelude.{◌≡◌, ◌≢◌, ℕ, List, length, get_or, Contains, Option, Some, None}
-use Rattle.rbf_reach.specs.declared.links.Link.{Link}
+use Rattle.rbf_sector_rules.specs.declared.links.Link.{Link}
 
 -- the table has for each number a link that names it, if there is one
 pub record ArePlaces (links : List Link) (total : ℕ) (places : List (Option Link)) : Type 0 where

@@ -2,9 +2,9 @@
 use Rattle.std.specs.Prelude.{◌≡◌, ℕ, List}
 use Rattle.rbf_model.specs.Keeps.{Keeps}
 use Rattle.rbf_check.specs.declared.survey.Survey.{Survey}
-use Rattle.rbf_reach.specs.Reading.{disk_on}
-use Rattle.rbf_reach.specs.Files.{AreFiles}
-use Rattle.rbf_reach.specs.Linked.{AreLinks}
+use Rattle.rbf_sector_rules.specs.Reading.{disk_on}
+use Rattle.rbf_sector_rules.specs.Files.{AreFiles}
+use Rattle.rbf_sector_rules.specs.Linked.{AreLinks}
 
 -- the reached files and the links of an image that keeps the rules
 pub record IsSurvey (survey : Survey) : Type 0 where

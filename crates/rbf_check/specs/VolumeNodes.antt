@@ -1,6 +1,6 @@
 -- The volume of a surveyed image.
-use Rattle.rbf_reach.specs.Files.{found_numbers}
-use Rattle.rbf_reach.specs.Reading.{disk_on}
+use Rattle.rbf_sector_rules.specs.Files.{found_numbers}
+use Rattle.rbf_sector_rules.specs.Reading.{disk_on}
 use Rattle.std.specs.Prelude.{◌≡◌, ℕ, ◌*◌, List, drop, map, filter, is_some, All}
 use Rattle.std.specs.List.{range_with_len}
 use Rattle.rbf_model.specs.Volume.{DiskVolume}

@@ -1,5 +1,5 @@
-ghost use Rattle.rbf_reach.specs.Files.{IsFileOn, found_numbers};
-ghost use Rattle.rbf_reach.specs.Reading.{disk_on};
+ghost use Rattle.rbf_sector_rules.specs.Files.{IsFileOn, found_numbers};
+ghost use Rattle.rbf_sector_rules.specs.Reading.{disk_on};
 ghost use Rattle.std.specs.Prelude.{◌≡◌, ◌+◌, ◌<◌, ◌≤◌, ◌==◌, All, IfOk, length, if◌then◌else◌};
 ghost use Rattle.std.specs.List.{range_with_len};
 ghost use Rattle.rbf_model.specs.Geometry.{map_sectors, sector as sector_of};
@@ -12,8 +12,8 @@ ghost use Rattle.rbf_check.specs.Survey.{IsSurvey};
 ghost use Rattle.rbf_check.specs.Clusters.{NotesClusters, AreUsed, system_count as system_count_of};
 
 use crate::survey::Survey;
-use rbf_reach::FoundFile;
 use rbf_sector::{Ident, system_sectors};
+use rbf_sector_rules::FoundFile;
 use rbf_segs::Segs;
 use std::alloc::{AllocError, Global};
 

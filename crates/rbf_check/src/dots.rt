@@ -3,17 +3,17 @@ ghost use Rattle.std.specs.Prelude.{◌≡◌, ◌<◌, ℕ, ◌+◌, ◌*◌, �
 ghost use Rattle.rbf_model.specs.Geometry.{sector as sector_of};
 ghost use Rattle.rbf_model.specs.File as model;
 ghost use Rattle.rbf_model.specs.File.{file_at};
-ghost use Rattle.rbf_reach.specs.Files.{IsFileOn, AreFiles};
-ghost use Rattle.rbf_reach.specs.Reading.{disk_on, IsDirectory, listed};
-ghost use Rattle.rbf_reach.specs.Linked.{AreLinks};
-ghost use Rattle.rbf_reach.specs.Least.{IsLeast, IsLeastBreach};
+ghost use Rattle.rbf_sector_rules.specs.Files.{IsFileOn, AreFiles};
+ghost use Rattle.rbf_sector_rules.specs.Reading.{disk_on, IsDirectory, listed};
+ghost use Rattle.rbf_sector_rules.specs.Linked.{AreLinks};
+ghost use Rattle.rbf_sector_rules.specs.Least.{IsLeast, IsLeastBreach};
 ghost use Rattle.rbf_check.specs.Dots.{AreDots, BeginsWithDots, MarksDots, AreDotted, IsWithoutDots, AreDotsDecided};
 
 use crate::names::spells;
-use rbf_reach::{
+use rbf_sector::{Entry, read_entry};
+use rbf_sector_rules::{
     Directory, FoundFile, IdentifiedImage, Link, directory_of, entry_bytes, least_of, read_file,
 };
-use rbf_sector::{Entry, read_entry};
 use std::alloc::{AllocError, Global};
 
 // Whether the one entry is `.` of this directory, and the other `..` for this parent.

@@ -1,15 +1,17 @@
 ghost use Rattle.std.specs.Prelude.{◌≡◌, ◌+◌, ◌<◌, ◌≤◌, IfOk, MatchBool};
 ghost use Rattle.rbf_model.specs.Tree.{HasNames, HasDifferentNames};
-ghost use Rattle.rbf_reach.specs.Files.{IsFileOn, AreFiles};
-ghost use Rattle.rbf_reach.specs.Reading.{disk_on, IsDirectory, listed};
-ghost use Rattle.rbf_reach.specs.Least.{IsLeast, IsLeastBreach};
+ghost use Rattle.rbf_sector_rules.specs.Files.{IsFileOn, AreFiles};
+ghost use Rattle.rbf_sector_rules.specs.Reading.{disk_on, IsDirectory, listed};
+ghost use Rattle.rbf_sector_rules.specs.Least.{IsLeast, IsLeastBreach};
 ghost use Rattle.rbf_check.specs.Keys.{AreNamed, IsBadlyNamed, IsBadlyNamedAt};
 
 use crate::keys::{add_key, key_of};
 use crate::names::is_text;
 use os9_base::name::header_name;
-use rbf_reach::{Directory, FoundFile, IdentifiedImage, directory_of, entry_bytes, least_of};
 use rbf_sector::read_entry;
+use rbf_sector_rules::{
+    Directory, FoundFile, IdentifiedImage, directory_of, entry_bytes, least_of,
+};
 use std::alloc::{AllocError, Global};
 use std::collections::BTreeSet;
 

@@ -1,15 +1,15 @@
 ghost use Rattle.std.specs.Prelude.{◌≡◌, None, IfErr, IfOk, OnOk, MatchOption, MatchResult};
 ghost use Rattle.rbf_model.specs.Keeps.{Keeps};
-ghost use Rattle.rbf_reach.specs.Files.{AreFiles};
-ghost use Rattle.rbf_reach.specs.Reading.{disk_on};
-ghost use Rattle.rbf_reach.specs.Linked.{AreLinks};
+ghost use Rattle.rbf_sector_rules.specs.Files.{AreFiles};
+ghost use Rattle.rbf_sector_rules.specs.Reading.{disk_on};
+ghost use Rattle.rbf_sector_rules.specs.Linked.{AreLinks};
 ghost use Rattle.rbf_check.specs.Verdict.{IsLeastError, KeepsBefore};
 ghost use Rattle.rbf_check.specs.declared.faults.CheckError.TheVariants.{OutOfMemory};
 
 use crate::{least_badly_named, least_named_again, least_without_dots};
-use rbf_reach::{FoundFile, IdentifiedImage, Link, list_links};
 use rbf_sector_rules::{
-    OwnRule, least_bad_number, least_breach, least_unmarked, least_used_again, map_breach,
+    FoundFile, IdentifiedImage, Link, OwnRule, least_bad_number, least_breach, least_unmarked,
+    least_used_again, list_links, map_breach,
 };
 use std::alloc::{AllocError, Global};
 use thiserror::Error;

@@ -1,12 +1,12 @@
 ghost use Rattle.std.specs.Prelude.{◌≡◌, ◌⊎◌, ◌+◌, ◌<◌, ◌≤◌, ℕ, All, IfOk, MatchBool, Some, None, length, slice_index_or};
-ghost use Rattle.rbf_reach.specs.Reading.{disk_on};
-ghost use Rattle.rbf_reach.specs.Linked.{AreLinks};
-ghost use Rattle.rbf_reach.specs.Least.{IsLeast, IsLeastBreach};
-ghost use Rattle.rbf_reach.specs.Given.{IsGiven};
+ghost use Rattle.rbf_sector_rules.specs.Reading.{disk_on};
+ghost use Rattle.rbf_sector_rules.specs.Linked.{AreLinks};
+ghost use Rattle.rbf_sector_rules.specs.Least.{IsLeast, IsLeastBreach};
+ghost use Rattle.rbf_sector_rules.specs.Given.{IsGiven};
 ghost use Rattle.rbf_check.specs.Named.{AreSame, AreFirsts, IsNamedAgain};
 
-use rbf_reach::{IdentifiedImage, Link, least_of};
 use rbf_sector::Ident;
+use rbf_sector_rules::{IdentifiedImage, Link, least_of};
 use std::alloc::{AllocError, Global};
 
 // Whether the link names the root's descriptor, or is not the first link of its descriptor.

@@ -3,8 +3,8 @@ ghost use Rattle.rbf_check.specs.Lost.{IsLostOf};
 ghost use Rattle.rbf_check.specs.Survey.{IsSurvey};
 ghost use Rattle.rbf_check.specs.Clusters.{AreUsed};
 ghost use Rattle.rbf_check.specs.Verdict.{IsErrorOf};
-ghost use Rattle.rbf_reach.specs.Files.{found_numbers};
-ghost use Rattle.rbf_reach.specs.Reading.{disk_on};
+ghost use Rattle.rbf_sector_rules.specs.Files.{found_numbers};
+ghost use Rattle.rbf_sector_rules.specs.Reading.{disk_on};
 
 use crate::clusters::list_used;
 use crate::faults::CheckError;

@@ -10,8 +10,8 @@ use crate::contents::read_contents;
 use crate::places::{Place, list_places, place_of};
 use crate::survey::Survey;
 use crate::tree::{Node, Nodes};
-use rbf_reach::sector;
 use rbf_sector::read_fd;
+use rbf_sector_rules::sector;
 use std::alloc::{AllocError, Global};
 
 // The node of a descriptor that has this place.

@@ -1,4 +1,4 @@
-ghost use Rattle.rbf_reach.specs.Linked.{IsLinkOn, linked_entry};
+ghost use Rattle.rbf_sector_rules.specs.Linked.{IsLinkOn, linked_entry};
 ghost use Rattle.std.specs.Prelude.{◌≡◌, ◌<◌, All, IfOk, IfSome, None, Some};
 ghost use Rattle.rbf_model.specs.Fields.{directory_entry, entry_name_field};
 ghost use Rattle.rbf_model.specs.Geometry.{sector as sector_of};
@@ -6,7 +6,7 @@ ghost use Rattle.rbf_model.specs.File.{file_at};
 ghost use Rattle.rbf_model.specs.Search.{searchable_bytes};
 ghost use Rattle.rbf_model.specs.Tree.{dot, Links};
 ghost use Rattle.rbf_sector.specs.Ident.{geometry_of};
-ghost use Rattle.rbf_reach.specs.Reading.{disk_on, listed};
+ghost use Rattle.rbf_sector_rules.specs.Reading.{disk_on, listed};
 ghost use Rattle.rbf_check.specs.Survey.{IsSurvey};
 ghost use Rattle.rbf_check.specs.Places.{ArePlaces};
 ghost use Rattle.rbf_check.specs.VolumeNodes.{volume_from};
@@ -14,7 +14,7 @@ ghost use Rattle.rbf_check.specs.Tree.{IsPlaced};
 
 use crate::survey::Survey;
 use os9_base::name::{Name, header_name, parse_name};
-use rbf_reach::{Link, link_entry};
+use rbf_sector_rules::{Link, link_entry};
 use std::alloc::{AllocError, Global};
 
 /// The place of a file in the tree: its directory, and its name there.

@@ -1,5 +1,5 @@
-ghost use Rattle.rbf_reach.specs.Files.{found_numbers};
-ghost use Rattle.rbf_reach.specs.Reading.{disk_on};
+ghost use Rattle.rbf_sector_rules.specs.Files.{found_numbers};
+ghost use Rattle.rbf_sector_rules.specs.Reading.{disk_on};
 ghost use Rattle.std.specs.Prelude.{◌≡◌, ◌+◌, ◌/◌, ◌<◌, ◌&&◌, not, IfOk, length};
 ghost use Rattle.rbf_model.specs.Geometry.{sector as sector_of};
 ghost use Rattle.rbf_model.specs.Space as model;
@@ -11,8 +11,8 @@ ghost use Rattle.rbf_check.specs.VolumeNodes.{volume_from};
 
 use crate::clusters::list_used;
 use crate::survey::Survey;
-use rbf_reach::is_marked;
 use rbf_sector::Ident;
+use rbf_sector_rules::is_marked;
 use std::alloc::{AllocError, Global};
 
 /// The numbers of free and of lost clusters.

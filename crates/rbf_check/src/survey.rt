@@ -3,7 +3,7 @@ ghost use Rattle.rbf_check.specs.Survey.{IsSurveyOf};
 ghost use Rattle.rbf_check.specs.Verdict.{IsErrorOf};
 
 use crate::faults::{CheckError, CheckFault, test_rules};
-use rbf_reach::{FoundFile, IdentifiedImage, Link, find_files, identify};
+use rbf_sector_rules::{FoundFile, IdentifiedImage, Link, find_files, identify};
 use std::alloc::Global;
 
 /// What the rules found in an image that breaks none of them: the files that are reached from the

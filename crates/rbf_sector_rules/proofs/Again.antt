@@ -19,9 +19,9 @@ use Rattle.rbf_sector_rules.specs.declared.uses.Uses.{Uses}
 use Rattle.rbf_sector_rules.specs.Used.{used_by}
 use Rattle.rbf_sector_rules.specs.Noted.{HasUser, HasOwner, cluster_begin, OccursTwice, IsUsedAgain, IsNoted}
 use Rattle.rbf_sector_rules.specs.Noted.IsUsedAgain.{twice, again, shared as shared_by}
-use Rattle.rbf_reach.proofs.Cases.{UsedTwice, Shared, used_of}
+use Rattle.rbf_sector_rules.proofs.Cases.{UsedTwice, Shared, used_of}
 use Rattle.rbf_sector_rules.proofs.Owned.{used_below}
-use Rattle.rbf_reach.proofs.Options.{some_same}
+use Rattle.rbf_sector_rules.proofs.Options.{some_same}
 
 -- where a number stands twice
 twice_from : (xs : List ℕ) (i j s : ℕ) → i < j → j < length xs → get_or xs i s ≡ s → get_or xs j s ≡ s → OccursTwice xs s

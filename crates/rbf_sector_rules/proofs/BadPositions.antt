@@ -8,9 +8,9 @@ use Rattle.rbf_model.specs.Segments.{segment_sectors, has}
 use Rattle.rbf_model.proofs.Bytes.{has_place, place_of}
 use Rattle.rbf_model.proofs.Segments.{has_cases}
 use Rattle.rbf_sector_rules.specs.Rules.{HasBadNumber, IsBadPosition}
-use Rattle.rbf_reach.specs.Positions.{entry_at_position, positions_in}
-use Rattle.rbf_reach.proofs.Runs.{run_has, sectors_more}
-use Rattle.rbf_reach.proofs.Positioned.{ArePositions}
+use Rattle.rbf_sector_rules.specs.Positions.{entry_at_position, positions_in}
+use Rattle.rbf_sector_rules.proofs.Runs.{run_has, sectors_more}
+use Rattle.rbf_sector_rules.proofs.Positioned.{ArePositions}
 
 -- the entries in a list of positions
 module _ (g : Geometry) (disk : ℕ → List ℕ) (contents : List ℕ) (runs : List (ℕ × ℕ)) (are : ArePositions g disk contents runs) where

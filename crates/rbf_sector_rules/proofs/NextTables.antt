@@ -5,7 +5,7 @@ use Rattle.std.proofs.lemmas.Bool.{cases_lt, cases_eq}
 use Rattle.std.proofs.lemmas.List.{get_or-set_same, get_or-set_other, get_or-replicate, length-replicate, length-set}
 use Rattle.rbf_model.specs.Segments.{has}
 use Rattle.rbf_model.proofs.Segments.{range_has, has_range}
-use Rattle.rbf_reach.specs.Least.{IsLeast}
+use Rattle.rbf_sector_rules.specs.Least.{IsLeast}
 use Rattle.rbf_sector_rules.specs.Nexts.{IsNextSuch, AreNexts}
 
 -- the table is filled from place s on, which holds `next`

@@ -7,11 +7,11 @@ use Rattle.rbf_model.specs.Segments.{has}
 use Rattle.rbf_model.proofs.Segments.{has_cases, has_left, has_right}
 use Rattle.rbf_sector_rules.specs.declared.uses.Owner.{Owner}
 use Rattle.rbf_sector_rules.specs.declared.uses.Uses.{Uses}
-use Rattle.rbf_reach.specs.Given.{IsGiven}
-use Rattle.rbf_reach.specs.Least.{IsLeastWithin}
+use Rattle.rbf_sector_rules.specs.Given.{IsGiven}
+use Rattle.rbf_sector_rules.specs.Least.{IsLeastWithin}
 use Rattle.rbf_sector_rules.specs.Noted.{HasUser, HasOwner, cluster_begin, OccursTwice, IsUsedAgain, IsNoted}
 use Rattle.rbf_sector_rules.specs.Noted.IsUsedAgain.{twice, again, shared}
-use Rattle.rbf_reach.proofs.Options.{some_same}
+use Rattle.rbf_sector_rules.proofs.Options.{some_same}
 
 -- two places in two lists joined
 pub twice_left : (xs ys : List ℕ) (s : ℕ) → OccursTwice xs s → OccursTwice (xs ++ ys) s

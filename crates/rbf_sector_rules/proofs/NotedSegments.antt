@@ -10,7 +10,7 @@ use Rattle.rbf_sector_rules.specs.declared.uses.Owner.{Owner}
 use Rattle.rbf_sector_rules.specs.declared.uses.Uses.{Uses}
 use Rattle.rbf_sector_rules.specs.Noted.{HasOwner, cluster_begin, IsNoted}
 use Rattle.rbf_sector_rules.proofs.Noted.{noted_past, noted_then}
-use Rattle.rbf_reach.proofs.Runs.{sectors_more}
+use Rattle.rbf_sector_rules.proofs.Runs.{sectors_more}
 
 -- two runs of which one begins where the other ends
 range_then : (a m n : ℕ) → range_with_len a m ++ range_with_len (a + m) n ≡ range_with_len a (m + n)

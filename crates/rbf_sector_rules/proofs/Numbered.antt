@@ -11,9 +11,9 @@ use Rattle.rbf_model.specs.Segments.{has}
 use Rattle.rbf_model.specs.Faults.{Breaks}
 use Rattle.rbf_model.specs.Search.{IsFound, IsReachedOn, searchable_bytes}
 use Rattle.rbf_model.specs.Faults.Breaks.{bad_number, bad_segment, bad_map, unmarked, used_twice, shared, no_room, no_root, bad_size, no_dots, bad_name, same_name, named_twice, named_root}
-use Rattle.rbf_reach.specs.Least.{IsLeast, Before, IsLeastBreach}
+use Rattle.rbf_sector_rules.specs.Least.{IsLeast, Before, IsLeastBreach}
 use Rattle.rbf_sector_rules.specs.Rules.{HasBadNumber, BreaksNumbers, BreaksNumbersAt}
-use Rattle.rbf_reach.proofs.Leasts.{least_along, least_in_list}
+use Rattle.rbf_sector_rules.proofs.Leasts.{least_along, least_in_list}
 
 -- one that fails
 failing : {A : Type 0} (p : A → Bool) (xs : List A) → list_all p xs ≡ false → (x : A) × Contains xs x × (p x ≡ false)

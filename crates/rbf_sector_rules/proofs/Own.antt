@@ -11,8 +11,8 @@ use Rattle.rbf_model.specs.Tree.Reached.{root}
 use Rattle.rbf_sector_rules.specs.declared.descriptors.OwnRule.{OwnRule}
 use Rattle.rbf_sector_rules.specs.declared.descriptors.OwnRule.TheVariants.{Room, Size}
 use Rattle.rbf_sector_rules.specs.Rules.{BreaksOwn, BreaksOwnAt, rule_number}
-use Rattle.rbf_reach.specs.Least.{IsLeast, IsLeastBreach, Before}
-use Rattle.rbf_reach.proofs.Leasts.{least_along, least_in_list}
+use Rattle.rbf_sector_rules.specs.Least.{IsLeast, IsLeastBreach, Before}
+use Rattle.rbf_sector_rules.proofs.Leasts.{least_along, least_in_list}
 
 -- a descriptor that breaks a rule by itself is a breach, and each breach is one
 module _ (g : Geometry) (disk : ℕ → List ℕ) where

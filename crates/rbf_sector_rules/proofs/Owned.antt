@@ -16,10 +16,10 @@ use Rattle.rbf_model.proofs.Keeps.{number_of_reached}
 use Rattle.rbf_model.proofs.Owners.{owned_below}
 use Rattle.rbf_segs.specs.Segments.{IsSegment}
 use Rattle.rbf_sector.specs.Ident.{geometry_of}
-use Rattle.rbf_reach.specs.declared.image.IdentifiedImage.{IdentifiedImage}
+use Rattle.rbf_sector_rules.specs.declared.image.IdentifiedImage.{IdentifiedImage}
 use Rattle.rbf_sector_rules.specs.Used.{used_by}
-use Rattle.rbf_reach.proofs.Headers.{header_of}
-use Rattle.rbf_reach.proofs.Runs.{runs_within}
+use Rattle.rbf_sector_rules.proofs.Headers.{header_of}
+use Rattle.rbf_sector_rules.proofs.Runs.{runs_within}
 
 module _ (g : Geometry) (disk : ℕ → List ℕ) (header : IsHeader g) (kept : (lsn : ℕ) → Breaks (disk_of g disk) 1 lsn → ⊥) (map : HasMap g) where
   pub lie_within : (n : ℕ) → IsReachedOn (disk_of g disk) n → LieWithin g (segments_field (disk n))

@@ -9,11 +9,11 @@ use Rattle.rbf_model.specs.Faults.{Breaks}
 use Rattle.rbf_model.specs.Search.{IsFound}
 use Rattle.rbf_model.specs.Faults.Breaks.{unmarked}
 use Rattle.rbf_model.proofs.Segments.{has_cases, has_left, has_right}
-use Rattle.rbf_reach.specs.Least.{IsLeast, Before, lesser_of, IsLeastBreach}
+use Rattle.rbf_sector_rules.specs.Least.{IsLeast, Before, lesser_of, IsLeastBreach}
 use Rattle.rbf_sector_rules.specs.Used.{used_by, IsUnmarkedIn}
-use Rattle.rbf_reach.proofs.Cases.{unmarked_of}
-use Rattle.rbf_reach.proofs.Leasts.{least_along, least_either, least_in_list}
-use Rattle.rbf_reach.proofs.Runs.{sectors_more}
+use Rattle.rbf_sector_rules.proofs.Cases.{unmarked_of}
+use Rattle.rbf_sector_rules.proofs.Leasts.{least_along, least_either, least_in_list}
+use Rattle.rbf_sector_rules.proofs.Runs.{sectors_more}
 
 module _ (g : Geometry) (disk : ℕ → List ℕ) where
   -- of two lists, and of one run more

@@ -1,3 +1,13 @@
+pub mod Files
+pub mod Found
+pub mod Given
+pub mod Identified
+pub mod Least
+pub mod Linked
+pub mod Reading
+pub mod Positions
+pub mod Unread
+pub mod Walk
 pub mod Nexts
 pub mod Noted
 pub mod Rules

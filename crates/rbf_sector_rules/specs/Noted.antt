@@ -3,7 +3,7 @@ use Rattle.std.specs.Prelude.{◌≡◌, ◌≢◌, ◌⊎◌, ℕ, ◌*◌, ◌
 use Rattle.rbf_model.specs.Segments.{has}
 use Rattle.rbf_sector_rules.specs.declared.uses.Owner.{Owner}
 use Rattle.rbf_sector_rules.specs.declared.uses.Uses.{Uses}
-use Rattle.rbf_reach.specs.Least.{IsLeastWithin}
+use Rattle.rbf_sector_rules.specs.Least.{IsLeastWithin}
 
 -- the owner in place p is noted as the last user of sector s
 abbrev pub HasUser : Uses → ℕ → ℕ → Type 0

@@ -7,7 +7,7 @@ use Rattle.rbf_model.specs.Geometry.{Geometry, IsNumber, is_within}
 use Rattle.rbf_model.specs.File.{file_at, is_directory, is_directory_size, has_room}
 use Rattle.rbf_model.specs.Tree.{HasEntry}
 use Rattle.rbf_model.specs.Search.{searchable_bytes}
-use Rattle.rbf_reach.specs.Positions.{entry_at_position}
+use Rattle.rbf_sector_rules.specs.Positions.{entry_at_position}
 use Rattle.rbf_sector_rules.specs.declared.descriptors.OwnRule.{OwnRule}
 use Rattle.rbf_sector_rules.specs.declared.descriptors.OwnRule.TheVariants.{Room, Size}
 

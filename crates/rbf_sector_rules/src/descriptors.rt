@@ -4,12 +4,12 @@ ghost use Rattle.rbf_model.specs.Fields.{directory_entry, descriptor_field, segm
 ghost use Rattle.rbf_model.specs.File.{has_room};
 ghost use Rattle.rbf_model.specs.Geometry.{IsNumber, sector as sector_of};
 ghost use Rattle.rbf_model.specs.Tree.{HasEntry};
-ghost use Rattle.rbf_reach.specs.Files.{IsFileOn, AreFiles};
-ghost use Rattle.rbf_reach.specs.Reading.{disk_on, IsDirectory, listed};
+ghost use Rattle.rbf_sector_rules.specs.Files.{IsFileOn, AreFiles};
+ghost use Rattle.rbf_sector_rules.specs.Reading.{disk_on, IsDirectory, listed};
 ghost use Rattle.rbf_sector_rules.specs.Rules.{BreaksOwn, BreaksOwnAt, rule_number};
-ghost use Rattle.rbf_reach.specs.Least.{IsLeast, IsLeastBreach};
+ghost use Rattle.rbf_sector_rules.specs.Least.{IsLeast, IsLeastBreach};
 
-use rbf_reach::{FoundFile, IdentifiedImage, least_of};
+use crate::{FoundFile, IdentifiedImage, least_of};
 use rbf_sector::Fd;
 
 /// A rule that a descriptor breaks by itself.

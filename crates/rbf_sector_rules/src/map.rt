@@ -1,7 +1,7 @@
-ghost use Rattle.rbf_reach.specs.Reading.{disk_on};
-ghost use Rattle.rbf_reach.specs.Least.{IsLeastBreach};
+ghost use Rattle.rbf_sector_rules.specs.Reading.{disk_on};
+ghost use Rattle.rbf_sector_rules.specs.Least.{IsLeastBreach};
 
-use rbf_reach::IdentifiedImage;
+use crate::IdentifiedImage;
 use rbf_sector::has_map;
 
 /// The breach of rule 2, on the map, which is reported at LSN 1. None if the rule is kept.

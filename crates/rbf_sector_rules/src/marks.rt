@@ -4,15 +4,15 @@ ghost use Rattle.rbf_model.specs.Space as model;
 ghost use Rattle.rbf_model.specs.Faults.{Breaks};
 ghost use Rattle.rbf_model.specs.Search.{IsReachedOn};
 ghost use Rattle.rbf_sector.specs.Ident.{geometry_of};
-ghost use Rattle.rbf_reach.specs.Files.{IsFileOn, AreFiles};
-ghost use Rattle.rbf_reach.specs.Reading.{disk_on};
-ghost use Rattle.rbf_reach.specs.Least.{IsLeastBreach, IsLeast};
+ghost use Rattle.rbf_sector_rules.specs.Files.{IsFileOn, AreFiles};
+ghost use Rattle.rbf_sector_rules.specs.Reading.{disk_on};
+ghost use Rattle.rbf_sector_rules.specs.Least.{IsLeastBreach, IsLeast};
 ghost use Rattle.rbf_sector_rules.specs.Nexts.{AreNexts};
 ghost use Rattle.rbf_sector_rules.specs.Used.{used_by, IsUnmarked, IsUnmarkedIn};
 
 use crate::nexts::next_in_range;
 use crate::owners::list_segments;
-use rbf_reach::{FoundFile, IdentifiedImage, is_marked, least_of};
+use crate::{FoundFile, IdentifiedImage, is_marked, least_of};
 use std::alloc::{AllocError, Global};
 
 // Whether the map marks the cluster of this sector.

@@ -3,15 +3,15 @@ ghost use Rattle.rbf_model.specs.Fields as model;
 ghost use Rattle.rbf_model.specs.Geometry.{sector as sector_of};
 ghost use Rattle.std.specs.Prelude.{◌≡◌, ℕ, ◌+◌, ◌*◌, ◌<◌, ◌≤◌, false, IfOk, length};
 ghost use Rattle.rbf_sector.specs.Ident.{geometry_of};
-ghost use Rattle.rbf_reach.specs.Positions.{entry_at_position};
-ghost use Rattle.rbf_reach.specs.Files.{IsFileOn, AreFiles};
-ghost use Rattle.rbf_reach.specs.Reading.{disk_on, IsDirectory, listed};
+ghost use Rattle.rbf_sector_rules.specs.Positions.{entry_at_position};
+ghost use Rattle.rbf_sector_rules.specs.Files.{IsFileOn, AreFiles};
+ghost use Rattle.rbf_sector_rules.specs.Reading.{disk_on, IsDirectory, listed};
 ghost use Rattle.rbf_sector_rules.specs.Rules.{BreaksNumbersAt, HasBadNumber, IsBadPosition};
-ghost use Rattle.rbf_reach.specs.Least.{IsLeastBreach, IsLeast};
+ghost use Rattle.rbf_sector_rules.specs.Least.{IsLeastBreach, IsLeast};
 ghost use Rattle.rbf_sector_rules.specs.Nexts.{AreNexts};
 
 use crate::nexts::next_in_range;
-use rbf_reach::{
+use crate::{
     Directory, FoundFile, IdentifiedImage, directory_of, is_used, least_of, lie_within,
     list_positions, position_bytes,
 };

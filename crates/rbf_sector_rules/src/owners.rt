@@ -1,11 +1,11 @@
 ghost use Rattle.std.specs.Prelude.{◌≡◌, ℕ, ◌+◌, ◌<◌, ◌++◌, All, OnOk, IfOk, Some, None, length, slice_index_or};
 ghost use Rattle.rbf_model.specs.Segments.{sectors_of};
 ghost use Rattle.rbf_segs.specs.Segments.{IsSegment};
-ghost use Rattle.rbf_reach.specs.Files.{IsFileOn};
-ghost use Rattle.rbf_reach.specs.Reading.{disk_on};
+ghost use Rattle.rbf_sector_rules.specs.Files.{IsFileOn};
+ghost use Rattle.rbf_sector_rules.specs.Reading.{disk_on};
 ghost use Rattle.rbf_sector_rules.specs.Used.{used_by};
 
-use rbf_reach::{FoundFile, IdentifiedImage};
+use crate::{FoundFile, IdentifiedImage};
 use rbf_sector::system_sectors;
 use rbf_segs::Segs;
 use std::alloc::AllocError;

@@ -2,13 +2,13 @@ ghost use Rattle.std.specs.Prelude.{ℕ, IfOk};
 ghost use Rattle.rbf_model.specs.Geometry.{HasMap};
 ghost use Rattle.rbf_model.specs.Faults.{Breaks};
 ghost use Rattle.rbf_sector.specs.Ident.{geometry_of};
-ghost use Rattle.rbf_reach.specs.Files.{AreFiles};
-ghost use Rattle.rbf_reach.specs.Reading.{disk_on};
-ghost use Rattle.rbf_reach.specs.Least.{IsLeastBreach};
+ghost use Rattle.rbf_sector_rules.specs.Files.{AreFiles};
+ghost use Rattle.rbf_sector_rules.specs.Reading.{disk_on};
+ghost use Rattle.rbf_sector_rules.specs.Least.{IsLeastBreach};
 
 use crate::owners::list_segments;
 use crate::uses::{Owner, Uses};
-use rbf_reach::{FoundFile, IdentifiedImage};
+use crate::{FoundFile, IdentifiedImage};
 use std::alloc::{AllocError, Global};
 
 /// The least sector that breaks rule 4: one owner uses it twice, or it is the first of a cluster

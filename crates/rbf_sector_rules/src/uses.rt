@@ -3,7 +3,7 @@ ghost use Rattle.std.specs.Prelude.{◌≡◌, ◌≢◌, ℕ, ◌+◌, ◌*◌,
 ghost use Rattle.std.specs.List.{range_with_len};
 ghost use Rattle.rbf_model.specs.Segments.{sectors_of};
 ghost use Rattle.rbf_segs.specs.Segments.{IsSegment};
-ghost use Rattle.rbf_reach.specs.Given.{IsGiven};
+ghost use Rattle.rbf_sector_rules.specs.Given.{IsGiven};
 
 use std::alloc::{AllocError, Global};
 

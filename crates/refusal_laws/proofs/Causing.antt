@@ -13,10 +13,10 @@ use Rattle.os9_outer.specs.TerminalState.{TerminalState}
 use Rattle.device_table.specs.Names.{device_of}
 use Rattle.device_table.specs.declared.devices.Dev.{Dev}
 use Rattle.device_table.specs.declared.devices.Dev.TheVariants as Device
-use Rattle.user_names.specs.UserNames.{user_cell}
-use Rattle.user_names.specs.declared.name_fault.NameFault.{NameFault}
-use Rattle.user_names.specs.declared.name_fault.NameFault.TheVariants.{Unreadable, NoName}
-use Rattle.call_rules.specs.UserBytes.{byte_before, user_bytes}
+use Rattle.os9_base.specs.UserNames.{user_cell}
+use Rattle.os9_base.specs.declared.name_fault.NameFault.{NameFault}
+use Rattle.os9_base.specs.declared.name_fault.NameFault.TheVariants.{Unreadable, NoName}
+use Rattle.proc_rules.specs.UserBytes.{byte_before, user_bytes}
 use Rattle.io_model.specs.Pending.{count_left, is_complete, moved_on}
 use Rattle.io_model.specs.Line.{has_return, line_length}
 use Rattle.io_model.specs.Path.{desc_of, free_number, free_path, new_number, paths_after_begin, paths_after_dup, slot_of}

@@ -6,11 +6,11 @@ use Rattle.std.proofs.lemmas.Bool.{cases_eq, cases_lt, eqb-false, eqb-true, fals
 use Rattle.std.proofs.lemmas.Option.{none-some, same_Some}
 use Rattle.os9_base.specs.Cells.{Cells}
 use Rattle.os9_base.specs.Name.{is_name_character, low_bits, name_run}
-use Rattle.user_names.specs.UserNames.{goes_on, name_at, name_in, run_bytes, run_with, user_cell}
-use Rattle.user_names.specs.declared.name_fault.NameFault.{NameFault}
-use Rattle.user_names.specs.declared.name_fault.NameFault.TheVariants.{Unreadable, NoName}
-use Rattle.call_rules.specs.Program.{slash}
-use Rattle.call_rules.specs.UserBytes.{byte_before, user_bytes}
+use Rattle.os9_base.specs.UserNames.{goes_on, name_at, name_in, run_bytes, run_with, user_cell}
+use Rattle.os9_base.specs.declared.name_fault.NameFault.{NameFault}
+use Rattle.os9_base.specs.declared.name_fault.NameFault.TheVariants.{Unreadable, NoName}
+use Rattle.proc_rules.specs.Program.{slash}
+use Rattle.proc_rules.specs.UserBytes.{byte_before, user_bytes}
 use Rattle.io_model.specs.declared.keys.TheConstants.{RETURN}
 use Rattle.io_model.specs.declared.pending.PendingCall.{PendingCall}
 use Rattle.io_rules.specs.Io.{Io, pending_at}

@@ -5,7 +5,7 @@ use Rattle.std.proofs.lemmas.List.{get_or-set_same, get_or-set_other, get_or_pas
 use Rattle.std.proofs.lemmas.Option.{none-some}
 use Rattle.os9_base.specs.declared.errors.TheConstants.{E_SLF}
 use Rattle.os9_base.specs.declared.registers.TimePacket.{TimePacket}
-use Rattle.call_rules.specs.CallResult.{CallResult, refused}
+use Rattle.proc_rules.specs.CallResult.{CallResult, refused}
 use Rattle.rbf_model.specs.Volume.{DiskVolume}
 use Rattle.io_rules.specs.Attempts.{result_of}
 use Rattle.io_rules.specs.Step.{fails}

@@ -19,28 +19,28 @@ use Rattle.proc_rules.specs.declared.record.Reap.{Reap}
 use Rattle.proc_rules.specs.declared.record.Reap.TheVariants.{NoChild, NotYet}
 use Rattle.proc_rules.specs.declared.record.SendFault.{SendFault}
 use Rattle.proc_rules.specs.declared.record.SendFault.TheVariants.{NoProcess, Pending}
-use Rattle.user_names.specs.UserNames.{name_at, user_cell}
-use Rattle.user_names.specs.declared.name_fault.NameFault.{NameFault}
-use Rattle.user_names.specs.declared.name_fault.NameFault.TheVariants.{NoName, Unreadable}
-use Rattle.call_rules.specs.Attempts.{attempted}
-use Rattle.call_rules.specs.CallResult.{CallResult, changes, done, ends, needs, reads_name, refused, refuses, waits}
-use Rattle.call_rules.specs.Chain.{begun_anew, with_program}
-use Rattle.call_rules.specs.CmpNam.{same_names}
-use Rattle.call_rules.specs.Fork.{forked_regs, with_child}
-use Rattle.call_rules.specs.Processes.{Processes, cells_at, own_at, regs_at, user_at, with_records, with_regs_of}
-use Rattle.call_rules.specs.Link.{links_at, mapped_group}
-use Rattle.call_rules.specs.ModuleLinks.{Entered, entered_at, found_entry, module_at, without_primary_link}
-use Rattle.call_rules.specs.Mem.{resized}
-use Rattle.call_rules.specs.declared.program_name.ProgramName.{ProgramName}
-use Rattle.call_rules.specs.declared.program_name.ProgramName.TheVariants.{Unreadable, OneName, PathList}
-use Rattle.call_rules.specs.Program.{Program, area_pages, asks_for_program, blocks_of_pages, most_pages, page_count, program_kind, is_unreadable, module_name, name_at_x, reads_program}
-use Rattle.call_rules.specs.PrsNam.{past_slash}
-use Rattle.call_rules.specs.Send.{after_signal}
-use Rattle.call_rules.specs.Sleep.{falls_asleep, may_wake, ticks_left}
-use Rattle.call_rules.specs.UserBytes.{byte_before, d_of, user_bytes}
-use Rattle.call_rules.specs.Wait.{reaped_regs}
-use Rattle.call_rules.specs.declared.proc_call.ProcCall.{ProcCall}
-use Rattle.call_rules.specs.declared.proc_call.ProcCall.TheVariants as Call
+use Rattle.os9_base.specs.UserNames.{name_at, user_cell}
+use Rattle.os9_base.specs.declared.name_fault.NameFault.{NameFault}
+use Rattle.os9_base.specs.declared.name_fault.NameFault.TheVariants.{NoName, Unreadable}
+use Rattle.proc_rules.specs.Attempts.{attempted}
+use Rattle.proc_rules.specs.CallResult.{CallResult, changes, done, ends, needs, reads_name, refused, refuses, waits}
+use Rattle.proc_rules.specs.Chain.{begun_anew, with_program}
+use Rattle.proc_rules.specs.CmpNam.{same_names}
+use Rattle.proc_rules.specs.Fork.{forked_regs, with_child}
+use Rattle.proc_rules.specs.Processes.{Processes, cells_at, own_at, regs_at, user_at, with_records, with_regs_of}
+use Rattle.proc_rules.specs.Link.{links_at, mapped_group}
+use Rattle.proc_rules.specs.ModuleLinks.{Entered, entered_at, found_entry, module_at, without_primary_link}
+use Rattle.proc_rules.specs.Mem.{resized}
+use Rattle.proc_rules.specs.declared.program_name.ProgramName.{ProgramName}
+use Rattle.proc_rules.specs.declared.program_name.ProgramName.TheVariants.{Unreadable, OneName, PathList}
+use Rattle.proc_rules.specs.Program.{Program, area_pages, asks_for_program, blocks_of_pages, most_pages, page_count, program_kind, is_unreadable, module_name, name_at_x, reads_program}
+use Rattle.proc_rules.specs.PrsNam.{past_slash}
+use Rattle.proc_rules.specs.Send.{after_signal}
+use Rattle.proc_rules.specs.Sleep.{falls_asleep, may_wake, ticks_left}
+use Rattle.proc_rules.specs.UserBytes.{byte_before, d_of, user_bytes}
+use Rattle.proc_rules.specs.Wait.{reaped_regs}
+use Rattle.proc_rules.specs.declared.proc_call.ProcCall.{ProcCall}
+use Rattle.proc_rules.specs.declared.proc_call.ProcCall.TheVariants as Call
 use Rattle.os9_base.specs.Cells.{Cells}
 use Rattle.file_rules.specs.Program.{chains, forks, named_program, parameters_of}
 use Rattle.file_laws.specs.LoadCauses.{LinkCause, StartCause, TestCause, blocks_for, many_pages, no_memory, no_parameters, no_place, no_process, no_program, other_type, pages_for}

@@ -6,9 +6,9 @@ use Rattle.std.proofs.lemmas.List.{get_or-set_same, get_or-set_other, get_or_pas
 use Rattle.proc_rules.specs.Records.{IsLiving, has_ended, new_record, record_at, record_of, record_passes, with_record}
 use Rattle.proc_rules.specs.declared.record.Life.TheVariants.{Running}
 use Rattle.proc_rules.specs.declared.record.Record.{Record}
-use Rattle.call_rules.specs.Attempts.{after_attempt, refused_regs}
-use Rattle.call_rules.specs.CallResult.{refused}
-use Rattle.call_rules.specs.Processes.{Processes, no_own, own_at, regs_at}
+use Rattle.proc_rules.specs.Attempts.{after_attempt, refused_regs}
+use Rattle.proc_rules.specs.CallResult.{refused}
+use Rattle.proc_rules.specs.Processes.{Processes, no_own, own_at, regs_at}
 use Rattle.refusal_laws.specs.Refusals.{LeavesProcesses}
 
 living-within : (records : List (Option Record)) (p : ℕ) → IsLiving records p → p < length records

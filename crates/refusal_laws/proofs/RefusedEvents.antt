@@ -4,17 +4,17 @@ use Rattle.std.specs.Prelude.{IsSome, MatchOption, is_some}
 use Rattle.std.proofs.lemmas.Bool.{false≢true}
 use Rattle.os9_base.specs.declared.errors.TheConstants.{E_BADTIME, E_BPADDR, E_UNKSVC}
 use Rattle.os9_base.specs.declared.registers.TimePacket.{TimePacket}
-use Rattle.call_rules.specs.Attempts.{attempted}
-use Rattle.call_rules.specs.CallResult.{refused, waits}
-use Rattle.call_rules.specs.Chain.{f_chain}
-use Rattle.call_rules.specs.Fork.{f_fork}
-use Rattle.call_rules.specs.Processes.{Processes, cells_at, regs_at}
-use Rattle.call_rules.specs.ModuleLinks.{Entered}
-use Rattle.call_rules.specs.Ready.{Act}
-use Rattle.call_rules.specs.UserBytes.{user_bytes}
-use Rattle.call_rules.specs.declared.proc_call.ProcCall.{ProcCall}
-use Rattle.call_rules.specs.declared.proc_call.ProcCall.TheVariants as Call
-use Rattle.civil_time.specs.CivilTime.{is_time_packet}
+use Rattle.proc_rules.specs.Attempts.{attempted}
+use Rattle.proc_rules.specs.CallResult.{refused, waits}
+use Rattle.proc_rules.specs.Chain.{f_chain}
+use Rattle.proc_rules.specs.Fork.{f_fork}
+use Rattle.proc_rules.specs.Processes.{Processes, cells_at, regs_at}
+use Rattle.proc_rules.specs.ModuleLinks.{Entered}
+use Rattle.proc_rules.specs.Ready.{Act}
+use Rattle.proc_rules.specs.UserBytes.{user_bytes}
+use Rattle.proc_rules.specs.declared.proc_call.ProcCall.{ProcCall}
+use Rattle.proc_rules.specs.declared.proc_call.ProcCall.TheVariants as Call
+use Rattle.time_rules.specs.CivilTime.{is_time_packet}
 use Rattle.io_rules.specs.Attempts.{caller_of}
 use Rattle.file_rules.specs.Attempts.{FileAttempts, asker_of}
 use Rattle.file_rules.specs.Files.{Asker, Files, NoneFailed}
@@ -30,7 +30,7 @@ use Rattle.time_rules.specs.declared.clock.TheConstants.{PACKET_BYTES}
 use Rattle.time_rules.specs.declared.clock.Clock.{Clock}
 use Rattle.time_rules.specs.declared.time_call.TimeCall.{TimeCall}
 use Rattle.time_rules.specs.declared.time_call.TimeCall.TheVariants as Time
-use Rattle.event_rules.specs.declared.ends.EventEnd.TheVariants.{Ran}
+use Rattle.machine_model.specs.declared.ends.EventEnd.TheVariants.{Ran}
 use Rattle.refusal_laws.specs.Refusals.{LeavesProcesses}
 use Rattle.refusal_laws.proofs.ProcessesLeft.{leaves-processes}
 use Rattle.refusal_laws.proofs.Refusing.{Comes, refusal, same-refusal}

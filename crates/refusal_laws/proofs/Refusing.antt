@@ -5,8 +5,8 @@ use Rattle.std.proofs.lemmas.Option.{none-some, same_Some}
 use Rattle.os9_base.specs.declared.errors.TheConstants.{E_BMODE, E_BPADDR, E_BPNAM, E_BPNUM, E_EOF, E_MNF, E_NOTRDY, E_PNNF, E_PTHFUL, E_UNKSVC, E_WRITE}
 use Rattle.os9_outer.specs.Stream.{stream_with}
 use Rattle.os9_outer.specs.TerminalState.{TerminalState, ChangesOneTerminal}
-use Rattle.call_rules.specs.CallResult.{CallResult}
-use Rattle.call_rules.specs.Processes.{Processes}
+use Rattle.proc_rules.specs.CallResult.{CallResult}
+use Rattle.proc_rules.specs.Processes.{Processes}
 use Rattle.io_model.specs.Edit.{Typing}
 use Rattle.io_model.specs.Terminal.{BreaksOff, PutsPart, Reads, Terminal, Writes, after_reading, attempt_by, is_taken, key_effect, kept_waiting, read_attempt, typed, typed_attempt}
 use Rattle.io_model.specs.declared.edit.LineEnd.{LineEnd}

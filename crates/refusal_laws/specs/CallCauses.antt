@@ -8,18 +8,18 @@ use Rattle.proc_model.specs.Slots.{is_free_run}
 use Rattle.proc_rules.specs.Ends.{ended_child, has_child}
 use Rattle.proc_rules.specs.Records.{free_process, record_at}
 use Rattle.proc_rules.specs.Signals.{is_reached, wake_signal}
-use Rattle.user_names.specs.UserNames.{name_at, user_cell}
-use Rattle.user_names.specs.declared.name_fault.NameFault.{NameFault}
-use Rattle.user_names.specs.declared.name_fault.NameFault.TheVariants.{NoName, Unreadable}
-use Rattle.call_rules.specs.CmpNam.{same_names}
-use Rattle.call_rules.specs.Processes.{Processes, cells_at, regs_at, user_at}
-use Rattle.call_rules.specs.ModuleLinks.{Entered, found_entry, module_at}
-use Rattle.call_rules.specs.Program.{blocks_of_pages, most_pages, page_count}
-use Rattle.call_rules.specs.PrsNam.{past_slash}
-use Rattle.call_rules.specs.UserBytes.{d_of, user_bytes}
-use Rattle.call_rules.specs.declared.proc_call.ProcCall.{ProcCall}
-use Rattle.call_rules.specs.declared.proc_call.ProcCall.TheVariants as Call
-use Rattle.civil_time.specs.CivilTime.{is_time_packet}
+use Rattle.os9_base.specs.UserNames.{name_at, user_cell}
+use Rattle.os9_base.specs.declared.name_fault.NameFault.{NameFault}
+use Rattle.os9_base.specs.declared.name_fault.NameFault.TheVariants.{NoName, Unreadable}
+use Rattle.proc_rules.specs.CmpNam.{same_names}
+use Rattle.proc_rules.specs.Processes.{Processes, cells_at, regs_at, user_at}
+use Rattle.proc_rules.specs.ModuleLinks.{Entered, found_entry, module_at}
+use Rattle.proc_rules.specs.Program.{blocks_of_pages, most_pages, page_count}
+use Rattle.proc_rules.specs.PrsNam.{past_slash}
+use Rattle.proc_rules.specs.UserBytes.{d_of, user_bytes}
+use Rattle.proc_rules.specs.declared.proc_call.ProcCall.{ProcCall}
+use Rattle.proc_rules.specs.declared.proc_call.ProcCall.TheVariants as Call
+use Rattle.time_rules.specs.CivilTime.{is_time_packet}
 use Rattle.io_rules.specs.Again.{path_number}
 use Rattle.io_rules.specs.Codes.{direction_of_call}
 use Rattle.io_rules.specs.Io.{OpenPath, open_path}

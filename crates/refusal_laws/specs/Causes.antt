@@ -7,9 +7,9 @@ use Rattle.os9_base.specs.declared.errors.TheConstants.{E_BMODE, E_BPADDR, E_BPN
 use Rattle.device_table.specs.Names.{device_of}
 use Rattle.device_table.specs.declared.devices.Dev.{Dev}
 use Rattle.device_table.specs.declared.devices.Dev.TheVariants as Device
-use Rattle.user_names.specs.UserNames.{goes_on, name_at, user_cell}
-use Rattle.user_names.specs.declared.name_fault.NameFault.TheVariants.{Unreadable, NoName}
-use Rattle.call_rules.specs.Program.{slash}
+use Rattle.os9_base.specs.UserNames.{goes_on, name_at, user_cell}
+use Rattle.os9_base.specs.declared.name_fault.NameFault.TheVariants.{Unreadable, NoName}
+use Rattle.proc_rules.specs.Program.{slash}
 use Rattle.io_model.specs.Path.{free_number, free_path}
 use Rattle.io_model.specs.Pipe.{free_pipe}
 use Rattle.io_model.specs.declared.path.Target.{Target}

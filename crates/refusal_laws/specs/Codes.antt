@@ -1,7 +1,7 @@
 -- The codes of all calls, and the unknown codes (System Programmer's Manual, "System calls").
 use Rattle.std.specs.Prelude.{ℕ, ◌==◌, Bool, List, [], ◌∷◌, ◌++◌, map}
 use Rattle.std.specs.List.{list_any, range_with_len}
-use Rattle.call_rules.specs.declared.proc_call.ProcCall.TheVariants as Proc
+use Rattle.proc_rules.specs.declared.proc_call.ProcCall.TheVariants as Proc
 use Rattle.file_rules.specs.declared.path_call.PathCall.TheVariants as Path
 use Rattle.time_rules.specs.declared.time_call.TimeCall.TheVariants as Time
 use Rattle.machine_model.specs.Services.{Service, loads, on_paths, on_processes, on_time}

@@ -7,10 +7,10 @@ use Rattle.os9_outer.specs.Stream.{stream_with}
 use Rattle.os9_outer.specs.TerminalState.{TerminalState, ChangesOneTerminal}
 use Rattle.proc_rules.specs.Records.{IsLiving, record_at, record_of}
 use Rattle.proc_rules.specs.declared.record.Life.TheVariants.{Running}
-use Rattle.call_rules.specs.Attempts.{refused_regs}
-use Rattle.call_rules.specs.CallResult.{refused}
-use Rattle.call_rules.specs.Processes.{Processes, own_at, regs_at}
-use Rattle.call_rules.specs.UserBytes.{user_bytes}
+use Rattle.proc_rules.specs.Attempts.{refused_regs}
+use Rattle.proc_rules.specs.CallResult.{refused}
+use Rattle.proc_rules.specs.Processes.{Processes, own_at, regs_at}
+use Rattle.proc_rules.specs.UserBytes.{user_bytes}
 use Rattle.io_model.specs.Line.{line_put}
 use Rattle.io_model.specs.Pipe.{IsPipe, pipe_room}
 use Rattle.io_model.specs.Terminal.{BreaksOff, PutsPart, Terminal, after_reading, is_taken, typed, used_by, without_reading}

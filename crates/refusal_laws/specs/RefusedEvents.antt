@@ -3,12 +3,12 @@ use Rattle.std.specs.Prelude.{◌≡◌, ◌≢◌, ◌⊎◌, ℕ, true, false,
 use Rattle.os9_base.specs.declared.errors.TheConstants.{E_EOF, E_UNKSVC, E_WRITE}
 use Rattle.os9_base.specs.declared.registers.TimePacket.{TimePacket}
 use Rattle.proc_rules.specs.Records.{IsLiving}
-use Rattle.call_rules.specs.Attempts.{after_attempt, attempted}
-use Rattle.call_rules.specs.CallResult.{refused}
-use Rattle.call_rules.specs.Processes.{regs_at}
-use Rattle.call_rules.specs.Ready.{attempts, act_of}
-use Rattle.call_rules.specs.declared.proc_call.ProcCall.{ProcCall}
-use Rattle.call_rules.specs.declared.proc_call.ProcCall.TheVariants as Call
+use Rattle.proc_rules.specs.Attempts.{after_attempt, attempted}
+use Rattle.proc_rules.specs.CallResult.{refused}
+use Rattle.proc_rules.specs.Processes.{regs_at}
+use Rattle.proc_rules.specs.Ready.{attempts, act_of}
+use Rattle.proc_rules.specs.declared.proc_call.ProcCall.{ProcCall}
+use Rattle.proc_rules.specs.declared.proc_call.ProcCall.TheVariants as Call
 use Rattle.io_rules.specs.Attempts.{caller_of}
 use Rattle.io_rules.specs.Io.{with_call}
 use Rattle.io_rules.specs.declared.io_call.IoCall.{IoCall}

@@ -3,14 +3,14 @@
 
 ghost use Rattle.std.specs.Prelude.{◌≡◌, ◌≢◌, ℕ};
 ghost use Rattle.os9_base.specs.declared.errors.TheConstants.{E_EOF, E_WRITE};
-ghost use Rattle.call_rules.specs.Attempts.{after_attempt};
-ghost use Rattle.call_rules.specs.CallResult.{refused};
-ghost use Rattle.call_rules.specs.Processes.{Processes};
+ghost use Rattle.proc_rules.specs.Attempts.{after_attempt};
+ghost use Rattle.proc_rules.specs.CallResult.{refused};
+ghost use Rattle.proc_rules.specs.Processes.{Processes};
 ghost use Rattle.io_rules.specs.Step.{Caller};
 ghost use Rattle.io_rules.specs.declared.io_call.IoCall.{IoCall};
 ghost use Rattle.file_laws.specs.Kinds.{AreKinds};
 ghost use Rattle.file_rules.specs.Files.{Files};
-ghost use Rattle.event_rules.specs.declared.ends.EventEnd.TheVariants.{Ran};
+ghost use Rattle.machine_model.specs.declared.ends.EventEnd.TheVariants.{Ran};
 ghost use Rattle.machine_model.specs.Event.{Event};
 ghost use Rattle.machine_model.specs.State.{State};
 ghost use Rattle.refusal_laws.specs.CallCauses.{IsOnLostFile};

@@ -6,14 +6,14 @@ use Rattle.os9_outer.specs.TerminalState.{TerminalState, fault_counts}
 use Rattle.proc_rules.specs.Records.{IsLiving, is_living}
 use Rattle.proc_rules.specs.Turns.{IsToChoose}
 use Rattle.proc_rules.proofs.EldestLaws.{chosen_if}
-use Rattle.call_rules.specs.Choice.{after_choice, choice_of}
-use Rattle.call_rules.specs.Processes.{Processes}
-use Rattle.call_rules.specs.Ready.{Act, act_of, attempts, delivers, executes, is_ready}
+use Rattle.proc_rules.specs.Choice.{after_choice, choice_of}
+use Rattle.proc_rules.specs.Processes.{Processes}
+use Rattle.proc_rules.specs.Ready.{Act, act_of, attempts, delivers, executes, is_ready}
 use Rattle.file_rules.specs.Locking.{files_may_go}
-use Rattle.event_rules.specs.Console.{console_bytes, terminals_emptied}
-use Rattle.event_rules.specs.Event.{cost_of}
-use Rattle.event_rules.specs.declared.ends.EventEnd.{EventEnd}
-use Rattle.event_rules.specs.declared.ends.SliceEnd.{SliceEnd}
+use Rattle.machine_model.specs.Console.{console_bytes, terminals_emptied}
+use Rattle.machine_model.specs.ProcessEvent.{cost_of}
+use Rattle.machine_model.specs.declared.ends.EventEnd.{EventEnd}
+use Rattle.machine_model.specs.declared.ends.SliceEnd.{SliceEnd}
 use Rattle.machine_model.specs.Event.{Event, cost}
 use Rattle.machine_model.specs.Run.{Choose, Run, Slice, Steps, Tick, is_going}
 use Rattle.machine_model.specs.State.{State, has_living}

@@ -1,7 +1,7 @@
 -- An attempt of every call has an end.
 use Rattle.std.proofs.Common.{◌≡◌, ◌⊎◌, ℕ, false, Option, Some, None, Result, Ok, Err, List, length, refl, sym, inl, map, ap, ◌∙◌, inr}
 use Rattle.std.specs.Prelude.{MatchOption}
-use Rattle.civil_time.proofs.Next.{later-packet}
+use Rattle.time_rules.proofs.Next.{later-packet}
 use Rattle.os9_base.specs.declared.errors.TheConstants.{E_UNKSVC}
 use Rattle.os9_base.specs.declared.registers.TimePacket.{TimePacket}
 use Rattle.os9_outer.specs.TerminalState.{fault_counts}
@@ -10,14 +10,14 @@ use Rattle.proc_model.specs.MemoryChanges.{new_numbers}
 use Rattle.proc_model.specs.ModuleList.{ModuleEntry}
 use Rattle.proc_model.specs.Objects.{file_blocks}
 use Rattle.proc_model.proofs.LoadingLemmas.{Enters-some}
-use Rattle.call_rules.specs.Attempts.{attempted}
-use Rattle.call_rules.specs.CallResult.{CallResult, done, ends, refused, waits}
-use Rattle.call_rules.specs.Chain.{f_chain}
-use Rattle.call_rules.specs.Fork.{f_fork}
-use Rattle.call_rules.specs.Processes.{Processes}
-use Rattle.call_rules.specs.ModuleLinks.{Entered}
-use Rattle.call_rules.specs.Program.{Program}
-use Rattle.call_rules.specs.declared.proc_call.ProcCall.TheVariants as Call
+use Rattle.proc_rules.specs.Attempts.{attempted}
+use Rattle.proc_rules.specs.CallResult.{CallResult, done, ends, refused, waits}
+use Rattle.proc_rules.specs.Chain.{f_chain}
+use Rattle.proc_rules.specs.Fork.{f_fork}
+use Rattle.proc_rules.specs.Processes.{Processes}
+use Rattle.proc_rules.specs.ModuleLinks.{Entered}
+use Rattle.proc_rules.specs.Program.{Program}
+use Rattle.proc_rules.specs.declared.proc_call.ProcCall.TheVariants as Call
 use Rattle.io_rules.specs.Attempts.{result_of as io_result}
 use Rattle.file_rules.specs.Attempts.{asker_of, files_after, io_effect}
 use Rattle.file_rules.specs.Codes.{path_call_of}

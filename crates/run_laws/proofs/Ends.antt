@@ -11,7 +11,7 @@ use Rattle.os9_base.specs.declared.registers.Regs.{Regs}
 use Rattle.os9_outer.specs.Drive.{drive_error}
 use Rattle.os9_outer.specs.TerminalState.{TerminalState, fault_counts}
 use Rattle.os9_outer.specs.declared.drive.DriveFault.TheVariants.{NotReady}
-use Rattle.call_rules.specs.UserBytes.{user_bytes}
+use Rattle.proc_rules.specs.UserBytes.{user_bytes}
 use Rattle.rbf_model.specs.Volume.{DiskVolume}
 use Rattle.rbf_model.specs.Walk.{WalkEnd, arrives, look_up, not_allowed, not_found, walk}
 use Rattle.rbf_change.specs.Calls.{cluster_size, free_total}

@@ -1,14 +1,14 @@
 -- Two events of one state in which no device fails are one, unless clusters are taken.
 use Rattle.std.proofs.Common.{◌≡◌, ◌⊎◌, ℕ, ◌+◌, Option, Some, None, List, length, refl, sym, ap, ◌∙◌, subst, inl, inr}
 use Rattle.std.proofs.lemmas.Option.{same_Some}
-use Rattle.civil_time.proofs.Days.{same-packet}
+use Rattle.time_rules.proofs.Days.{same-packet}
 use Rattle.os9_base.specs.declared.registers.TimePacket.{TimePacket}
 use Rattle.os9_outer.specs.TerminalState.{TerminalState}
-use Rattle.call_rules.specs.Attempts.{after_attempt}
-use Rattle.call_rules.specs.Processes.{Processes}
-use Rattle.call_rules.specs.CallResult.{CallResult, done, ends, refused, waits}
-use Rattle.call_rules.specs.Ready.{Act, attempts, delivers, executes, act_of}
-use Rattle.call_rules.specs.declared.proc_call.ProcCall.TheVariants as Call
+use Rattle.proc_rules.specs.Attempts.{after_attempt}
+use Rattle.proc_rules.specs.Processes.{Processes}
+use Rattle.proc_rules.specs.CallResult.{CallResult, done, ends, refused, waits}
+use Rattle.proc_rules.specs.Ready.{Act, attempts, delivers, executes, act_of}
+use Rattle.proc_rules.specs.declared.proc_call.ProcCall.TheVariants as Call
 use Rattle.io_rules.specs.Arrivals.{Desk}
 use Rattle.io_rules.specs.Attempts.{result_by, result_of as io_result}
 use Rattle.io_rules.specs.Step.{IoEnd}
@@ -17,9 +17,9 @@ use Rattle.file_rules.specs.Files.{DriveState, Files, with_io}
 use Rattle.file_rules.specs.Step.{FileEffect, FileStep, deed_of, drive_of, with_drives_after}
 use Rattle.file_rules.specs.declared.path_call.PathCall.{PathCall}
 use Rattle.file_laws.proofs.TouchAttempts.{step-splits}
-use Rattle.event_rules.specs.Event.{call_event_end}
-use Rattle.event_rules.specs.declared.ends.EventEnd.{EventEnd}
-use Rattle.event_rules.specs.declared.ends.EventEnd.TheVariants.{Ran}
+use Rattle.machine_model.specs.ProcessEvent.{call_event_end}
+use Rattle.machine_model.specs.declared.ends.EventEnd.{EventEnd}
+use Rattle.machine_model.specs.declared.ends.EventEnd.TheVariants.{Ran}
 use Rattle.time_rules.specs.Attempts.{clock_after, result_of as time_result}
 use Rattle.time_rules.specs.Clock.{IsNow, seconds_since}
 use Rattle.machine_model.specs.Event.{Acts, Event}

@@ -11,12 +11,12 @@ use Rattle.proc_rules.specs.declared.record.Intercept.{Intercept}
 use Rattle.proc_rules.specs.declared.record.Record.{Record}
 use Rattle.proc_rules.specs.Records.{IsLiving, record_at, record_passes, has_ended, is_waiting, with_record, with_regs}
 use Rattle.proc_rules.specs.Signals.{with_signal}
-use Rattle.call_rules.specs.Attempts.{goes_on}
-use Rattle.call_rules.specs.Delivery.{delivered, after_delivery, has_no_room, interrupted_regs, routine_begun, stack_top, with_frame}
-use Rattle.call_rules.specs.Processes.{Processes, no_own, own_at, regs_at, with_own, with_records}
-use Rattle.call_rules.specs.Ready.{Act, attempts, delivers, executes, act_of, next_act}
+use Rattle.proc_rules.specs.Attempts.{goes_on}
+use Rattle.proc_rules.specs.Delivery.{delivered, after_delivery, has_no_room, interrupted_regs, routine_begun, stack_top, with_frame}
+use Rattle.proc_rules.specs.Processes.{Processes, no_own, own_at, regs_at, with_own, with_records}
+use Rattle.proc_rules.specs.Ready.{Act, attempts, delivers, executes, act_of, next_act}
 use Rattle.call_laws.proofs.OthersKept.{living-within, record-put}
-use Rattle.event_rules.specs.Event.{after_instruction, broken_off, delivery_end, instruction_end}
+use Rattle.machine_model.specs.ProcessEvent.{after_instruction, broken_off, delivery_end, instruction_end}
 use Rattle.machine_model.specs.Run.{is_going}
 use Rattle.wait_laws.proofs.KeptEvents.{lives-runs}
 

@@ -4,17 +4,17 @@ use Rattle.std.proofs.lemmas.Option.{none-some}
 use Rattle.os9_base.specs.declared.registers.TimePacket.{TimePacket}
 use Rattle.std.specs.Prelude.{slice_index_or}
 use Rattle.rbf_model.specs.Volume.{DiskVolume}
-use Rattle.call_rules.specs.CallResult.{CallResult, done, ends, refused, waits}
-use Rattle.call_rules.specs.Delivery.{delivered}
-use Rattle.call_rules.specs.Processes.{Processes}
-use Rattle.call_rules.specs.Ready.{Act, attempts, delivers, executes, act_of}
-use Rattle.call_rules.specs.declared.proc_call.ProcCall.TheVariants as Call
+use Rattle.proc_rules.specs.CallResult.{CallResult, done, ends, refused, waits}
+use Rattle.proc_rules.specs.Delivery.{delivered}
+use Rattle.proc_rules.specs.Processes.{Processes}
+use Rattle.proc_rules.specs.Ready.{Act, attempts, delivers, executes, act_of}
+use Rattle.proc_rules.specs.declared.proc_call.ProcCall.TheVariants as Call
 use Rattle.cpu_model.specs.Step.{Outcome, Done, Calls, Aborts}
 use Rattle.file_rules.specs.Attempts.{asker_of, file_step}
 use Rattle.file_rules.specs.Files.{Files, volume_at}
 use Rattle.file_rules.specs.Step.{Deed, as_io, changes, deed_of, leaves_so}
-use Rattle.event_rules.specs.Event.{next_instruction}
-use Rattle.event_rules.specs.declared.ends.EventEnd.{EventEnd}
+use Rattle.machine_model.specs.ProcessEvent.{next_instruction}
+use Rattle.machine_model.specs.declared.ends.EventEnd.{EventEnd}
 use Rattle.file_laws.specs.Devices.{IsOnDevice}
 use Rattle.file_laws.specs.Touch.{LeavesDevices, NoVolumeChanges, OneDriveFails, OneVolumeChanges, WaitsForRecord}
 use Rattle.file_laws.proofs.TouchAttempts.{attempt-comes}

@@ -7,11 +7,11 @@ use Rattle.os9_base.specs.declared.registers.Pid.{Pid}
 use Rattle.os9_base.specs.declared.registers.TimePacket.{TimePacket}
 use Rattle.os9_outer.specs.TerminalState.{TerminalState, ChangesOneTerminal}
 use Rattle.os9_outer.specs.declared.terminal.Key.{Key}
-use Rattle.call_rules.specs.Attempts.{after_attempt}
-use Rattle.call_rules.specs.CallResult.{CallResult}
-use Rattle.call_rules.specs.Processes.{Processes}
-use Rattle.call_rules.specs.Ready.{Act, attempts, delivers, executes, act_of}
-use Rattle.call_rules.specs.declared.proc_call.ProcCall.TheVariants as Call
+use Rattle.proc_rules.specs.Attempts.{after_attempt}
+use Rattle.proc_rules.specs.CallResult.{CallResult}
+use Rattle.proc_rules.specs.Processes.{Processes}
+use Rattle.proc_rules.specs.Ready.{Act, attempts, delivers, executes, act_of}
+use Rattle.proc_rules.specs.declared.proc_call.ProcCall.TheVariants as Call
 use Rattle.io_model.specs.Terminal.{IsCutShort, IsWritten, Reads, Terminal, Writes}
 use Rattle.io_model.specs.declared.terminal.Progress.{Progress}
 use Rattle.io_model.specs.declared.terminal.Reading.{Reading}
@@ -24,7 +24,7 @@ use Rattle.file_rules.specs.Files.{Asker, Files}
 use Rattle.file_rules.specs.Load.{LoadAttempts}
 use Rattle.file_rules.specs.Program.{ChainAttempts, ForkAttempts}
 use Rattle.file_rules.specs.Step.{Deed, DoesDeed, FileDoes, FileEffect, FileStep, GoesWell, as_io, changes, deed_of, leaves_so}
-use Rattle.event_rules.specs.declared.ends.EventEnd.{EventEnd}
+use Rattle.machine_model.specs.declared.ends.EventEnd.{EventEnd}
 use Rattle.machine_model.specs.Event.{Acts, Event}
 use Rattle.machine_model.specs.Services.{Service, Serves, loads, no_call, on_paths, on_processes, on_time, service_of, with_files}
 use Rattle.machine_model.specs.State.{Rest, State, with_rest}

@@ -3,9 +3,9 @@ use Rattle.std.proofs.Common.{◌≡◌, ℕ, ◌+◌, ◌-◌, ◌<◌, ◌≤�
 use Rattle.std.specs.Prelude.{MatchBool, MatchOption}
 use Rattle.std.specs.List.{AllZip}
 use Rattle.os9_outer.specs.TerminalState.{TerminalState}
-use Rattle.event_rules.specs.declared.ends.EventEnd.{EventEnd}
-use Rattle.event_rules.specs.declared.ends.SliceEnd.{SliceEnd}
-use Rattle.event_rules.specs.declared.ends.SliceEnd.TheVariants.{Idle, Ran}
+use Rattle.machine_model.specs.declared.ends.EventEnd.{EventEnd}
+use Rattle.machine_model.specs.declared.ends.SliceEnd.{SliceEnd}
+use Rattle.machine_model.specs.declared.ends.SliceEnd.TheVariants.{Idle, Ran}
 use Rattle.machine_model.specs.Event.{Event, cost}
 use Rattle.machine_model.specs.Run.{Choose, Slice, Steps, Tick, is_going}
 use Rattle.machine_model.specs.State.{State}

@@ -1,20 +1,20 @@
 -- What holds of a state from which the machine goes on holds from the start on, and after each event, tick and choice.
 use Rattle.std.proofs.Common.{◌≡◌, ℕ, ◌<◌, ◌≤◌, true, length, refl, sym, ap, subst}
-use Rattle.civil_time.specs.CivilTime.{is_time_packet}
+use Rattle.time_rules.specs.CivilTime.{is_time_packet}
 use Rattle.cpu_model.specs.Step.{Aborts, Calls, Done, Outcome}
 use Rattle.os9_base.specs.declared.registers.TimePacket.{TimePacket}
-use Rattle.call_rules.specs.CallResult.{CallResult, done, ends, refused, waits}
-use Rattle.call_rules.specs.Delivery.{delivered}
-use Rattle.call_rules.specs.Processes.{Processes}
-use Rattle.call_rules.specs.Ready.{Act, act_of, attempts, delivers, executes}
-use Rattle.call_rules.specs.declared.proc_call.ProcCall.TheVariants as Call
+use Rattle.proc_rules.specs.CallResult.{CallResult, done, ends, refused, waits}
+use Rattle.proc_rules.specs.Delivery.{delivered}
+use Rattle.proc_rules.specs.Processes.{Processes}
+use Rattle.proc_rules.specs.Ready.{Act, act_of, attempts, delivers, executes}
+use Rattle.proc_rules.specs.declared.proc_call.ProcCall.TheVariants as Call
 use Rattle.std.specs.Prelude.{Result, Ok, Err}
 use Rattle.file_rules.specs.Attempts.{asker_of, files_after}
 use Rattle.file_rules.specs.Files.{Files}
 use Rattle.file_laws.proofs.Attempts.{chain-many, fork-many, load-many}
-use Rattle.event_rules.specs.Console.{terminals_emptied}
-use Rattle.event_rules.specs.Event.{next_instruction}
-use Rattle.event_rules.specs.declared.ends.EventEnd.{EventEnd}
+use Rattle.machine_model.specs.Console.{terminals_emptied}
+use Rattle.machine_model.specs.ProcessEvent.{next_instruction}
+use Rattle.machine_model.specs.declared.ends.EventEnd.{EventEnd}
 use Rattle.file_laws.proofs.Loads.{chain-leaves, fork-leaves, load-leaves}
 use Rattle.machine_model.specs.Event.{Acts, Event, before_delivery, files_after_delivery, files_after_instruction}
 use Rattle.machine_model.specs.Run.{Choose, Tick}

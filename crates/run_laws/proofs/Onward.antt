@@ -1,8 +1,8 @@
 -- A session goes on turn by turn.
 use Rattle.std.proofs.Common.{◌≡◌, ℕ, ◌+◌, true, List, [], ◌∷◌, ◌++◌, refl, sym, ap, ◌∙◌, subst}
 use Rattle.std.proofs.lemmas.List.{append_assoc, append-nil}
-use Rattle.event_rules.specs.Console.{console_bytes, terminals_emptied}
-use Rattle.event_rules.specs.declared.ends.SliceEnd.{SliceEnd}
+use Rattle.machine_model.specs.Console.{console_bytes, terminals_emptied}
+use Rattle.machine_model.specs.declared.ends.SliceEnd.{SliceEnd}
 use Rattle.machine_model.specs.Run.{Slice}
 use Rattle.machine_model.specs.State.{State, has_living}
 use Rattle.run_laws.specs.Session.{AreLater, Session, Turn, keys_then, script, with_keys}

@@ -4,21 +4,21 @@ use Rattle.std.proofs.Common.{◌≡◌, ◌⊎◌, ℕ, zero, suc, ◌+◌, ◌
 use Rattle.std.specs.Prelude.{MatchBool, MatchOption, option_map}
 use Rattle.os9_base.specs.declared.registers.Pid.{Pid}
 use Rattle.os9_outer.specs.TerminalState.{TerminalState}
-use Rattle.call_rules.specs.Choice.{choice_of, after_choice}
+use Rattle.proc_rules.specs.Choice.{choice_of, after_choice}
 use Rattle.file_rules.specs.Locking.{files_may_go}
 use Rattle.file_rules.specs.Files.{DriveState, drive_at}
-use Rattle.event_rules.specs.Console.{console_bytes, terminals_emptied}
-use Rattle.event_rules.proofs.TerminalLaws.{gain-emptied}
-use Rattle.event_rules.specs.declared.ends.EventEnd.{EventEnd}
-use Rattle.event_rules.specs.declared.ends.SliceEnd.{SliceEnd}
-use Rattle.event_rules.specs.declared.ends.SliceEnd.TheVariants.{Idle, Ran}
+use Rattle.machine_model.specs.Console.{console_bytes, terminals_emptied}
+use Rattle.machine_model.proofs.TerminalLaws.{gain-emptied}
+use Rattle.machine_model.specs.declared.ends.EventEnd.{EventEnd}
+use Rattle.machine_model.specs.declared.ends.SliceEnd.{SliceEnd}
+use Rattle.machine_model.specs.declared.ends.SliceEnd.TheVariants.{Idle, Ran}
 use Rattle.machine_model.specs.Devices.{DrivesOnlyGain, OnlyGain}
 use Rattle.machine_model.specs.Event.{Event, cost}
 use Rattle.machine_model.specs.Run.{Choose, Run, Slice, Steps, Tick, is_going}
 use Rattle.machine_model.specs.State.{State, has_living}
 use Rattle.machine_model.proofs.Drives.{drives-same, drives-then}
 use Rattle.machine_model.proofs.Gains.{event-gains, run-gains, slice-gains, tick-gains}
-use Rattle.event_rules.proofs.TerminalLaws.{gain-same, gain-then}
+use Rattle.machine_model.proofs.TerminalLaws.{gain-same, gain-then}
 use Rattle.run_laws.specs.Faults.{HasNoVolumes, MayChoose, NoDriveFailed, NoneFailed, SameButClusters, SameEvent, SameRun, SameSlice}
 use Rattle.run_laws.proofs.Events.{event-one, tick-one}
 use Rattle.run_laws.specs.Reached.{NeverChooses, Reaches, by_choice, by_emptying, by_event, by_tick, here}

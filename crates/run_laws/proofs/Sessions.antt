@@ -6,8 +6,8 @@ use Rattle.std.proofs.lemmas.List.{append_assoc, append-nil}
 use Rattle.os9_outer.specs.Terminal.{due_byte}
 use Rattle.os9_outer.specs.TerminalState.{TerminalState}
 use Rattle.os9_outer.specs.declared.terminal.Key.{Key}
-use Rattle.event_rules.specs.Console.{console_bytes, put_bytes, terminals_emptied, without_bytes}
-use Rattle.event_rules.specs.declared.ends.SliceEnd.{SliceEnd}
+use Rattle.machine_model.specs.Console.{console_bytes, put_bytes, terminals_emptied, without_bytes}
+use Rattle.machine_model.specs.declared.ends.SliceEnd.{SliceEnd}
 use Rattle.machine_model.specs.Run.{Run, Slice}
 use Rattle.machine_model.specs.State.{State, has_living}
 use Rattle.run_laws.specs.Later.{AreSameBut, Rests, SameBut, SameSliceTo, SameTo}

@@ -6,7 +6,7 @@ use Rattle.std.proofs.lemmas.Option.{none-some, same_Some}
 use Rattle.os9_base.specs.declared.errors.TheConstants.{E_EOF}
 use Rattle.os9_outer.specs.TerminalState.{TerminalState, fault_counts}
 use Rattle.cpu_model.specs.Step.{Done}
-use Rattle.call_rules.specs.CallResult.{ends}
+use Rattle.proc_rules.specs.CallResult.{ends}
 use Rattle.io_model.specs.Edit.{Typing}
 use Rattle.io_model.specs.Path.{desc_of, slot_of}
 use Rattle.io_model.specs.Terminal.{Terminal, Reads, attempt_by, is_taken, kept_waiting, read_attempt, typed, typed_attempt, used_by}

@@ -1,24 +1,24 @@
 -- Each state has an event, each slice an end, and each list of slices a run.
 use Rattle.std.proofs.Common.{◌≡◌, ◌⊎◌, ℕ, ◌-◌, ◌<◌, ◌≤◌, true, false, Some, List, length, refl, sym, ap, ◌∙◌, subst, inl, inr, arith, Result, Ok, Err}
 use Rattle.std.proofs.lemmas.Bool.{false≢true}
-use Rattle.civil_time.specs.CivilTime.{is_time_packet}
+use Rattle.time_rules.specs.CivilTime.{is_time_packet}
 use Rattle.os9_base.specs.declared.errors.TheConstants.{E_UNKSVC}
 use Rattle.os9_base.specs.declared.registers.Regs.{Regs}
 use Rattle.os9_base.specs.declared.registers.TimePacket.{TimePacket}
 use Rattle.os9_outer.specs.TerminalState.{fault_counts}
 use Rattle.cpu_model.specs.Step.{Aborts, Calls, Done, Outcome}
 use Rattle.proc_rules.specs.Records.{IsLiving}
-use Rattle.call_rules.specs.Attempts.{after_attempt, done_regs, goes_on, refused_regs}
-use Rattle.call_rules.specs.CallResult.{CallResult, done, ends, refused, waits}
-use Rattle.call_rules.specs.Delivery.{after_delivery, delivered}
-use Rattle.call_rules.specs.Processes.{Processes, regs_at}
-use Rattle.call_rules.specs.Ready.{Act, act_of, attempts, delivers, executes}
-use Rattle.call_rules.specs.declared.proc_call.ProcCall.TheVariants as Call
+use Rattle.proc_rules.specs.Attempts.{after_attempt, done_regs, goes_on, refused_regs}
+use Rattle.proc_rules.specs.CallResult.{CallResult, done, ends, refused, waits}
+use Rattle.proc_rules.specs.Delivery.{after_delivery, delivered}
+use Rattle.proc_rules.specs.Processes.{Processes, regs_at}
+use Rattle.proc_rules.specs.Ready.{Act, act_of, attempts, delivers, executes}
+use Rattle.proc_rules.specs.declared.proc_call.ProcCall.TheVariants as Call
 use Rattle.file_rules.specs.Attempts.{asker_of, io_effect}
 use Rattle.std.proofs.lemmas.Option.{none-some}
 use Rattle.file_rules.specs.Files.{Files, NoneFailed}
 use Rattle.time_rules.specs.Attempts.{time_step}
-use Rattle.event_rules.specs.declared.ends.EventEnd.{EventEnd}
+use Rattle.machine_model.specs.declared.ends.EventEnd.{EventEnd}
 use Rattle.call_laws.proofs.CallsKept.{left-refused}
 use Rattle.call_laws.proofs.EndsKept.{by-end}
 use Rattle.call_laws.proofs.ForksKept.{attempt-left}
@@ -38,7 +38,7 @@ use Rattle.run_laws.specs.Runs.{HasEvent, HasRun, HasSlice, MakesFile}
 use Rattle.run_laws.proofs.Kept.{choice-bare, event-bare, tick-bare}
 use Rattle.run_laws.proofs.Calls.{SomeAttempt, same-drives, some-attempt}
 use Rattle.run_laws.proofs.Moves.{choice-can, emptied-can, event-can, start-can, tick-can}
-use Rattle.event_rules.specs.Event.{after_instruction, call_event_end, delivery_end, instruction_end, next_instruction}
+use Rattle.machine_model.specs.ProcessEvent.{after_instruction, call_event_end, delivery_end, instruction_end, next_instruction}
 use Rattle.io_rules.specs.Waiting.{interrupted_count}
 use Rattle.run_laws.proofs.Building.{Builds, Next, SomeRun, SomeSlice, some-run, some-slice}
 use Rattle.run_laws.proofs.Going.{GoesOn, after-call-acts, after-call-lives, broken-goes, instruction-goes, rank}
@@ -54,7 +54,7 @@ module _ (s : State) (p code : ℕ) (next : act_of s.processes p ≡ attempts co
       (load-over s.processes (asker_of s.processes p now) s.files (length s.terms) p result files it).aside.places
   serves-places (on_processes Call.Fork) result asked (files, it, is) =
       (over-by s.processes p (Child s.processes p) result (fork-over s.processes (asker_of s.processes p now) s.files (length s.terms) p result files lives it)
-          (λ t child. (child.aside, child.tick))).aside.places
+      (λ t child. (child.aside, child.tick))).aside.places
   serves-places (on_processes Call.Chain) result asked (files, it, is) =
       (chain-over s.processes (asker_of s.processes p now) s.files (length s.terms) p result files it).aside.places
   serves-places (on_processes call) result asked it =

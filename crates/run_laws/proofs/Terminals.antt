@@ -22,8 +22,8 @@ use Rattle.io_rules.specs.Attempts.{Does}
 use Rattle.io_rules.specs.Io.{Io, terminal_at, with_terminal}
 use Rattle.io_rules.specs.Step.{Caller, IoEffect, IoEnd, IoStep, answers, refused, comes, reads, writes, leaves, TerminalRead, TerminalWrite}
 use Rattle.io_rules.specs.Terminals.{ReadsTerminal, WritesTerminal, read_ends, read_leaves, request_of, write_ends}
-use Rattle.event_rules.specs.Terminals.{TerminalsOnlyGain}
-use Rattle.event_rules.proofs.TerminalLaws.{gain-arrivals}
+use Rattle.machine_model.specs.Terminals.{TerminalsOnlyGain}
+use Rattle.machine_model.proofs.TerminalLaws.{gain-arrivals}
 use Rattle.run_laws.specs.Faults.{NotFailed}
 
 -- ---- counts that do not rise
@@ -300,7 +300,7 @@ arrival-one tick n old new other one two none none_too =
     (subst (λ (before : TerminalState). Arrives tick (terminal_at old.io n) two.terminal before two.device.1
     two.answer) (sym before) two.device.4) in
     λ i. record {
-      inner =
+      processes =
           (one.signal ∙ (λ j. after_key_signal old.processes (poll.terminal j).user (poll.signal j)) ∙ sym two.signal) i;
       io = (one.io ∙ ap (with_terminal old.io n) poll.terminal ∙ sym two.io) i;
       terms = (one.device.3 ∙ ap (slice_set old.terms n) poll.driver ∙ sym two.device.3) i;

@@ -4,8 +4,8 @@ use Rattle.std.specs.List.{AllByRecursion, AllZip}
 use Rattle.os9_base.specs.Count.{Rose}
 use Rattle.os9_base.specs.declared.registers.TimePacket.{TimePacket}
 use Rattle.os9_outer.specs.TerminalState.{TerminalState}
-use Rattle.call_rules.specs.Attempts.{after_attempt}
-use Rattle.call_rules.specs.Ready.{attempts, act_of}
+use Rattle.proc_rules.specs.Attempts.{after_attempt}
+use Rattle.proc_rules.specs.Ready.{attempts, act_of}
 use Rattle.io_rules.specs.Attempts.{result_of}
 use Rattle.file_rules.specs.Attempts.{asker_of, file_step, files_after, io_effect}
 use Rattle.rbf_model.specs.File.{DiskFile}
@@ -17,9 +17,9 @@ use Rattle.file_rules.specs.Change.{Change, writes, sizes, sets_attributes, crea
 use Rattle.file_rules.specs.Files.{DriveState, Files, drive_at, volume_at}
 use Rattle.file_rules.specs.Step.{Deed, FileEffect, IsChanged, IsTooLong, VolumeChange, changes, deed_of, with_drives_after}
 use Rattle.file_rules.specs.declared.path_call.PathCall.{PathCall}
-use Rattle.event_rules.specs.declared.ends.EventEnd.{EventEnd}
-use Rattle.event_rules.specs.declared.ends.EventEnd.TheVariants.{Ran}
-use Rattle.event_rules.specs.declared.ends.SliceEnd.{SliceEnd}
+use Rattle.machine_model.specs.declared.ends.EventEnd.{EventEnd}
+use Rattle.machine_model.specs.declared.ends.EventEnd.TheVariants.{Ran}
+use Rattle.machine_model.specs.declared.ends.SliceEnd.{SliceEnd}
 use Rattle.time_rules.specs.Clock.{IsNow}
 use Rattle.machine_model.specs.Services.{on_paths, service_of}
 use Rattle.machine_model.specs.State.{State, rest_of, with_rest}

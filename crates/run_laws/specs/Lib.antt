@@ -5,3 +5,8 @@ pub mod Reached
 pub mod Runs
 pub mod Session
 pub mod SoFar
+pub mod Stops
+pub mod Ends
+pub mod Images
+pub mod Faultless
+pub mod InOrder

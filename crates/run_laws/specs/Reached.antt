@@ -1,7 +1,7 @@
 -- States that a machine may reach, and machines that never have a choice.
 use Rattle.std.specs.Prelude.{◌≡◌}
-use Rattle.event_rules.specs.Console.{terminals_emptied}
-use Rattle.event_rules.specs.declared.ends.EventEnd.{EventEnd}
+use Rattle.machine_model.specs.Console.{terminals_emptied}
+use Rattle.machine_model.specs.declared.ends.EventEnd.{EventEnd}
 use Rattle.machine_model.specs.Event.{Event}
 use Rattle.machine_model.specs.Run.{Choose, Tick}
 use Rattle.machine_model.specs.State.{State}

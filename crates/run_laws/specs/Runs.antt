@@ -1,13 +1,13 @@
 -- The existence of events, slices and runs.
 use Rattle.std.specs.Prelude.{◌≡◌, ◌⊎◌, ℕ, Some, List}
 use Rattle.os9_outer.specs.TerminalState.{fault_counts}
-use Rattle.call_rules.specs.Ready.{attempts, act_of}
+use Rattle.proc_rules.specs.Ready.{attempts, act_of}
 use Rattle.file_rules.specs.Codes.{path_call_of}
 use Rattle.rbf_model.specs.Volume.{DiskVolume}
 use Rattle.file_rules.specs.Files.{NoneFailed, volume_at}
 use Rattle.file_rules.specs.declared.path_call.PathCall.TheVariants as Call
-use Rattle.event_rules.specs.declared.ends.EventEnd.{EventEnd}
-use Rattle.event_rules.specs.declared.ends.SliceEnd.{SliceEnd}
+use Rattle.machine_model.specs.declared.ends.EventEnd.{EventEnd}
+use Rattle.machine_model.specs.declared.ends.SliceEnd.{SliceEnd}
 use Rattle.machine_model.specs.Event.{Event}
 use Rattle.machine_model.specs.Run.{Run, Slice}
 use Rattle.machine_model.specs.State.{State}

@@ -1,8 +1,8 @@
 //! The events, slices and runs of states that are equal but for later keys, as laws.
 
 ghost use Rattle.std.specs.Prelude.{◌≡◌, ℕ, ◌+◌, ◌≤◌, List};
-ghost use Rattle.event_rules.specs.declared.ends.EventEnd.{EventEnd};
-ghost use Rattle.event_rules.specs.declared.ends.SliceEnd.{SliceEnd};
+ghost use Rattle.machine_model.specs.declared.ends.EventEnd.{EventEnd};
+ghost use Rattle.machine_model.specs.declared.ends.SliceEnd.{SliceEnd};
 ghost use Rattle.machine_model.specs.Event.{Event};
 ghost use Rattle.machine_model.specs.Run.{Choose, Slice, Tick};
 ghost use Rattle.machine_model.specs.State.{State};

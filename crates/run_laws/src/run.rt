@@ -1,9 +1,9 @@
 //! Runs of the machine: every slice ends, and there is a run over every list of slices.
 
 ghost use Rattle.std.specs.Prelude.{◌≡◌, ℕ, ◌<◌, ◌≤◌, List, Some, length, true};
-ghost use Rattle.civil_time.specs.CivilTime.{is_time_packet};
+ghost use Rattle.time_rules.specs.CivilTime.{is_time_packet};
 ghost use Rattle.proc_rules.specs.Records.{IsLiving};
-ghost use Rattle.event_rules.specs.declared.ends.EventEnd.{EventEnd};
+ghost use Rattle.machine_model.specs.declared.ends.EventEnd.{EventEnd};
 ghost use Rattle.machine_model.specs.Event.{Event};
 ghost use Rattle.machine_model.specs.Run.{Choose, Tick};
 ghost use Rattle.machine_model.specs.Start.{Boot, Starts};

@@ -2,9 +2,9 @@
 //! run of its script.
 
 ghost use Rattle.std.specs.Prelude.{◌≡◌, ℕ, ◌+◌, ◌∷◌, ◌++◌, true, List, []};
-ghost use Rattle.event_rules.specs.Console.{console_bytes, terminals_emptied};
-ghost use Rattle.event_rules.specs.declared.ends.EventEnd.{EventEnd};
-ghost use Rattle.event_rules.specs.declared.ends.SliceEnd.{SliceEnd};
+ghost use Rattle.machine_model.specs.Console.{console_bytes, terminals_emptied};
+ghost use Rattle.machine_model.specs.declared.ends.EventEnd.{EventEnd};
+ghost use Rattle.machine_model.specs.declared.ends.SliceEnd.{SliceEnd};
 ghost use Rattle.machine_model.specs.Event.{Event};
 ghost use Rattle.machine_model.specs.Run.{BeginsSlice, Slice};
 ghost use Rattle.machine_model.specs.State.{State, has_living};

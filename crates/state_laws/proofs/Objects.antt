@@ -8,16 +8,16 @@ use Rattle.proc_model.specs.declared.group.BlockId.{BlockId}
 use Rattle.proc_model.specs.Memory.{MemoryState, mapped_objects, named_objects}
 use Rattle.proc_model.specs.ModuleList.{ModuleEntry}
 use Rattle.proc_model.specs.Slots.{Slots, blocks_in}
-use Rattle.memory_laws.specs.Memory.{memory_of, RepresentMemory}
-use Rattle.memory_laws.specs.References.{times, mapped_blocks, references}
-use Rattle.memory_laws.specs.Renaming.{RepresentObjects, renamed_map, renamed_modules}
-use Rattle.memory_laws.specs.Sound.{IsSound}
-use Rattle.memory_laws.proofs.Groups.{grouped_blocks}
-use Rattle.memory_laws.proofs.Keeping.{names_live, group_live}
-use Rattle.memory_laws.proofs.Lists.{map-map}
-use Rattle.memory_laws.proofs.Living.{has_number}
-use Rattle.memory_laws.proofs.Naming.{groups_are_live, grouped-renamed, renamed_maps-same, renamed_modules-same}
-use Rattle.memory_laws.proofs.Times.{times-here, times-past}
+use Rattle.guest_memory.specs.Memory.{memory_of, RepresentMemory}
+use Rattle.guest_memory.specs.References.{times, mapped_blocks, references}
+use Rattle.guest_memory.specs.Renaming.{RepresentObjects, renamed_map, renamed_modules}
+use Rattle.guest_memory.specs.Sound.{IsSound}
+use Rattle.guest_memory.proofs.HeldGroups.{grouped_blocks}
+use Rattle.guest_memory.proofs.Keeping.{names_live, group_live}
+use Rattle.guest_memory.proofs.Lists.{map-map}
+use Rattle.guest_memory.proofs.Living.{has_number}
+use Rattle.guest_memory.proofs.Naming.{groups_are_live, grouped-renamed, renamed_maps-same, renamed_modules-same}
+use Rattle.guest_memory.proofs.Times.{times-here, times-past}
 use Rattle.state_laws.specs.Numbers.{Lives, renumbered_map, IsRenumbered}
 
 -- ---- maps and groups whose names are changed twice

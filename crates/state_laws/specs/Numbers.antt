@@ -3,8 +3,8 @@
 use Rattle.std.specs.Prelude.{◌≡◌, ℕ, true, option_map, List, map, slice_get}
 use Rattle.proc_model.specs.Memory.{MemoryState, is_living_object}
 use Rattle.proc_model.specs.Slots.{Slots}
-use Rattle.call_rules.specs.Processes.{with_memory}
-use Rattle.memory_laws.specs.Renaming.{renamed_modules}
+use Rattle.proc_rules.specs.Processes.{with_memory}
+use Rattle.guest_memory.specs.Renaming.{renamed_modules}
 use Rattle.machine_model.specs.State.{State}
 
 -- an object lives: a map or an entered group names it

@@ -2,10 +2,10 @@
 use Rattle.std.proofs.Common.{◌≡◌, ◌⊎◌, ℕ, Bool, true, false, Option, Some, None, length, refl, sym, ap, ◌∙◌, subst, inl, inr}
 use Rattle.std.proofs.lemmas.Option.{none-some, same_Some}
 use Rattle.os9_base.specs.declared.registers.TimePacket.{TimePacket}
-use Rattle.call_rules.specs.CallResult.{CallResult, done, ends, refused, waits}
-use Rattle.call_rules.specs.Processes.{Processes, regs_at}
-use Rattle.call_rules.specs.Ready.{attempts, act_of}
-use Rattle.call_rules.specs.declared.proc_call.ProcCall.TheVariants as Call
+use Rattle.proc_rules.specs.CallResult.{CallResult, done, ends, refused, waits}
+use Rattle.proc_rules.specs.Processes.{Processes, regs_at}
+use Rattle.proc_rules.specs.Ready.{attempts, act_of}
+use Rattle.proc_rules.specs.declared.proc_call.ProcCall.TheVariants as Call
 use Rattle.io_rules.specs.Again.{path_number}
 use Rattle.io_rules.specs.Attempts.{IoAttempts}
 use Rattle.io_rules.specs.Codes.{direction_of_call, io_call_of}
@@ -179,7 +179,7 @@ module _ (s : State) (p code : ℕ) (next : act_of s.processes p ≡ attempts co
   served (on_processes Call.Fork) result asked (files, it, is) =
       let left = fork-leaves s.processes (asker_of s.processes p now) s.files (length s.terms) p result files it in
       inr (aside (files_after_fork files p result) result is (fork-stays files result left.io (fork-attempt-goes s.processes p (asker_of s.processes p now) s.files (length s.terms) result files it))
-          asked)
+      asked)
   served (on_processes Call.Chain) result asked (files, it, is) =
       let left = chain-leaves s.processes (asker_of s.processes p now) s.files (length s.terms) p result files it in
       inr (aside files result is (inl (stays-same s.files.io files.io left.io, chain-attempt-goes s.processes p (asker_of s.processes p now) s.files (length s.terms) result files it)) asked)

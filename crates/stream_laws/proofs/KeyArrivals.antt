@@ -10,7 +10,7 @@ use Rattle.io_model.specs.Terminal.{Terminal, key_bytes, new_terminal, typed_byt
 use Rattle.io_model.specs.declared.terminal.TheConstants.{TYPE_AHEAD}
 use Rattle.io_rules.specs.Arrivals.{ArrivesAt, ArrivesFrom, Desk}
 use Rattle.io_rules.specs.Io.{Io, terminal_at}
-use Rattle.event_rules.specs.Console.{terminals_emptied}
+use Rattle.machine_model.specs.Console.{terminals_emptied}
 use Rattle.stream_laws.specs.Keys.{LineStays}
 use Rattle.stream_laws.proofs.KeyAttempts.{come_of}
 

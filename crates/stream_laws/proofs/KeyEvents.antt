@@ -6,11 +6,11 @@ use Rattle.os9_base.specs.declared.errors.TheConstants.{E_WRITE}
 use Rattle.os9_outer.specs.TerminalState.{TerminalState}
 use Rattle.cpu_model.specs.Step.{Outcome, Done, Calls, Aborts}
 use Rattle.proc_model.specs.MemoryChanges.{stored}
-use Rattle.call_rules.specs.Attempts.{after_attempt}
-use Rattle.call_rules.specs.CallResult.{CallResult, done, waits, ends}
-use Rattle.call_rules.specs.Delivery.{delivered}
-use Rattle.call_rules.specs.Processes.{Processes, regs_at}
-use Rattle.call_rules.specs.Ready.{Act, attempts, delivers, executes, act_of}
+use Rattle.proc_rules.specs.Attempts.{after_attempt}
+use Rattle.proc_rules.specs.CallResult.{CallResult, done, waits, ends}
+use Rattle.proc_rules.specs.Delivery.{delivered}
+use Rattle.proc_rules.specs.Processes.{Processes, regs_at}
+use Rattle.proc_rules.specs.Ready.{Act, attempts, delivers, executes, act_of}
 use Rattle.io_model.specs.Edit.{Editing, Typing}
 use Rattle.io_model.specs.Terminal.{Terminal, reader, typed}
 use Rattle.io_model.specs.declared.path.Target.{Target}
@@ -27,9 +27,9 @@ use Rattle.io_rules.specs.Waiting.{io_interrupted, pid}
 use Rattle.io_rules.specs.declared.io_call.Direction.TheVariants as Way
 use Rattle.io_rules.specs.declared.io_call.IoCall.{IoCall}
 use Rattle.file_rules.specs.Files.{place_of_target}
-use Rattle.event_rules.specs.declared.ends.EventEnd.{EventEnd}
-use Rattle.event_rules.specs.declared.ends.EventEnd.TheVariants.{Ended, Ran, Waits}
-use Rattle.event_rules.specs.Event.{call_event_end, delivery_end, instruction_end, next_instruction}
+use Rattle.machine_model.specs.declared.ends.EventEnd.{EventEnd}
+use Rattle.machine_model.specs.declared.ends.EventEnd.TheVariants.{Ended, Ran, Waits}
+use Rattle.machine_model.specs.ProcessEvent.{call_event_end, delivery_end, instruction_end, next_instruction}
 use Rattle.call_laws.proofs.StepWalk.{StepGives, step-gives}
 use Rattle.stream_laws.specs.Keys.{KeyMove, LineGoes, LineStays, UsesNone, read_call, reading_of, stay, use_up, DropsLine, EventKeys, HasAhead, ReadEnds, ReaderStops, ReadsFrom, StopsReading, WriteFails, ahead_at, keys_to_come}
 use Rattle.stream_laws.proofs.CallCodes.{none-delivering, none-executing, same-code}

@@ -5,16 +5,16 @@ use Rattle.std.proofs.lemmas.List.{get_or-replicate, length-append, length-take}
 use Rattle.os9_outer.specs.TerminalState.{TerminalState}
 use Rattle.os9_outer.specs.declared.terminal.Key.{Key}
 use Rattle.proc_rules.specs.declared.turn.Turn.{Turn}
-use Rattle.call_rules.specs.Processes.{Processes}
+use Rattle.proc_rules.specs.Processes.{Processes}
 use Rattle.io_model.specs.Pipe.{Flows}
 use Rattle.io_model.proofs.PipeLemmas.{flows-in_order}
 use Rattle.io_model.specs.Terminal.{Terminal, key_bytes, new_terminal, typed_bytes}
 use Rattle.io_model.specs.declared.terminal.TheConstants.{TYPE_AHEAD}
 use Rattle.io_rules.specs.Io.{Io, first_io, terminal_at}
 use Rattle.file_rules.specs.Files.{Files}
-use Rattle.event_rules.specs.declared.ends.EventEnd.{EventEnd}
-use Rattle.event_rules.specs.declared.ends.SliceEnd.{SliceEnd}
-use Rattle.event_rules.specs.Console.{terminals_emptied}
+use Rattle.machine_model.specs.declared.ends.EventEnd.{EventEnd}
+use Rattle.machine_model.specs.declared.ends.SliceEnd.{SliceEnd}
+use Rattle.machine_model.specs.Console.{terminals_emptied}
 use Rattle.stream_laws.specs.Keys.{KeyMove, arrive, arrived_by, stay, use_up, EventKeys, FollowOn, HasAhead, IsKeyStep, KeyStep, KeysArrive, KeysPass, Stands, after_event, ahead_at, ahead_moves, keys_to_come}
 use Rattle.stream_laws.proofs.KeyAttempts.{come_of}
 use Rattle.stream_laws.proofs.KeyArrivals.{Polled, arrivals-polled, come-emptied}

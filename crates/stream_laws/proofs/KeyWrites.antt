@@ -3,7 +3,7 @@ use Rattle.std.proofs.Common.{◌≡◌, ◌==◌, not, Bool, true, false, Optio
 use Rattle.std.specs.Prelude.{ℕ, if◌then◌else◌}
 use Rattle.os9_base.specs.declared.calls.TheConstants.{I_WRITE, I_WRITLN, F_PERR}
 use Rattle.os9_base.specs.declared.errors.TheConstants.{E_BPADDR, E_BPNUM, E_BMODE}
-use Rattle.call_rules.specs.UserBytes.{user_bytes}
+use Rattle.proc_rules.specs.UserBytes.{user_bytes}
 use Rattle.io_model.specs.declared.pending.PendingCall.{PendingCall}
 use Rattle.io_model.specs.declared.path.Target.{Target}
 use Rattle.io_model.specs.declared.path.Target.TheVariants.{File, Folder, Term, Pipe}

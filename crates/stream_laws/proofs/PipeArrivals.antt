@@ -8,7 +8,7 @@ use Rattle.os9_base.specs.declared.registers.Regs.{Regs}
 use Rattle.proc_rules.specs.declared.record.Record.{Record}
 use Rattle.proc_rules.specs.Records.{new_record, record_at}
 use Rattle.proc_rules.specs.Signals.{after_send, send_fault, wake_signal, with_signal}
-use Rattle.call_rules.specs.Processes.{Processes, regs_at}
+use Rattle.proc_rules.specs.Processes.{Processes, regs_at}
 use Rattle.io_rules.specs.Arrivals.{ArrivesFrom, Desk, after_key_signal, every_user}
 use Rattle.io_rules.specs.Io.{Io}
 

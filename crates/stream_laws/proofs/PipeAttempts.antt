@@ -2,8 +2,8 @@
 use Rattle.std.proofs.Common.{◌≡◌, ℕ, zero, suc, Option, Some, None, List, [], refl, sym, ap, ◌∙◌, subst, inl}
 use Rattle.os9_outer.specs.TerminalState.{TerminalState}
 use Rattle.proc_model.specs.MemoryChanges.{stored}
-use Rattle.call_rules.specs.Attempts.{after_attempt}
-use Rattle.call_rules.specs.Processes.{Processes}
+use Rattle.proc_rules.specs.Attempts.{after_attempt}
+use Rattle.proc_rules.specs.Processes.{Processes}
 use Rattle.io_model.specs.Path.{slot_of}
 use Rattle.io_model.specs.Pipe.{IsPipe, pipe_of}
 use Rattle.io_model.specs.declared.path.SysPath.{SysPath}

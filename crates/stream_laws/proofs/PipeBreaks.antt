@@ -11,16 +11,16 @@ use Rattle.proc_rules.specs.declared.record.Intercept.{Intercept}
 use Rattle.proc_rules.specs.declared.record.Record.{Record}
 use Rattle.proc_rules.specs.Records.{IsLiving, is_waiting, record_at}
 use Rattle.proc_rules.specs.Signals.{with_signal}
-use Rattle.call_rules.specs.Attempts.{goes_on, refused_regs}
-use Rattle.call_rules.specs.Delivery.{after_delivery, delivered, frame_bytes, has_no_room, routine_begun, stack_top, with_frame}
-use Rattle.call_rules.specs.Processes.{Processes, regs_at, with_records, with_regs_of}
-use Rattle.call_rules.specs.Ready.{Act, delivers, act_of}
+use Rattle.proc_rules.specs.Attempts.{goes_on, refused_regs}
+use Rattle.proc_rules.specs.Delivery.{after_delivery, delivered, frame_bytes, has_no_room, routine_begun, stack_top, with_frame}
+use Rattle.proc_rules.specs.Processes.{Processes, regs_at, with_records, with_regs_of}
+use Rattle.proc_rules.specs.Ready.{Act, delivers, act_of}
 use Rattle.io_model.specs.declared.pending.PendingCall.{PendingCall}
 use Rattle.io_rules.specs.Io.{target_of}
 use Rattle.io_rules.specs.Waiting.{count_by, interrupted_count}
-use Rattle.event_rules.specs.declared.ends.EventEnd.{EventEnd}
-use Rattle.event_rules.specs.declared.ends.EventEnd.TheVariants.{Ended}
-use Rattle.event_rules.specs.Event.{broken_off, delivery_end}
+use Rattle.machine_model.specs.declared.ends.EventEnd.{EventEnd}
+use Rattle.machine_model.specs.declared.ends.EventEnd.TheVariants.{Ended}
+use Rattle.machine_model.specs.ProcessEvent.{broken_off, delivery_end}
 use Rattle.call_laws.proofs.OthersKept.{living-within, record-put}
 use Rattle.machine_model.specs.Event.{Acts, Event, before_delivery}
 use Rattle.machine_model.specs.State.{State}

@@ -4,11 +4,11 @@ use Rattle.std.specs.Prelude.{unwrap_or}
 use Rattle.std.proofs.lemmas.Option.{same_Some}
 use Rattle.cpu_model.specs.Step.{Outcome, Done, Calls, Aborts}
 use Rattle.proc_model.specs.MemoryChanges.{stored}
-use Rattle.call_rules.specs.Attempts.{after_attempt}
-use Rattle.call_rules.specs.CallResult.{CallResult}
-use Rattle.call_rules.specs.Delivery.{delivered}
-use Rattle.call_rules.specs.Processes.{Processes, regs_at}
-use Rattle.call_rules.specs.Ready.{Act, attempts, delivers, executes, act_of}
+use Rattle.proc_rules.specs.Attempts.{after_attempt}
+use Rattle.proc_rules.specs.CallResult.{CallResult}
+use Rattle.proc_rules.specs.Delivery.{delivered}
+use Rattle.proc_rules.specs.Processes.{Processes, regs_at}
+use Rattle.proc_rules.specs.Ready.{Act, attempts, delivers, executes, act_of}
 use Rattle.io_model.specs.Pipe.{IsPipe, In, Out, pipe_of}
 use Rattle.io_model.specs.declared.path.Target.{Target}
 use Rattle.io_rules.specs.Attempts.{IoAttempts, caller_of, io_after, step_of}
@@ -18,8 +18,8 @@ use Rattle.io_rules.specs.Step.{IoEnd}
 use Rattle.io_rules.specs.declared.io_call.Direction.{Direction}
 use Rattle.io_rules.specs.declared.io_call.IoCall.{IoCall}
 use Rattle.file_rules.specs.Files.{place_of_target}
-use Rattle.event_rules.specs.Event.{next_instruction}
-use Rattle.event_rules.specs.declared.ends.EventEnd.{EventEnd}
+use Rattle.machine_model.specs.ProcessEvent.{next_instruction}
+use Rattle.machine_model.specs.declared.ends.EventEnd.{EventEnd}
 use Rattle.stream_laws.specs.Flow.{MovesNone, ReadCounts, WriteCounts, moved_before, stored_from, AttemptsOn, EndsIn, IsNew, Passes}
 use Rattle.stream_laws.proofs.CallCodes.{none-delivering, none-executing, same-code}
 use Rattle.stream_laws.proofs.PipeAttempts.{does-fresh, does-moves, ended-left, interrupted-left, stores-none, stores-them}

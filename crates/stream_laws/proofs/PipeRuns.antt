@@ -2,13 +2,13 @@
 use Rattle.std.proofs.Common.{◌≡◌, ℕ, ◌+◌, Option, Some, None, List, [], ◌∷◌, ◌++◌, length, map, refl, sym, ap, ◌∙◌, subst}
 use Rattle.std.specs.List.{AllByRecursion}
 use Rattle.std.proofs.lemmas.List.Elements.{filter_map-append}
-use Rattle.call_rules.specs.Processes.{regs_at}
+use Rattle.proc_rules.specs.Processes.{regs_at}
 use Rattle.io_model.specs.Pipe.{Flows, IsPipe, In, Movement, Out, held_bytes}
 use Rattle.io_model.proofs.PipeLemmas.{flows-in_order}
 use Rattle.io_rules.specs.Io.{pipe_bytes}
-use Rattle.event_rules.specs.declared.ends.EventEnd.{EventEnd}
-use Rattle.event_rules.specs.declared.ends.SliceEnd.{SliceEnd}
-use Rattle.event_rules.specs.Console.{terminals_emptied}
+use Rattle.machine_model.specs.declared.ends.EventEnd.{EventEnd}
+use Rattle.machine_model.specs.declared.ends.SliceEnd.{SliceEnd}
+use Rattle.machine_model.specs.Console.{terminals_emptied}
 use Rattle.stream_laws.proofs.PipeArrivals.{DeskRests, arrivals-rest}
 use Rattle.machine_model.specs.Along.{IsCarriedByEvents, IsCarriedByMoves}
 use Rattle.machine_model.specs.Event.{Event}

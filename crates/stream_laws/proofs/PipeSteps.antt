@@ -10,9 +10,9 @@ use Rattle.std.proofs.lemmas.Option.{none-some, same_Some}
 use Rattle.os9_base.specs.declared.calls.TheConstants.{I_READ, I_READLN, I_WRITE, I_WRITLN, F_PERR}
 use Rattle.os9_base.specs.declared.errors.TheConstants.{E_BPADDR, E_BPNUM, E_BMODE, E_PTHFUL, E_NOTRDY, E_UNKSVC, E_EOF, E_WRITE}
 use Rattle.os9_base.specs.declared.registers.Regs.{Regs}
-use Rattle.user_names.specs.declared.name_fault.NameFault.{NameFault}
-use Rattle.user_names.specs.declared.name_fault.NameFault.TheVariants.{Unreadable, NoName}
-use Rattle.call_rules.specs.UserBytes.{user_bytes}
+use Rattle.os9_base.specs.declared.name_fault.NameFault.{NameFault}
+use Rattle.os9_base.specs.declared.name_fault.NameFault.TheVariants.{Unreadable, NoName}
+use Rattle.proc_rules.specs.UserBytes.{user_bytes}
 use Rattle.io_model.specs.Pending.{count_left, is_complete, moved_on}
 use Rattle.io_model.specs.Line.{has_return, line_length, return_place}
 use Rattle.io_model.specs.Path.{closed_desc, slot_of, free_number, new_number, paths_after_begin, paths_after_close, paths_after_dup}

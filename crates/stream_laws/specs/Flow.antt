@@ -6,11 +6,11 @@ use Rattle.os9_base.specs.declared.calls.TheConstants.{I_READ}
 use Rattle.os9_base.specs.declared.registers.Regs.{Regs}
 use Rattle.proc_model.specs.MemoryChanges.{stored}
 use Rattle.proc_rules.specs.Records.{is_waiting, record_at}
-use Rattle.call_rules.specs.Attempts.{after_attempt, refused_regs}
-use Rattle.call_rules.specs.Delivery.{frame_bytes, stack_top}
-use Rattle.call_rules.specs.Processes.{Processes, regs_at}
-use Rattle.call_rules.specs.Ready.{attempts, delivers, act_of}
-use Rattle.call_rules.specs.UserBytes.{user_bytes}
+use Rattle.proc_rules.specs.Attempts.{after_attempt, refused_regs}
+use Rattle.proc_rules.specs.Delivery.{frame_bytes, stack_top}
+use Rattle.proc_rules.specs.Processes.{Processes, regs_at}
+use Rattle.proc_rules.specs.Ready.{attempts, delivers, act_of}
+use Rattle.proc_rules.specs.UserBytes.{user_bytes}
 use Rattle.io_model.specs.Pipe.{Flows, IsPipe, Movement, In, Out, came_in, pipe_of, pipe_room, went_out}
 use Rattle.io_model.specs.declared.pending.PendingCall.{PendingCall}
 use Rattle.io_model.specs.declared.path.Target.TheVariants.{Pipe}
@@ -25,7 +25,7 @@ use Rattle.io_rules.specs.declared.io_call.Direction.{Direction}
 use Rattle.io_rules.specs.declared.io_call.Direction.TheVariants.{Reading, Writing}
 use Rattle.io_rules.specs.declared.io_call.IoCall.{IoCall}
 use Rattle.io_rules.specs.declared.io_call.IoCall.TheVariants as Call
-use Rattle.event_rules.specs.declared.ends.EventEnd.{EventEnd}
+use Rattle.machine_model.specs.declared.ends.EventEnd.{EventEnd}
 use Rattle.machine_model.specs.Event.{Event}
 use Rattle.machine_model.specs.State.{State}
 
@@ -182,7 +182,7 @@ with_y processes p y = record (regs_at processes p) { y = y }
 abbrev pub pushed_regs : Processes → ℕ → ℕ → ℕ → Regs
 pushed_regs processes p signal y =
     if is_waiting (record_at processes.records p).life then
-        refused_regs (with_y processes p y) signal else with_y processes p y
+    refused_regs (with_y processes p y) signal else with_y processes p y
 
 -- a frame is pushed whose Y has the number of bytes that the call has moved
 pub record TellsMoved (before : Processes) (p signal moved : ℕ) (after : Processes) : Type 0 where

@@ -7,8 +7,8 @@ use Rattle.os9_base.specs.declared.errors.TheConstants.{E_EOF, E_WRITE}
 use Rattle.os9_base.specs.declared.registers.Regs.{Regs}
 use Rattle.os9_outer.specs.declared.terminal.Key.{Key}
 use Rattle.proc_model.specs.MemoryChanges.{stored}
-use Rattle.call_rules.specs.Processes.{regs_at}
-use Rattle.call_rules.specs.Ready.{attempts, delivers, act_of}
+use Rattle.proc_rules.specs.Processes.{regs_at}
+use Rattle.proc_rules.specs.Ready.{attempts, delivers, act_of}
 use Rattle.io_model.specs.Edit.{Editing, Typing, cleared}
 use Rattle.io_model.specs.Pipe.{Flows, In, Movement, Out, came_in, went_out}
 use Rattle.io_model.specs.Terminal.{Terminal, is_taken, key_bytes, reader, typed, typed_bytes}
@@ -28,8 +28,8 @@ use Rattle.io_rules.specs.Waiting.{pid, wait_target}
 use Rattle.io_rules.specs.declared.io_call.Direction.TheVariants.{Writing}
 use Rattle.io_rules.specs.declared.io_call.IoCall.{IoCall}
 use Rattle.io_rules.specs.declared.io_call.IoCall.TheVariants as Call
-use Rattle.event_rules.specs.declared.ends.EventEnd.{EventEnd}
-use Rattle.event_rules.specs.declared.ends.EventEnd.TheVariants.{Ended}
+use Rattle.machine_model.specs.declared.ends.EventEnd.{EventEnd}
+use Rattle.machine_model.specs.declared.ends.EventEnd.TheVariants.{Ended}
 use Rattle.stream_laws.specs.Flow.{EndsIn}
 use Rattle.machine_model.specs.Event.{Event}
 use Rattle.machine_model.specs.Run.{Tick}

@@ -1,8 +1,8 @@
 //! Keys of terminals over a run: each is used by one read, in order, or is dropped by a rule.
 
 ghost use Rattle.std.specs.Prelude.{◌≡◌, ℕ, ◌<◌, List, []};
-ghost use Rattle.event_rules.specs.declared.ends.EventEnd.{EventEnd};
-ghost use Rattle.event_rules.specs.declared.ends.SliceEnd.{SliceEnd};
+ghost use Rattle.machine_model.specs.declared.ends.EventEnd.{EventEnd};
+ghost use Rattle.machine_model.specs.declared.ends.SliceEnd.{SliceEnd};
 ghost use Rattle.machine_model.specs.Event.{Event};
 ghost use Rattle.machine_model.specs.Run.{Run, Slice, Tick};
 ghost use Rattle.machine_model.specs.Start.{Boot, Starts};

@@ -2,7 +2,7 @@
 use Rattle.std.proofs.Common.{◌≡◌, ℕ, ◌*◌, ◌<◌, Some, List, [], ◌∷◌, All, length, take, drop, slice_get, sym, ap, ap₂, ◌∙◌, subst, arith}
 use Rattle.std.proofs.lemmas.List.Elements.{All-cons}
 use Rattle.guest_mods.specs.BootDisk.{BootsFile, boot_volume, sector_with}
-use Rattle.boot_images.specs.BootFile.{HasBootFile, IsBootFile, IsVolume, boot_file_of}
+use Rattle.boot_run.specs.BootFile.{HasBootFile, IsBootFile, IsVolume, boot_file_of}
 use Rattle.guest_mods.specs.Stress.{stress_file}
 use Rattle.guest_mods.specs.declared.load.Load.{Load}
 use Rattle.rbf_model.specs.Fields.{total_field}

@@ -2,7 +2,7 @@
 use Rattle.std.proofs.Common.{◌≡◌, ◌≢◌, ◌⊎◌, ℕ, ◌<◌, Bool, true, false, Option, Some, None, Ok, Err, List, ◌++◌, All, slice_get, inl, inr, refl, sym, ap, ◌∙◌, subst, arith, append_assoc}
 use Rattle.std.specs.Prelude.{Result}
 use Rattle.std.proofs.lemmas.List.{append-nil}
-use Rattle.boot_images.specs.Outcome.{EndsWithImages, IsImageOf, RunsImages, with_images_in}
+use Rattle.boot_run.specs.Outcome.{EndsWithImages, IsImageOf, RunsImages, with_images_in}
 use Rattle.boot_run.specs.Console.{IsObserved}
 use Rattle.boot_run.specs.Machine.{IsUnrun, RunsFirst}
 use Rattle.boot_run.specs.World.{FailsToWrite, HasNoFault, World, world_of}
@@ -17,8 +17,8 @@ use Rattle.os9_outer.specs.declared.host.HostFault.TheVariants.{Failed, OutOfMem
 use Rattle.os9_words.specs.Streams.{WritesOut}
 use Rattle.lock_model.specs.declared.history.Entry.{Entry}
 use Rattle.guest_mods.specs.Stress.{IsLoad}
-use Rattle.event_rules.specs.Start.{Refuses}
-use Rattle.event_rules.specs.declared.ends.BootFault.{BootFault}
+use Rattle.machine_model.specs.ProcessStart.{Refuses}
+use Rattle.machine_model.specs.declared.ends.BootFault.{BootFault}
 use Rattle.os9_words.specs.Lines.{stress_line}
 use Rattle.rbf_model.specs.Volume.{DiskVolume}
 use Rattle.stress_run.proofs.Started.{never-refused-accepted}

@@ -1,11 +1,11 @@
 -- An accepted boot file starts a machine.
 use Rattle.std.proofs.Common.{◌≡◌, ℕ, List, refl, ap, ◌∙◌, arith}
-use Rattle.call_rules.specs.Processes.{Processes}
+use Rattle.proc_rules.specs.Processes.{Processes}
 use Rattle.proc_model.specs.MemoryChanges.{started}
-use Rattle.call_rules.specs.Program.{area_pages, blocks_of_pages}
-use Rattle.event_rules.specs.declared.ends.BootFault.{BootFault}
-use Rattle.event_rules.specs.Start.{Refuses, StartsProcesses, boot_memory, first_process, first_start, only_process}
-use Rattle.event_rules.proofs.StartLaws.{never-both}
+use Rattle.proc_rules.specs.Program.{area_pages, blocks_of_pages}
+use Rattle.machine_model.specs.declared.ends.BootFault.{BootFault}
+use Rattle.machine_model.specs.ProcessStart.{Refuses, StartsProcesses, boot_memory, first_process, first_start, only_process}
+use Rattle.machine_model.proofs.StartLaws.{never-both}
 use Rattle.guest_mods.specs.Accepted.{IsAccepted}
 
 module _ (file : List ℕ) (blocks : ℕ) (accepted : IsAccepted file blocks) where

@@ -10,7 +10,7 @@ use Rattle.guest_mods.specs.Random.{slice_lengths}
 use Rattle.guest_mods.specs.Stress.{stress_file}
 use Rattle.file_rules.specs.Files.{volume_at}
 use Rattle.machine_model.specs.State.{State, has_living}
-use Rattle.boot_images.specs.Outcome.{HasOutcome, StopsWithImages}
+use Rattle.boot_run.specs.Outcome.{HasOutcome, StopsWithImages}
 use Rattle.boot_run.specs.Console.{IsObserved}
 use Rattle.boot_run.specs.Machine.{FailsToMount, IsUnrun, Setup}
 use Rattle.boot_run.specs.World.{World, FailsToWrite, HasNoFault}

@@ -1,9 +1,9 @@
 //! The effect of an accepted boot file, and of the boot file of a load.
 
 ghost use Rattle.std.specs.Prelude.{ℕ, List};
-ghost use Rattle.call_rules.specs.Processes.{Processes};
-ghost use Rattle.event_rules.specs.declared.ends.BootFault.{BootFault};
-ghost use Rattle.event_rules.specs.Start.{Refuses, StartsProcesses};
+ghost use Rattle.proc_rules.specs.Processes.{Processes};
+ghost use Rattle.machine_model.specs.declared.ends.BootFault.{BootFault};
+ghost use Rattle.machine_model.specs.ProcessStart.{Refuses, StartsProcesses};
 ghost use Rattle.guest_mods.specs.declared.load.Load.{Load};
 ghost use Rattle.guest_mods.specs.Accepted.{IsAccepted};
 ghost use Rattle.guest_mods.specs.Stress.{IsLoad, stress_file};

@@ -2,8 +2,8 @@
 
 ghost use Rattle.std.specs.Prelude.{◌≡◌, ◌<◌, IfOk};
 ghost use Rattle.file_drives.specs.Drives.{drives_seen};
-ghost use Rattle.boot_images.specs.Outcome.{setup_of};
-ghost use Rattle.boot_images.specs.Ready.{AreEmptyAgain, AreFree, CanStart};
+ghost use Rattle.boot_run.specs.Outcome.{setup_of};
+ghost use Rattle.boot_run.specs.Ready.{AreEmptyAgain, AreFree, CanStart};
 ghost use Rattle.boot_run.specs.World.{world_of};
 ghost use Rattle.os9_kernel.specs.Outside.{outside};
 ghost use Rattle.os9_words.specs.Notes.{notes_of};
@@ -13,10 +13,10 @@ ghost use Rattle.stress_run.specs.Told as model;
 ghost use Rattle.stress_run.specs.Told.{TellsEnd, WritesCounts};
 
 use crate::counts::count_volume;
-use boot_images::boot_file::{BootFileFault, boot_file};
-use boot_images::images::Images;
-use boot_images::machine::{Start, run_images};
 use boot_run::RunEnd;
+use boot_run::boot_file::{BootFileFault, boot_file};
+use boot_run::imaged::{Start, run_images};
+use boot_run::images::Images;
 use device_table::devices::Devices;
 use guest_mods::{Load, stress_image, stress_slices};
 use os9_base::call::OutOfMemory;

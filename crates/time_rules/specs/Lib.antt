@@ -1,3 +1,5 @@
+pub mod CivilTime
+pub mod CivilRows
 pub mod Attempts
 pub mod Clock
 pub mod Codes

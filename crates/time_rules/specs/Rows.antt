@@ -1,10 +1,10 @@
 -- States and clocks computed by hand.
 use Rattle.std.specs.Prelude.{ℕ, List}
 use Rattle.os9_base.specs.declared.registers.TimePacket.{TimePacket}
-use Rattle.civil_time.specs.Rows.{at}
+use Rattle.time_rules.specs.CivilRows.{at}
 use Rattle.proc_rules.specs.Records.{zero_regs}
-use Rattle.call_rules.specs.Processes.{Processes}
-use Rattle.call_rules.specs.Rows.{one_process}
+use Rattle.proc_rules.specs.Processes.{Processes}
+use Rattle.proc_rules.specs.Rows.{one_process}
 use Rattle.time_rules.specs.declared.clock.Clock.{Clock}
 
 -- the state in tick 10 in which process 2 has this address in X, and sees these bytes from address 0 on

@@ -2,9 +2,9 @@
 
 ghost use Rattle.std.specs.Prelude.{◌≡◌, ℕ, ◌≤◌, true};
 ghost use Rattle.os9_base.specs.declared.registers.TimePacket.{TimePacket};
-ghost use Rattle.call_rules.specs.CallResult.{CallResult};
-ghost use Rattle.call_rules.specs.Processes.{Processes};
-ghost use Rattle.civil_time.specs.CivilTime.{is_time_packet};
+ghost use Rattle.proc_rules.specs.CallResult.{CallResult};
+ghost use Rattle.proc_rules.specs.Processes.{Processes};
+ghost use Rattle.time_rules.specs.CivilTime.{is_time_packet};
 ghost use Rattle.time_rules.specs.Attempts.{TimeAttempts};
 ghost use Rattle.time_rules.specs.Clock.{IsClock, IsNow, first_clock};
 ghost use Rattle.time_rules.specs.declared.clock.Clock.{Clock};

@@ -3,13 +3,12 @@ ghost use Rattle.rbf_access.specs.Mounted.{IsMounted, IsSound};
 
 use crate::fields::{RowError, number};
 use crate::words::Words;
-use blank_disk::format as format_disk;
 use os9_outer::drive::BlockDriver;
 use os9_outer::ram_drive::RamDrive;
 use rbf_access::Volume;
 use rbf_check::{CheckError, Tree, check};
 use std::alloc::{AllocError, Global};
-use vol_tools::{NewFile, ToolFault, get, list, mkdir, put, remove, repair};
+use vol_tools::{NewFile, ToolFault, format as format_disk, get, list, mkdir, put, remove, repair};
 
 /// The answer of a command.
 #[derive(Drop)]

@@ -1,7 +1,7 @@
 use crate::fields::{RowError, number};
 use os9_base::registers::TimePacket;
+use os9_clock::read_time;
 use std::alloc::Global;
-use time_text::read_time;
 
 /// The time at which a command makes things, if its words do not give one.
 const START: TimePacket = TimePacket {

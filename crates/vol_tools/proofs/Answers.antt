@@ -2,7 +2,7 @@
 use Rattle.std.proofs.Common.{◌≡◌, ℕ, Option, List, [], Result, Ok, Err, OnOk, refl, sym, subst}
 use Rattle.rbf_access.specs.Drive.{DriveCounts}
 use Rattle.rbf_model.specs.Volume.{DiskVolume}
-use Rattle.tool_rules.specs.Uses.{Use}
+use Rattle.vol_tools.specs.UsesInTurn.{Use}
 use Rattle.vol_tools.specs.Answers.{AnswersTool, GivesOn, OnVolumeBefore}
 use Rattle.vol_tools.specs.Faults.{MovesFaults, tool_fault}
 use Rattle.vol_tools.specs.declared.fault.ToolFault.{ToolFault}

@@ -16,8 +16,8 @@ use Rattle.rbf_model.specs.Walk.{WalkEnd, arrives, not_allowed, directory_entrie
 use Rattle.rbf_change.specs.Names.{deletion_end, deletion_of, entry_place, is_dots, marked_name, may_change, may_delete, new_entry, place_of}
 use Rattle.rbf_change.specs.NewFiles.{Deletes, Refusal, bad_path, exists}
 use Rattle.rbf_change.specs.NewFiles as new
-use Rattle.rbf_create.specs.Entering.{Entering, refusal_of}
-use Rattle.tool_rules.specs.Path.{Place, behind, is_name_text, last_place, parts, place_in, place_of as path_place}
+use Rattle.rbf_entries.specs.Entering.{Entering, refusal_of}
+use Rattle.vol_tools.specs.Path.{Place, behind, is_name_text, last_place, parts, place_in, place_of as path_place}
 
 -- ---- the place of a name
 

@@ -17,10 +17,10 @@ use Rattle.rbf_alloc.specs.Grown.{is_gained}
 use Rattle.rbf_write.specs.Files.{HasDataFile}
 use Rattle.rbf_write.specs.Outcomes.{AnswersWrite, AreMarked, WriteIsEnded, unchanged, stopped, write_calls}
 use Rattle.vol_tools.specs.Names.{place}
-use Rattle.tool_rules.specs.Numbers.{create_number}
-use Rattle.tool_rules.specs.Refusals.{MakingStops, MayLeave, halfway, unchanged as as_before, full, long}
-use Rattle.tool_rules.specs.Tool.{put, CreatesAt, file_attributes}
-use Rattle.tool_rules.specs.Uses.{Use}
+use Rattle.vol_tools.specs.Numbers.{create_number}
+use Rattle.vol_tools.specs.Refusals.{MakingStops, MayLeave, halfway, unchanged as as_before, full, long}
+use Rattle.vol_tools.specs.Tool.{put, CreatesAt, file_attributes}
+use Rattle.vol_tools.specs.UsesInTurn.{Use}
 use Rattle.vol_tools.specs.Answers.{AnswersTool, GivesOn, LeavesOn}
 use Rattle.vol_tools.specs.Faults.{of_file, MovesFaults}
 use Rattle.vol_tools.specs.Making.{AnswersMaking, MadeOn, new_file}

@@ -5,10 +5,10 @@ use Rattle.os9_base.specs.declared.errors.TheConstants.{E_BPNAM}
 use Rattle.rbf_model.specs.Volume.{DiskVolume}
 use Rattle.rbf_change.specs.NewFiles.{directory_plan}
 use Rattle.rbf_access.specs.Mounted.{Represents}
-use Rattle.tool_rules.specs.Numbers.{make_dir_number}
-use Rattle.tool_rules.specs.Refusals.{MakingStops, MayLeave, halfway, unchanged}
-use Rattle.tool_rules.specs.Tool.{mkdir, directory_attributes}
-use Rattle.tool_rules.specs.Uses.{Use}
+use Rattle.vol_tools.specs.Numbers.{make_dir_number}
+use Rattle.vol_tools.specs.Refusals.{MakingStops, MayLeave, halfway, unchanged}
+use Rattle.vol_tools.specs.Tool.{mkdir, directory_attributes}
+use Rattle.vol_tools.specs.UsesInTurn.{Use}
 use Rattle.vol_tools.specs.Answers.{AnswersTool, GivesOn}
 use Rattle.vol_tools.specs.Making.{AnswersMaking, MadeOn, new_directory}
 use Rattle.vol_tools.specs.declared.fault.ToolFault.{ToolFault}

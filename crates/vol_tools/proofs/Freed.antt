@@ -20,7 +20,7 @@ use Rattle.rbf_model.proofs.Bytes.{distinct_first}
 use Rattle.rbf_model.proofs.Owners.{cluster_positive}
 use Rattle.rbf_model.proofs.Unique.{vol_is_unique}
 use Rattle.rbf_check.specs.Lost.{IsLostOf}
-use Rattle.tool_rules.specs.Tool.{repaired}
+use Rattle.vol_tools.specs.Tool.{repaired}
 use Rattle.vol_tools.specs.Clearing.{bit_of, ClearsMark, ClearsBits, IsCleared}
 use Rattle.vol_tools.proofs.Bits.{bit_cleared, set_in_sector}
 use Rattle.vol_tools.proofs.Lists.{filter_has, has_filter, distinct_filter, distinct_from, within_count}

@@ -1,3 +1,10 @@
+pub mod Sizes
+pub mod Rules
+pub mod Marks
+pub mod Laid
+pub mod Whole
+pub mod Descriptor
+pub mod Behind
 pub mod Texts
 pub mod Named
 pub mod Places

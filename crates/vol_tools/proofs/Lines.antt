@@ -20,7 +20,7 @@ use Rattle.rbf_access.specs.Reading.{IsFdOf, OnFile}
 use Rattle.rbf_access.specs.declared.volume.Volume.{Volume}
 use Rattle.rbf_sector.specs.declared.fd.Fd.{Fd}
 use Rattle.rbf_walk.proofs.Stepping.{file_in}
-use Rattle.tool_rules.specs.Listing.{entry_line, file_line}
+use Rattle.vol_tools.specs.Listing.{entry_line, file_line}
 use Rattle.vol_tools.specs.Faults.{MovesFaults}
 use Rattle.vol_tools.specs.Listed.{HasListing, NamesFile, lines_of}
 use Rattle.vol_tools.proofs.Counts.{no_faults, faults_then}

@@ -12,14 +12,14 @@ use Rattle.rbf_access.specs.Mounted.{Represents}
 use Rattle.rbf_access.specs.declared.faults.FileFault.TheVariants as file
 use Rattle.rbf_walk.specs.declared.error.DirError.{DirError}
 use Rattle.rbf_walk.specs.declared.error.DirError.TheVariants.{NotAllowed, BadPath, NotFound, Exists, File}
-use Rattle.rbf_create.specs.Entering.{Entering, AnswersEntering, IsEnteredOn, EnteringIsRefused, EnteringStops, unchanged, took, refusal_of}
-use Rattle.rbf_create.specs.Creating.{request}
+use Rattle.rbf_entries.specs.Entering.{Entering, AnswersEntering, IsEnteredOn, EnteringIsRefused, EnteringStops, unchanged, took, refusal_of}
+use Rattle.rbf_entries.specs.Creating.{request}
 use Rattle.rbf_write.specs.Files.{HasDataFile}
 use Rattle.vol_tools.specs.Names.{place}
 use Rattle.vol_tools.specs.declared.place.Place.{Place}
-use Rattle.tool_rules.specs.Numbers.{way_end, on_arrival, making_number, entering_number, refusal_number}
-use Rattle.tool_rules.specs.Path.{place_of}
-use Rattle.tool_rules.specs.Tool.{LeadsTo, file_attributes}
+use Rattle.vol_tools.specs.Numbers.{way_end, on_arrival, making_number, entering_number, refusal_number}
+use Rattle.vol_tools.specs.Path.{place_of}
+use Rattle.vol_tools.specs.Tool.{LeadsTo, file_attributes}
 use Rattle.vol_tools.specs.Answers.{AnswersWay}
 use Rattle.vol_tools.specs.Faults.{of_directory}
 use Rattle.vol_tools.specs.Making.{Making, MadeOn, MakingEnds, AnswersMaking, IsNewPlaceOf, new_file}

@@ -1,8 +1,8 @@
 -- The volume of a sound image is mounted before a tool is used.
 use Rattle.std.proofs.Common.{◌≡◌, ℕ, Option, List, Result, Err, refl, sym, subst}
 use Rattle.rbf_access.specs.Mounted.{HoldsVolume, IsSound, Represents}
-use Rattle.tool_rules.specs.Refusals.{unchanged}
-use Rattle.tool_rules.specs.Uses.{Use}
+use Rattle.vol_tools.specs.Refusals.{unchanged}
+use Rattle.vol_tools.specs.UsesInTurn.{Use}
 use Rattle.vol_tools.specs.Answers.{OnVolumeBefore}
 use Rattle.vol_tools.specs.declared.fault.ToolFault.{ToolFault}
 use Rattle.vol_tools.specs.declared.fault.ToolFault.TheVariants.{Device}

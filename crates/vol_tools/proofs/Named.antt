@@ -4,7 +4,7 @@ use Rattle.std.specs.List.{list_all}
 use Rattle.std.proofs.lemmas.Bool.{cond-true, cond-false, and_from}
 use Rattle.std.proofs.lemmas.List.{map-append, take_more, take_all}
 use Rattle.std.proofs.lemmas.List.Folds.{list_all-map, list_all_more, list_all_at}
-use Rattle.tool_rules.specs.Path.{is_name_text}
+use Rattle.vol_tools.specs.Path.{is_name_text}
 use Rattle.vol_tools.specs.Names.{IsNameOf, if_names}
 
 abbrev pub texts : List (Bor (List ℕ)) → List (List ℕ)

@@ -14,12 +14,12 @@ use Rattle.rbf_access.specs.declared.faults.FileFault.{FileFault}
 use Rattle.rbf_access.specs.declared.faults.FileFault.TheVariants as file
 use Rattle.rbf_sector.specs.declared.fd.Fd.{Fd}
 use Rattle.rbf_walk.proofs.Stepping.{file_in}
-use Rattle.tool_rules.specs.Numbers.{way_end, on_arrival, reading_number, opening_number}
-use Rattle.tool_rules.specs.Refusals.{refused_number, unchanged}
-use Rattle.tool_rules.specs.Listing.{directory_lines}
-use Rattle.tool_rules.specs.Path.{path_names, directory_names}
-use Rattle.tool_rules.specs.Tool.{get, list}
-use Rattle.tool_rules.specs.Uses.{Use}
+use Rattle.vol_tools.specs.Numbers.{way_end, on_arrival, reading_number, opening_number}
+use Rattle.vol_tools.specs.Refusals.{refused_number, unchanged}
+use Rattle.vol_tools.specs.Listing.{directory_lines}
+use Rattle.vol_tools.specs.Path.{path_names, directory_names}
+use Rattle.vol_tools.specs.Tool.{get, list}
+use Rattle.vol_tools.specs.UsesInTurn.{Use}
 use Rattle.vol_tools.specs.Answers.{AnswersTool, AnswersWay, GivesOn, RefusesOn}
 use Rattle.vol_tools.specs.Listed.{HasListing}
 use Rattle.vol_tools.specs.Faults.{of_file}

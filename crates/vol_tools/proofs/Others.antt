@@ -27,17 +27,17 @@ use Rattle.rbf_change.specs.NewFiles.{IsEntered, IsNewFile, Plan}
 use Rattle.rbf_change.specs.Tidy.{KeepsListEnd}
 use Rattle.rbf_change.proofs.LawfulWrites.{shape-image}
 use Rattle.rbf_access.specs.Mounted.{Represents}
-use Rattle.rbf_create.specs.Entering.{Entering, IsEnteredOn}
-use Rattle.rbf_create.specs.NewEntry.{sector_of_place}
-use Rattle.rbf_delete.specs.Deleted.{IsDeleted, IsDeletedBy}
+use Rattle.rbf_entries.specs.Entering.{Entering, IsEnteredOn}
+use Rattle.rbf_entries.specs.NewEntry.{sector_of_place}
+use Rattle.rbf_entries.specs.Deleted.{IsDeleted, IsDeletedBy}
 use Rattle.rbf_write.proofs.Gained.{cluster_sectors, sectors_with}
 use Rattle.rbf_write.specs.Laying.{IsTidyChange, Laying}
 use Rattle.rbf_write.specs.Outcomes.{IsWritten}
 use Rattle.vol_tools.specs.Names.{place}
 use Rattle.vol_tools.specs.declared.place.Place.{Place}
-use Rattle.tool_rules.specs.Numbers.{way_end}
-use Rattle.tool_rules.specs.Path.{place_of}
-use Rattle.tool_rules.specs.Tool.{LeadsTo}
+use Rattle.vol_tools.specs.Numbers.{way_end}
+use Rattle.vol_tools.specs.Path.{place_of}
+use Rattle.vol_tools.specs.Tool.{LeadsTo}
 use Rattle.vol_tools.specs.Others.{IsOfNewFile, KeepsOthers, PathEntry}
 use Rattle.vol_tools.specs.Tail.{OnMedia}
 use Rattle.vol_tools.proofs.Entries.{entry-length, not-there, short-name}

@@ -2,7 +2,7 @@
 use Rattle.std.proofs.Common.{◌≡◌, ℕ, List, length, refl, ap, sym, ◌∙◌, subst}
 use Rattle.rbf_model.specs.Geometry.{geometry}
 use Rattle.rbf_model.specs.Volume.{lost_clusters}
-use Rattle.tool_rules.specs.Tool.{freed_line}
+use Rattle.vol_tools.specs.Tool.{freed_line}
 use Rattle.rbf_check.specs.Lost.{IsLostOf}
 use Rattle.vol_tools.specs.Clearing.{ClearsBits, IsCleared}
 use Rattle.vol_tools.specs.Repair.{IsRepaired}

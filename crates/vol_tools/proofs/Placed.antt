@@ -6,8 +6,8 @@ use Rattle.rbf_model.specs.Volume.{DiskVolume}
 use Rattle.rbf_change.specs.Names.{is_dots}
 use Rattle.vol_tools.specs.Names.{place, if_proper}
 use Rattle.vol_tools.specs.declared.place.Place.{Place}
-use Rattle.tool_rules.specs.Numbers.{making_number, on_arrival, way_end, entering_number}
-use Rattle.tool_rules.specs.Path.{Place as ToolPlace, place_of}
+use Rattle.vol_tools.specs.Numbers.{making_number, on_arrival, way_end, entering_number}
+use Rattle.vol_tools.specs.Path.{Place as ToolPlace, place_of}
 use Rattle.vol_tools.specs.Making.{IsNewPlaceOf}
 
 no_some : {A : Type 0} {x : A} → ◌≡◌ {A = Option A} None (Some x) → ⊥

@@ -1,6 +1,6 @@
 -- The last of the names of a path, and those before it.
 use Rattle.std.proofs.Common.{◌≡◌, ℕ, Some, List, [], ◌∷◌, ◌++◌, refl, sym, ap, ◌∙◌}
-use Rattle.tool_rules.specs.Path.{behind, last_place, place_in, path_names, place_of}
+use Rattle.vol_tools.specs.Path.{behind, last_place, place_in, path_names, place_of}
 
 last_put : (way : List (List ℕ)) (name : List ℕ) → last_place (way ++ name ∷ []) ≡ Some (record { way = way; name = name })
 last_put [] name = refl

@@ -11,14 +11,14 @@ use Rattle.rbf_access.specs.declared.faults.FileFault.TheVariants as file
 use Rattle.rbf_walk.specs.Walk.{directory_fault}
 use Rattle.rbf_walk.specs.declared.error.DirError.{DirError}
 use Rattle.rbf_walk.specs.declared.error.DirError.TheVariants.{NotAllowed, BadPath, NotFound, Exists, File}
-use Rattle.rbf_delete.specs.Deleted.{AnswersDeletion, DeletionStops, as_before, lost_now, IsDeletedBy}
+use Rattle.rbf_entries.specs.Deleted.{AnswersDeletion, DeletionStops, as_before, lost_now, IsDeletedBy}
 use Rattle.vol_tools.specs.Names.{place}
 use Rattle.vol_tools.specs.declared.place.Place.{Place}
-use Rattle.tool_rules.specs.Numbers.{way_end, on_arrival, deleting_number, removing_number, remove_number}
-use Rattle.tool_rules.specs.Path.{place_of}
-use Rattle.tool_rules.specs.Refusals.{MayLeave, halfway, unchanged}
-use Rattle.tool_rules.specs.Tool.{remove, LeadsTo}
-use Rattle.tool_rules.specs.Uses.{Use}
+use Rattle.vol_tools.specs.Numbers.{way_end, on_arrival, deleting_number, removing_number, remove_number}
+use Rattle.vol_tools.specs.Path.{place_of}
+use Rattle.vol_tools.specs.Refusals.{MayLeave, halfway, unchanged}
+use Rattle.vol_tools.specs.Tool.{remove, LeadsTo}
+use Rattle.vol_tools.specs.UsesInTurn.{Use}
 use Rattle.vol_tools.specs.Answers.{AnswersTool, AnswersWay, LeavesOn}
 use Rattle.vol_tools.specs.Faults.{of_directory}
 use Rattle.vol_tools.specs.declared.fault.ToolFault.{ToolFault}

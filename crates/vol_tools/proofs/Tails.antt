@@ -18,11 +18,11 @@ use Rattle.rbf_access.specs.declared.faults.FileFault.{FileFault}
 use Rattle.rbf_access.specs.declared.faults.FileFault.TheVariants as file
 use Rattle.rbf_walk.specs.declared.error.DirError.{DirError}
 use Rattle.rbf_walk.specs.declared.error.DirError.TheVariants.{NotAllowed, BadPath, NotFound, Exists, File}
-use Rattle.rbf_create.specs.Entering.{Entering, AnswersEntering, EnteringStops, unchanged, took}
-use Rattle.rbf_delete.specs.Deleted.{DeletionStops, as_before, lost_now, IsDeletedBy}
+use Rattle.rbf_entries.specs.Entering.{Entering, AnswersEntering, EnteringStops, unchanged, took}
+use Rattle.rbf_entries.specs.Deleted.{DeletionStops, as_before, lost_now, IsDeletedBy}
 use Rattle.rbf_write.specs.Laying.{Laying}
 use Rattle.rbf_write.specs.Outcomes.{AnswersWrite, WriteIsEnded, unchanged as as_it_was, stopped}
-use Rattle.tool_rules.specs.Tool.{Tool, put, get, mkdir, remove, list, repair}
+use Rattle.vol_tools.specs.Tool.{Tool, put, get, mkdir, remove, list, repair}
 use Rattle.vol_tools.specs.Tail.{IsGivenUp, KeepsTail, KeepsTailBy, KeepsTailUnused, OnMedia}
 
 pub some_is : {a b : List ℕ} → ◌≡◌ {A = Option (List ℕ)} (Some a) (Some b) → a ≡ b

@@ -4,7 +4,7 @@ use Rattle.std.specs.Prelude.{if◌then◌else◌}
 use Rattle.std.specs.List.{list_all}
 use Rattle.std.proofs.lemmas.Bool.{or_cases, and_parts, cond-true, cond-false, lt-ltb, leb-true, cases_Bool}
 use Rattle.os9_base.specs.Name.{is_name_character, low_bits, name_run, if_name, parsed_name}
-use Rattle.tool_rules.specs.Path.{is_name_text}
+use Rattle.vol_tools.specs.Path.{is_name_text}
 
 within : (a c b : ℕ) → b < 128 → (nat_le a c && nat_le c b) ≡ true → c < 128
 within a c b low h = let most = leb-true c b (and_parts (nat_le a c) (nat_le c b) h).1 in omega arith

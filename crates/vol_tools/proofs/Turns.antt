@@ -3,7 +3,7 @@ use Rattle.std.proofs.Common.{◌≡◌, ℕ, Option, List, [], ◌∷◌, ◌++
 use Rattle.rbf_model.specs.Volume.{DiskVolume}
 use Rattle.rbf_access.specs.Mounted.{Represents}
 use Rattle.rbf_walk.proofs.Stepping.{same_content}
-use Rattle.tool_rules.specs.Uses.{Use, GivesInTurn, none, next}
+use Rattle.vol_tools.specs.UsesInTurn.{Use, GivesInTurn, none, next}
 use Rattle.vol_tools.specs.Answers.{GivesOn}
 use Rattle.vol_tools.specs.InTurn.{LeavesInTurn}
 

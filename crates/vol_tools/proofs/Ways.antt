@@ -14,7 +14,7 @@ use Rattle.rbf_access.specs.declared.volume.Volume.{Volume}
 use Rattle.rbf_walk.specs.Walk.{AnswersWalk}
 use Rattle.rbf_walk.specs.declared.error.DirError.{DirError}
 use Rattle.rbf_walk.specs.declared.error.DirError.TheVariants.{NotAllowed, BadPath, NotFound, Exists, File}
-use Rattle.tool_rules.specs.Numbers.{way_end, on_arrival}
+use Rattle.vol_tools.specs.Numbers.{way_end, on_arrival}
 use Rattle.vol_tools.specs.Answers.{AnswersWay}
 use Rattle.vol_tools.specs.Faults.{of_directory}
 use Rattle.vol_tools.specs.declared.fault.ToolFault.{ToolFault}

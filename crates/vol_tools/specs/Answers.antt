@@ -3,10 +3,10 @@ use Rattle.std.specs.Prelude.{◌≡◌, ℕ, Option, Some, None, List, Result, 
 use Rattle.rbf_model.specs.Volume.{DiskVolume}
 use Rattle.rbf_model.specs.Walk.{WalkEnd, arrives}
 use Rattle.rbf_access.specs.Mounted.{Represents}
-use Rattle.tool_rules.specs.Numbers.{on_arrival}
-use Rattle.tool_rules.specs.Refusals.{MayLeave, Refuses, refused_number}
-use Rattle.tool_rules.specs.Tool.{Gives}
-use Rattle.tool_rules.specs.Uses.{Use}
+use Rattle.vol_tools.specs.Numbers.{on_arrival}
+use Rattle.vol_tools.specs.Refusals.{MayLeave, Refuses, refused_number}
+use Rattle.vol_tools.specs.Tool.{Gives}
+use Rattle.vol_tools.specs.UsesInTurn.{Use}
 use Rattle.vol_tools.specs.declared.fault.ToolFault.{ToolFault}
 use Rattle.vol_tools.specs.declared.fault.ToolFault.TheVariants.{Number, Device, OutOfMemory}
 

@@ -3,7 +3,7 @@ use Rattle.std.specs.Prelude.{◌≡◌, ℕ, ◌+◌, ◌-◌, ◌/◌, ◌%◌
 use Rattle.std.specs.Int.{bit_at}
 use Rattle.rbf_model.specs.Segments.{has}
 use Rattle.rbf_model.specs.Volume.{DiskVolume, Vol}
-use Rattle.tool_rules.specs.Tool.{repaired}
+use Rattle.vol_tools.specs.Tool.{repaired}
 
 -- a bit of an image from byte 256 on, where the map begins, the most significant of a byte first: the mark of a
 -- cluster, and after the map any other bit

@@ -2,7 +2,7 @@
 use Rattle.std.specs.Prelude.{◌≡◌, ℕ, Option, List}
 use Rattle.rbf_model.specs.Volume.{DiskVolume}
 use Rattle.rbf_access.specs.Mounted.{Represents}
-use Rattle.tool_rules.specs.Uses.{Use, GivesInTurn}
+use Rattle.vol_tools.specs.UsesInTurn.{Use, GivesInTurn}
 
 -- the media represents a volume, and afterwards one that a list of tools gives
 pub record LeavesInTurn (uses : List Use) (old new : Option (List ℕ)) (answers : List (List ℕ)) : Type 0 where

@@ -1,3 +1,11 @@
+pub mod Path
+pub mod Numbers
+pub mod Tool
+pub mod Refusals
+pub mod UsesInTurn
+pub mod Listing
+pub mod Blank
+pub mod Image
 pub mod Names
 pub mod Clearing
 pub mod Repair

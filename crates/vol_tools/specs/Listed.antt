@@ -4,7 +4,7 @@ use Rattle.rbf_model.specs.Fields.{is_used, descriptor_field}
 use Rattle.rbf_model.specs.File.{DiskFile, is_directory}
 use Rattle.rbf_model.specs.Volume.{DiskVolume}
 use Rattle.rbf_access.specs.Mounted.{HasFile, Represents}
-use Rattle.tool_rules.specs.Listing.{entry_line}
+use Rattle.vol_tools.specs.Listing.{entry_line}
 
 -- the bytes are those of a directory of the volume that the media represents
 pub record HasListing (media : Option (List ℕ)) (contents : List ℕ) : Type 0 where

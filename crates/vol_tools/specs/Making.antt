@@ -7,10 +7,10 @@ use Rattle.rbf_change.specs.NewFiles.{Enters, Plan, file_plan, directory_plan}
 use Rattle.rbf_access.specs.Mounted.{Represents}
 use Rattle.vol_tools.specs.Names.{place}
 use Rattle.vol_tools.specs.declared.place.Place.{Place}
-use Rattle.tool_rules.specs.Numbers.{making_number}
-use Rattle.tool_rules.specs.Path.{place_of}
-use Rattle.tool_rules.specs.Refusals.{MakingStops}
-use Rattle.tool_rules.specs.Tool.{LeadsTo, file_attributes, directory_attributes}
+use Rattle.vol_tools.specs.Numbers.{making_number}
+use Rattle.vol_tools.specs.Path.{place_of}
+use Rattle.vol_tools.specs.Refusals.{MakingStops}
+use Rattle.vol_tools.specs.Tool.{LeadsTo, file_attributes, directory_attributes}
 use Rattle.vol_tools.specs.declared.fault.ToolFault.{ToolFault}
 use Rattle.vol_tools.specs.declared.fault.ToolFault.TheVariants.{Number, Device, OutOfMemory}
 

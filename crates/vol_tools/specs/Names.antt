@@ -2,7 +2,7 @@
 use Rattle.std.specs.Prelude.{◌≡◌, ℕ, true, Option, Some, None, List, if◌then◌else◌}
 use Rattle.std.specs.List.{list_all}
 use Rattle.rbf_change.specs.Names.{is_dots}
-use Rattle.tool_rules.specs.Path.{Place as ToolPlace, is_name_text, place_of}
+use Rattle.vol_tools.specs.Path.{Place as ToolPlace, is_name_text, place_of}
 use Rattle.vol_tools.specs.declared.place.Place.{Place}
 
 -- the text is a name, and is this name

@@ -4,7 +4,7 @@ use Rattle.rbf_model.specs.File.{DiskFile, is_directory}
 use Rattle.rbf_model.specs.Volume.{DiskVolume}
 use Rattle.rbf_model.specs.Walk.{arrives, file_permits}
 use Rattle.rbf_access.specs.Mounted.{Represents}
-use Rattle.tool_rules.specs.Numbers.{way_end, reading_number}
+use Rattle.vol_tools.specs.Numbers.{way_end, reading_number}
 use Rattle.vol_tools.specs.declared.fault.ToolFault.{ToolFault}
 use Rattle.vol_tools.specs.declared.fault.ToolFault.TheVariants.{Number, Device, OutOfMemory}
 use Rattle.vol_tools.specs.declared.opening.Kind.{Kind}

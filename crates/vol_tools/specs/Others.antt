@@ -9,8 +9,8 @@ use Rattle.rbf_model.specs.Volume.{DiskVolume, Vol}
 use Rattle.rbf_model.specs.Writes.{put_at}
 use Rattle.rbf_change.specs.Names.{entry_place, place_of}
 use Rattle.rbf_change.specs.Tidy.{KeepsListEnd}
-use Rattle.rbf_create.specs.NewEntry.{sector_of_place}
-use Rattle.tool_rules.specs.Tool.{Tool, LeadsTo, put, mkdir, remove}
+use Rattle.rbf_entries.specs.NewEntry.{sector_of_place}
+use Rattle.vol_tools.specs.Tool.{Tool, LeadsTo, put, mkdir, remove}
 
 -- the entry of a path: the directory to which the path leads, before and now; the place of the entry, which is that of
 -- its old name or that of a new one; and the sector of that place

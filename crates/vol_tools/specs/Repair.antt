@@ -3,7 +3,7 @@ use Rattle.std.specs.Prelude.{◌≡◌, ℕ, List, length}
 use Rattle.os9_base.specs.declared.registers.TimePacket.{TimePacket}
 use Rattle.rbf_model.specs.Geometry.{image_geometry}
 use Rattle.rbf_model.specs.Volume.{DiskVolume, Vol, lost_clusters}
-use Rattle.tool_rules.specs.Tool.{repair, repaired, freed_line, Gives}
+use Rattle.vol_tools.specs.Tool.{repair, repaired, freed_line, Gives}
 use Rattle.vol_tools.specs.Clearing.{ClearsBits}
 use Rattle.vol_tools.specs.declared.image.Repaired.{Repaired}
 

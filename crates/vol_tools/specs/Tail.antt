@@ -5,7 +5,7 @@ use Rattle.rbf_model.specs.Geometry.{image_geometry, sector}
 use Rattle.rbf_model.specs.Space.{has_cluster, is_marked}
 use Rattle.rbf_model.specs.Volume.{DiskVolume, Vol}
 use Rattle.rbf_change.specs.Tidy.{IsMapEnd}
-use Rattle.tool_rules.specs.Tool.{Tool, remove}
+use Rattle.vol_tools.specs.Tool.{Tool, remove}
 
 -- they are unchanged
 pub record KeepsTail (image now : List ℕ) : Type 0 where

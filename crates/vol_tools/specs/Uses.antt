@@ -1,8 +1,8 @@
 -- The tool that is used, and its answer (this project's own).
 use Rattle.std.specs.Prelude.{◌≡◌, ℕ, List, [], Result, Ok, Err}
 use Rattle.os9_base.specs.declared.registers.TimePacket.{TimePacket}
-use Rattle.tool_rules.specs.Tool.{Tool, put, get, mkdir, remove, list}
-use Rattle.tool_rules.specs.Uses.{Use}
+use Rattle.vol_tools.specs.Tool.{Tool, put, get, mkdir, remove, list}
+use Rattle.vol_tools.specs.UsesInTurn.{Use}
 use Rattle.vol_tools.specs.declared.fault.ToolFault.{ToolFault}
 use Rattle.vol_tools.specs.declared.tool.ToolUse.{ToolUse}
 use Rattle.vol_tools.specs.declared.tool.ToolUse.TheVariants.{Put, Get, Mkdir, Remove, List as Lines}

@@ -1,6 +1,6 @@
 ghost use Rattle.std.specs.Prelude.{[], OnOk};
 ghost use Rattle.rbf_access.specs.Mounted.{IsMounted};
-ghost use Rattle.tool_rules.specs.Tool.{mkdir as mkdir_tool};
+ghost use Rattle.vol_tools.specs.Tool.{mkdir as mkdir_tool};
 ghost use Rattle.vol_tools.specs.Answers.{OnVolumeBefore};
 ghost use Rattle.vol_tools.specs.Faults.{Faults, tool_fault};
 ghost use Rattle.vol_tools.specs.Others.{KeepsOthers};

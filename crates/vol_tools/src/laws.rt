@@ -3,7 +3,7 @@
 ghost use Rattle.std.specs.Prelude.{◌∷◌, ◌++◌, [], ℕ, List, Option, Ok};
 ghost use Rattle.rbf_model.specs.Volume.{DiskVolume};
 ghost use Rattle.rbf_access.specs.Mounted.{Represents};
-ghost use Rattle.tool_rules.specs.Uses.{Use};
+ghost use Rattle.vol_tools.specs.UsesInTurn.{Use};
 ghost use Rattle.vol_tools.specs.Answers.{GivesOn, OnVolumeBefore};
 ghost use Rattle.vol_tools.specs.InTurn.{LeavesInTurn};
 

@@ -2,8 +2,8 @@ ghost use Rattle.std.specs.Prelude.{◌≡◌, ◌++◌, ◌∷◌, ◌/◌, ◌
 ghost use Rattle.rbf_model.specs.Fields.{entry_name_field};
 ghost use Rattle.rbf_model.specs.File.{DiskFile};
 ghost use Rattle.rbf_access.specs.Reading.{IsFdOf};
-ghost use Rattle.tool_rules.specs.Listing as model;
-ghost use Rattle.tool_rules.specs.Listing.{file_line};
+ghost use Rattle.vol_tools.specs.Listing as model;
+ghost use Rattle.vol_tools.specs.Listing.{file_line};
 
 use itoa::Buffer;
 use os9_base::name::{Name, header_name};

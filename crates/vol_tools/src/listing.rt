@@ -5,7 +5,7 @@ ghost use Rattle.rbf_model.specs.Fields.{directory_entry};
 ghost use Rattle.rbf_model.specs.Walk.{directory_entries};
 ghost use Rattle.rbf_access.specs.Mounted.{IsMounted};
 ghost use Rattle.rbf_walk.specs.Walk.{OnVolume};
-ghost use Rattle.tool_rules.specs.Tool.{list as list_tool};
+ghost use Rattle.vol_tools.specs.Tool.{list as list_tool};
 ghost use Rattle.vol_tools.specs.Answers.{OnVolumeBefore};
 ghost use Rattle.vol_tools.specs.Faults.{Faults, tool_fault};
 ghost use Rattle.vol_tools.specs.Listed.{HasListing, NamesFile, lines_of};

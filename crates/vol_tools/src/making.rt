@@ -12,7 +12,7 @@ use crate::way::way_to;
 use os9_base::registers::TimePacket;
 use os9_outer::drive::BlockDriver;
 use rbf_access::Volume;
-use rbf_create::{create, make_dir};
+use rbf_entries::{create, make_dir};
 
 /// The attributes of a file made by `put`: its owner may read and write it, others may read it.
 const FILE_ATTRIBUTES: u8 = 0x0b;

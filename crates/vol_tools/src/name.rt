@@ -1,7 +1,7 @@
 ghost use Rattle.std.specs.Prelude.{◌≡◌, MatchOption, true, false};
 ghost use Rattle.std.specs.List.{list_all};
 ghost use Rattle.os9_base.specs.Name as model;
-ghost use Rattle.tool_rules.specs.Path.{is_name_text};
+ghost use Rattle.vol_tools.specs.Path.{is_name_text};
 ghost use Rattle.vol_tools.specs.Names.{IsNameOf};
 
 use os9_base::name::{Name, parse_name};

@@ -1,5 +1,5 @@
 ghost use Rattle.std.specs.Prelude.{◌≡◌, IfOk, map, option_map};
-ghost use Rattle.tool_rules.specs.Path as model;
+ghost use Rattle.vol_tools.specs.Path as model;
 ghost use Rattle.vol_tools.specs.Names.{if_names};
 
 use crate::name::name_of;

@@ -1,7 +1,7 @@
 ghost use Rattle.std.specs.Prelude.{◌≡◌, IfOk, option_map};
 ghost use Rattle.os9_base.specs.Name.{IsName};
 ghost use Rattle.rbf_change.specs.Names.{is_dots as is_dots_model};
-ghost use Rattle.tool_rules.specs.Path.{place_of as place_of_model};
+ghost use Rattle.vol_tools.specs.Path.{place_of as place_of_model};
 ghost use Rattle.vol_tools.specs.Names.{new_place, place};
 
 use crate::path::path_names;

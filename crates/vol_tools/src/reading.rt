@@ -1,7 +1,7 @@
 ghost use Rattle.std.specs.Prelude.{◌≡◌};
 ghost use Rattle.os9_base.specs.declared.registers.TimePacket.{TimePacket};
 ghost use Rattle.rbf_access.specs.Mounted.{IsMounted};
-ghost use Rattle.tool_rules.specs.Tool.{get as get_tool};
+ghost use Rattle.vol_tools.specs.Tool.{get as get_tool};
 ghost use Rattle.vol_tools.specs.Answers.{OnVolumeBefore};
 ghost use Rattle.vol_tools.specs.Faults.{Faults, tool_fault};
 

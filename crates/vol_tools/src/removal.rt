@@ -2,8 +2,8 @@ ghost use Rattle.std.specs.Prelude.{◌≡◌, [], ℕ, List, OnOk, Some};
 ghost use Rattle.os9_base.specs.declared.registers.TimePacket.{TimePacket};
 ghost use Rattle.rbf_access.specs.Mounted.{IsMounted};
 ghost use Rattle.vol_tools.specs.Names.{place as place_model};
-ghost use Rattle.tool_rules.specs.Path.{place_of as place_of_model};
-ghost use Rattle.tool_rules.specs.Tool.{remove as remove_tool};
+ghost use Rattle.vol_tools.specs.Path.{place_of as place_of_model};
+ghost use Rattle.vol_tools.specs.Tool.{remove as remove_tool};
 ghost use Rattle.vol_tools.specs.Answers.{OnVolumeBefore};
 ghost use Rattle.vol_tools.specs.Faults.{Faults, tool_fault};
 ghost use Rattle.vol_tools.specs.Others.{KeepsOthers};
@@ -15,7 +15,7 @@ use crate::{Place, place_of};
 use os9_base::errors::E_BPNAM;
 use os9_outer::drive::BlockDriver;
 use rbf_access::Volume;
-use rbf_delete::delete;
+use rbf_entries::delete;
 use std::alloc::Global;
 
 /// Deletes a file by its path, for user 0 (this project's own).

@@ -9,7 +9,7 @@ use Rattle.proc_rules.specs.declared.record.Life.{Life}
 use Rattle.proc_rules.specs.declared.record.Life.TheVariants.{Running}
 use Rattle.proc_rules.specs.declared.record.Record.{Record}
 use Rattle.proc_rules.specs.Records.{IsLiving, has_ended, is_waiting, record_at, record_of, record_passes}
-use Rattle.call_rules.specs.Processes.{Processes, cells_at, own_at, regs_at}
+use Rattle.proc_rules.specs.Processes.{Processes, cells_at, own_at, regs_at}
 use Rattle.io_model.specs.Path.{numbers_of}
 use Rattle.io_model.specs.declared.pending.PendingCall.{PendingCall}
 use Rattle.io_model.specs.declared.path.SysPath.{SysPath}
@@ -17,7 +17,7 @@ use Rattle.io_rules.specs.Again.{IsPending, path_number}
 use Rattle.io_rules.specs.Io.{Io, OpenPath, pending_at, open_path}
 use Rattle.io_rules.specs.Modes.{can_read}
 use Rattle.io_rules.specs.declared.io_call.IoCall.{IoCall}
-use Rattle.event_rules.specs.declared.ends.EventEnd.{EventEnd}
+use Rattle.machine_model.specs.declared.ends.EventEnd.{EventEnd}
 use Rattle.proc_rules.specs.declared.own.Own.{Own}
 use Rattle.call_laws.specs.Others.{ComesOf}
 use Rattle.call_laws.proofs.CallsKept.{Left}

@@ -8,17 +8,17 @@ use Rattle.os9_base.specs.declared.calls.TheConstants.{F_LOAD, F_STIME, F_TIME}
 use Rattle.os9_base.specs.declared.errors.TheConstants.{E_BADTIME, E_BPADDR, E_UNKSVC}
 use Rattle.os9_base.specs.declared.registers.TimePacket.{TimePacket}
 use Rattle.os9_outer.specs.TerminalState.{TerminalState}
-use Rattle.civil_time.specs.CivilTime.{is_time_packet}
+use Rattle.time_rules.specs.CivilTime.{is_time_packet}
 use Rattle.proc_rules.specs.declared.record.Record.{Record}
 use Rattle.proc_rules.specs.Records.{IsLiving, record_at, record_of}
-use Rattle.call_rules.specs.declared.proc_call.ProcCall.{ProcCall}
-use Rattle.call_rules.specs.declared.proc_call.ProcCall.TheVariants as Call
-use Rattle.call_rules.specs.Attempts.{after_attempt, attempted}
-use Rattle.call_rules.specs.CallResult.{CallResult, done, ends, refused, waits}
-use Rattle.call_rules.specs.Codes.{call_of}
-use Rattle.call_rules.specs.Processes.{Processes, cells_at, regs_at}
-use Rattle.call_rules.specs.Ready.{act_of, attempts}
-use Rattle.call_rules.specs.UserBytes.{user_bytes}
+use Rattle.proc_rules.specs.declared.proc_call.ProcCall.{ProcCall}
+use Rattle.proc_rules.specs.declared.proc_call.ProcCall.TheVariants as Call
+use Rattle.proc_rules.specs.Attempts.{after_attempt, attempted}
+use Rattle.proc_rules.specs.CallResult.{CallResult, done, ends, refused, waits}
+use Rattle.proc_rules.specs.Codes.{call_of}
+use Rattle.proc_rules.specs.Processes.{Processes, cells_at, regs_at}
+use Rattle.proc_rules.specs.Ready.{act_of, attempts}
+use Rattle.proc_rules.specs.UserBytes.{user_bytes}
 use Rattle.io_model.specs.Path.{inherited_numbers, numbers_of}
 use Rattle.io_model.specs.declared.pending.PendingCall.{PendingCall}
 use Rattle.io_model.specs.declared.path.Desc.{Desc}
@@ -36,8 +36,8 @@ use Rattle.file_rules.specs.declared.path_call.PathCall.{PathCall}
 use Rattle.file_laws.specs.Kinds.{AreKinds}
 use Rattle.file_laws.proofs.Attempts.{attempt-stands, chain-kinds, fork-kinds, load-kinds}
 use Rattle.file_laws.proofs.Starts.{kinds-ended, kinds-started}
-use Rattle.event_rules.specs.Event.{call_event_end}
-use Rattle.event_rules.proofs.Ticks.{attempt-tick}
+use Rattle.machine_model.specs.ProcessEvent.{call_event_end}
+use Rattle.machine_model.proofs.Ticks.{attempt-tick}
 use Rattle.time_rules.specs.Attempts.{clock_after, result_of as time_result, time_step}
 use Rattle.time_rules.specs.Clock.{IsClock}
 use Rattle.time_rules.specs.Codes.{time_call_of}
@@ -286,7 +286,7 @@ module _ (s : State) (p code : ℕ) (running : IsRunning s) (lives : IsLiving s.
     time-runs : (call : TimeCall) → time_call_of code ≡ Some call → Serves (on_time call) s now p result rest → Runs result rest
     time-runs call coded (clock, it, rest_is) =
         subst (Runs result) (sym rest_is) (over-runs result (record (rest_of s) { clock = clock })
-            (subst (Over s.processes p) (sym it.result_is) (time-over s.processes p (time_step call s.processes now p)))
+        (subst (Over s.processes p) (sym it.result_is) (time-over s.processes p (time_step call s.processes now p)))
         (beside s.files.io (time-no-io code call coded) refl) (inr (none-kept (time-no-io code call coded), refl)) refl running.kinds
         (subst (λ (clock : Clock). IsClock clock s.processes.tick) (sym it.clock_is) (clock-stays s.clock s.processes running.clock call now p)))
 
@@ -327,7 +327,7 @@ module _ (s : State) (p code : ℕ) (running : IsRunning s) (lives : IsLiving s.
         (left-aside s.processes p (call_event_end result) (after_attempt s.processes p result) (waits-left s p code running lives next now call coded result rest.files s.terms rest.terms it))
         (waits-aside s p code running lives next now call coded result rest.files s.terms rest.terms it)
         (λ pending is. subst (λ (n : Processes). IsPendingCall n rest.files.io p pending) (sym then_is)
-            (waits-keep s p code running lives next now call coded result rest.files s.terms rest.terms it pending is))
+        (waits-keep s p code running lives next now call coded result rest.files s.terms rest.terms it pending is))
         (subst (λ (n : Processes). IsWaiting n.records p → WaitsInCall n rest.files.io p) (sym then_is) (waits-in s p code running lives next now call coded result rest.files s.terms rest.terms it))
         long (waits-requested call s.processes s.files now p result rest.files s.terms rest.terms running.requested it
         (waits-within s p code running lives next now call coded result rest.files s.terms rest.terms it)) stay
@@ -438,7 +438,7 @@ module _ (s : State) (p code : ℕ) (running : IsRunning s) (lives : IsLiving s.
         let io = call-beside (proc-no-io code call coded) result in
         subst (Runs result) (sym rest_is) (next-running s p (after result (with_files s (files_after_call s.files p result))) running
         (left-aside s.processes p (call_event_end result) (after_attempt s.processes p result)
-            (subst (AttemptLeft s.processes p) (sym is) (attempt-left s.processes p call lives (code, next, coded))))
+        (subst (AttemptLeft s.processes p) (sym is) (attempt-left s.processes p call lives (code, next, coded))))
         io.0 (λ pending there. absurd (none-some pending (sym io.1 ∙ there)))
         (in-call s.processes s.files.io p running.in_calls lives running.places code call result _ next coded (subst (HasItsCall s.processes p) (sym is) (attempt-has s.processes p call)))
         refl (requested-then (files_after_call s.files p result) io.0 (call-ends (proc-no-io code call coded) result))

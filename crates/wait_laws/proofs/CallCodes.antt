@@ -4,8 +4,8 @@ use Rattle.std.specs.Prelude.{find, option_map, if◌then◌else◌}
 use Rattle.std.proofs.lemmas.Bool.{eqb-true}
 use Rattle.std.proofs.lemmas.Option.{none-some, same_Some}
 use Rattle.os9_base.specs.declared.calls.TheConstants.{I_DUP, I_CREATE, I_OPEN, I_CLOSE, I_READ, I_READLN, I_WRITE, I_WRITLN, I_GETSTT, I_SETSTT, F_PERR}
-use Rattle.call_rules.specs.declared.proc_call.ProcCall.{ProcCall}
-use Rattle.call_rules.specs.Codes.{call_codes, call_of}
+use Rattle.proc_rules.specs.declared.proc_call.ProcCall.{ProcCall}
+use Rattle.proc_rules.specs.Codes.{call_codes, call_of}
 use Rattle.io_rules.specs.Codes.{io_call_of, io_codes}
 use Rattle.io_rules.specs.declared.io_call.IoCall.{IoCall}
 use Rattle.io_rules.specs.declared.io_call.IoCall.TheVariants as Call

@@ -6,17 +6,17 @@ use Rattle.cpu_model.specs.Step.{Aborts, Calls, Done, Outcome}
 use Rattle.proc_rules.specs.declared.record.Intercept.{Intercept}
 use Rattle.proc_rules.specs.Records.{IsLiving, is_waiting, record_at}
 use Rattle.proc_rules.specs.Signals.{with_signal}
-use Rattle.call_rules.specs.Attempts.{goes_on}
-use Rattle.call_rules.specs.Delivery.{after_delivery, delivered, has_no_room, interrupted, interrupted_regs, routine_begun, stack_top, with_frame}
-use Rattle.call_rules.specs.Processes.{Processes, regs_at, with_records}
-use Rattle.call_rules.specs.Ready.{Act, act_of, attempts, delivers, executes}
+use Rattle.proc_rules.specs.Attempts.{goes_on}
+use Rattle.proc_rules.specs.Delivery.{after_delivery, delivered, has_no_room, interrupted, interrupted_regs, routine_begun, stack_top, with_frame}
+use Rattle.proc_rules.specs.Processes.{Processes, regs_at, with_records}
+use Rattle.proc_rules.specs.Ready.{Act, act_of, attempts, delivers, executes}
 use Rattle.io_rules.specs.Io.{Io}
 use Rattle.io_rules.specs.Waiting.{interrupted_count}
 use Rattle.file_rules.specs.Files.{Files}
 use Rattle.file_laws.specs.Kinds.{AreKinds}
 use Rattle.file_laws.proofs.Starts.{kinds-ended, kinds-interrupted}
-use Rattle.event_rules.specs.declared.ends.EventEnd.{EventEnd}
-use Rattle.event_rules.proofs.Ticks.{ended-tick}
+use Rattle.machine_model.specs.declared.ends.EventEnd.{EventEnd}
+use Rattle.machine_model.proofs.Ticks.{ended-tick}
 use Rattle.time_rules.specs.Clock.{IsClock}
 use Rattle.machine_model.specs.Event.{Acts, Event, before_delivery, files_after_delivery, files_after_instruction}
 use Rattle.machine_model.specs.State.{State}
@@ -24,7 +24,7 @@ use Rattle.wait_laws.specs.Running.{AreRequested, IsRunning}
 use Rattle.wait_laws.proofs.Requested.{RequestsStay, ended-stay, interrupted-stay, none-ended, none-interrupted, none-then, same-stay}
 use Rattle.file_rules.specs.Locking.{files_interrupted}
 use Rattle.file_rules.specs.Processes.{files_ended}
-use Rattle.event_rules.specs.Event.{after_instruction, broken_off, delivery_end, instruction_end, next_instruction}
+use Rattle.machine_model.specs.ProcessEvent.{after_instruction, broken_off, delivery_end, instruction_end, next_instruction}
 use Rattle.std.specs.Prelude.{length}
 use Rattle.std.proofs.lemmas.Option.{none-some}
 use Rattle.io_rules.specs.Processes.{io_ended}

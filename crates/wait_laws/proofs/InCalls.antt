@@ -16,22 +16,22 @@ use Rattle.proc_rules.specs.declared.record.Record.{Record}
 use Rattle.proc_rules.specs.Ends.{after_exit, ended_record, orphaned}
 use Rattle.proc_rules.specs.Records.{IsLiving, has_ended, is_waiting, record_at, record_passes, with_record, with_regs, with_waiting}
 use Rattle.proc_rules.specs.Signals.{with_signal}
-use Rattle.call_rules.specs.declared.proc_call.ProcCall.{ProcCall}
-use Rattle.call_rules.specs.Attempts.{after_attempt, goes_on}
-use Rattle.call_rules.specs.CallResult.{CallResult, done, refused, waits, ends}
-use Rattle.call_rules.specs.Codes.{call_of}
-use Rattle.call_rules.specs.Delivery.{after_delivery, delivered, has_no_room, interrupted_regs, routine_begun, stack_top, with_frame}
-use Rattle.call_rules.specs.End.{ended, without_process}
-use Rattle.call_rules.specs.Processes.{Processes, own_at, regs_at, with_regs_of}
-use Rattle.call_rules.specs.ModuleLinks.{without_module_link}
-use Rattle.call_rules.specs.Ready.{attempts, executes, act_of, next_act}
+use Rattle.proc_rules.specs.declared.proc_call.ProcCall.{ProcCall}
+use Rattle.proc_rules.specs.Attempts.{after_attempt, goes_on}
+use Rattle.proc_rules.specs.CallResult.{CallResult, done, refused, waits, ends}
+use Rattle.proc_rules.specs.Codes.{call_of}
+use Rattle.proc_rules.specs.Delivery.{after_delivery, delivered, has_no_room, interrupted_regs, routine_begun, stack_top, with_frame}
+use Rattle.proc_rules.specs.End.{ended, without_process}
+use Rattle.proc_rules.specs.Processes.{Processes, own_at, regs_at, with_regs_of}
+use Rattle.proc_rules.specs.ModuleLinks.{without_module_link}
+use Rattle.proc_rules.specs.Ready.{attempts, executes, act_of, next_act}
 use Rattle.io_model.specs.declared.pending.PendingCall.{PendingCall}
 use Rattle.io_rules.specs.Attempts.{IoAttempts, pending_in, result_by, with_stored}
 use Rattle.io_rules.specs.Codes.{io_call_of}
 use Rattle.io_rules.specs.Io.{Io, pending_at, with_call}
 use Rattle.io_rules.specs.Step.{IoEffect, IoEnd, answers, fails, keeps}
 use Rattle.io_rules.specs.declared.io_call.IoCall.{IoCall}
-use Rattle.event_rules.specs.Event.{after_instruction, broken_off}
+use Rattle.machine_model.specs.ProcessEvent.{after_instruction, broken_off}
 use Rattle.call_laws.proofs.OthersKept.{living-within, record-put}
 use Rattle.call_laws.specs.Pending.{AreInCalls, WaitsInCall}
 use Rattle.wait_laws.proofs.CallCodes.{not-both}

@@ -11,10 +11,10 @@ use Rattle.proc_model.specs.MemoryChanges.{writes_from}
 use Rattle.proc_rules.specs.declared.record.Life.TheVariants.{Waiting}
 use Rattle.proc_rules.specs.declared.record.Record.{Record}
 use Rattle.proc_rules.specs.Records.{IsLiving, has_ended, is_waiting, new_record, record_at, record_of, record_passes, with_record}
-use Rattle.call_rules.specs.Attempts.{after_attempt}
-use Rattle.call_rules.specs.CallResult.{CallResult}
-use Rattle.call_rules.specs.Processes.{Processes, own_at, regs_at, cells_at}
-use Rattle.call_rules.specs.Ready.{attempts, executes, act_of, next_act}
+use Rattle.proc_rules.specs.Attempts.{after_attempt}
+use Rattle.proc_rules.specs.CallResult.{CallResult}
+use Rattle.proc_rules.specs.Processes.{Processes, own_at, regs_at, cells_at}
+use Rattle.proc_rules.specs.Ready.{attempts, executes, act_of, next_act}
 use Rattle.io_model.specs.Path.{numbers_of, slot_of}
 use Rattle.io_model.specs.declared.pending.PendingCall.{PendingCall}
 use Rattle.io_model.specs.declared.path.SysPath.{SysPath}

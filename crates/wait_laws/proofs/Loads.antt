@@ -17,14 +17,14 @@ use Rattle.proc_rules.specs.declared.own.Own.{Own}
 use Rattle.proc_rules.specs.declared.record.Record.{Record}
 use Rattle.proc_rules.specs.declared.record.Life.{Life}
 use Rattle.proc_rules.specs.Records.{IsLiving, after_make, free_process, has_ended, new_record, record_at, record_of, record_passes, with_record, with_regs}
-use Rattle.call_rules.specs.CallResult.{CallResult, changes, done, needs, refuses}
-use Rattle.call_rules.specs.Chain.{begun_anew, f_chain, with_program}
-use Rattle.call_rules.specs.Fork.{f_fork, forked_regs, with_child, with_child_record}
-use Rattle.call_rules.specs.Processes.{Processes, cells_at, no_own, own_at, regs_at, with_memory, with_regs_of}
-use Rattle.call_rules.specs.Link.{Mapped, after_link, links_at, mapped_group}
-use Rattle.call_rules.specs.ModuleLinks.{Entered, found_entry, still_primary, without_module_link, without_primary_link}
-use Rattle.call_rules.specs.Program.{Program, area_pages, asks_for_program, blocks_of_pages, most_pages, parameters_at, program_kind, is_unreadable, module_name, name_at_x, reads_program, start_own, start_regs, with_parameters}
-use Rattle.call_rules.specs.UserBytes.{user_bytes}
+use Rattle.proc_rules.specs.CallResult.{CallResult, changes, done, needs, refuses}
+use Rattle.proc_rules.specs.Chain.{begun_anew, f_chain, with_program}
+use Rattle.proc_rules.specs.Fork.{f_fork, forked_regs, with_child, with_child_record}
+use Rattle.proc_rules.specs.Processes.{Processes, cells_at, no_own, own_at, regs_at, with_memory, with_regs_of}
+use Rattle.proc_rules.specs.Link.{Mapped, after_link, links_at, mapped_group}
+use Rattle.proc_rules.specs.ModuleLinks.{Entered, found_entry, still_primary, without_module_link, without_primary_link}
+use Rattle.proc_rules.specs.Program.{Program, area_pages, asks_for_program, blocks_of_pages, most_pages, parameters_at, program_kind, is_unreadable, module_name, name_at_x, reads_program, start_own, start_regs, with_parameters}
+use Rattle.proc_rules.specs.UserBytes.{user_bytes}
 use Rattle.file_rules.specs.Files.{Asker, Files}
 use Rattle.file_rules.specs.Load.{GoesOnLoaded, LoadAttempts, Loaded, first_entered, links_first, loaded_by, with_file_entered}
 use Rattle.file_rules.specs.Program.{ChainAttempts, ForkAttempts, StartsFile, chains, forks, loaded_program, named_program, parameters_of, starts_first}

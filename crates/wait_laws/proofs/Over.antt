@@ -8,9 +8,9 @@ use Rattle.proc_model.specs.MemoryChanges.{stored, writes_from}
 use Rattle.proc_rules.specs.declared.own.Own.{Own}
 use Rattle.proc_rules.specs.declared.record.Record.{Record}
 use Rattle.proc_rules.specs.Records.{record_of, with_regs}
-use Rattle.call_rules.specs.Attempts.{after_attempt, done_regs, goes_on, refused_regs}
-use Rattle.call_rules.specs.CallResult.{CallResult, changes, done, ends, needs, refused, refuses, waits}
-use Rattle.call_rules.specs.Processes.{Processes, own_at, regs_at, with_memory, with_regs_of}
+use Rattle.proc_rules.specs.Attempts.{after_attempt, done_regs, goes_on, refused_regs}
+use Rattle.proc_rules.specs.CallResult.{CallResult, changes, done, ends, needs, refused, refuses, waits}
+use Rattle.proc_rules.specs.Processes.{Processes, own_at, regs_at, with_memory, with_regs_of}
 use Rattle.call_laws.specs.Objects.{KeepsSizes}
 use Rattle.call_laws.proofs.MemoryKept.{kept-written}
 use Rattle.call_laws.proofs.OthersKept.{own-other, record-other}

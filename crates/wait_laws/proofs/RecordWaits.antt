@@ -11,11 +11,11 @@ use Rattle.os9_outer.specs.TerminalState.{TerminalState}
 use Rattle.proc_rules.specs.declared.record.Life.TheVariants.{Waiting}
 use Rattle.proc_rules.specs.declared.record.Record.{Record}
 use Rattle.proc_rules.specs.Records.{IsLiving, is_waiting, record_at, record_of, with_record}
-use Rattle.call_rules.specs.Attempts.{after_attempt}
-use Rattle.call_rules.specs.CallResult.{CallResult}
-use Rattle.call_rules.specs.Processes.{Processes, cells_at, own_at, regs_at}
-use Rattle.call_rules.specs.Ready.{act_of, attempts}
-use Rattle.call_rules.specs.UserBytes.{user_bytes}
+use Rattle.proc_rules.specs.Attempts.{after_attempt}
+use Rattle.proc_rules.specs.CallResult.{CallResult}
+use Rattle.proc_rules.specs.Processes.{Processes, cells_at, own_at, regs_at}
+use Rattle.proc_rules.specs.Ready.{act_of, attempts}
+use Rattle.proc_rules.specs.UserBytes.{user_bytes}
 use Rattle.lock_model.specs.declared.lock.Request.{Request}
 use Rattle.io_model.specs.Path.{desc_of, slot_of}
 use Rattle.io_model.specs.declared.path.Desc.{Desc}
@@ -245,7 +245,7 @@ module _ (s : State) (p code : ℕ) (running : IsRunning s) (lives : IsLiving s.
   pub waits-on : (pending : PendingCall) → pending_at new.io p ≡ Some pending → WaitsOnPath new p pending
   waits-on pending is =
       let same : call_of it.request ≡ pending = same_Some (call_of it.request) pending (sym (waits-kept call s.processes s.files now p result new before after running.requested it waits-within) ∙ is)
-          in
+      in
       let here : p < length s.processes.records = living-within s.processes.records p lives in
       let rooms = running.rooms in
       subst (WaitsOnPath new p) same (record {

@@ -15,14 +15,14 @@ use Rattle.proc_rules.specs.declared.record.Record.{Record}
 use Rattle.proc_rules.specs.declared.record.SendFault.TheVariants.{NoProcess, Pending}
 use Rattle.proc_rules.specs.Records.{IsLiving, after_make, has_ended, is_living, is_waiting, new_record, record_at, record_of, record_passes, with_regs}
 use Rattle.proc_rules.specs.Signals.{after_send, is_reached, send_fault, wake_signal, with_sent, with_signal}
-use Rattle.call_rules.specs.Processes.{Processes, no_own, own_at, regs_at}
-use Rattle.call_rules.specs.Program.{start_regs}
+use Rattle.proc_rules.specs.Processes.{Processes, no_own, own_at, regs_at}
+use Rattle.proc_rules.specs.Program.{start_regs}
 use Rattle.io_model.specs.Path.{numbers_of}
 use Rattle.io_model.specs.declared.pending.PendingCall.{PendingCall}
 use Rattle.io_rules.specs.Arrivals.{ArrivesAt, ArrivesFrom, Desk, after_key_signal, every_user}
 use Rattle.io_rules.specs.Io.{Io, first_io, pending_at, open_path}
-use Rattle.event_rules.specs.Terminals.{TerminalsOnlyGain}
-use Rattle.civil_time.specs.CivilTime.{is_time_packet}
+use Rattle.machine_model.specs.Terminals.{TerminalsOnlyGain}
+use Rattle.time_rules.specs.CivilTime.{is_time_packet}
 use Rattle.file_rules.specs.Files.{Files, with_io}
 use Rattle.file_laws.specs.Kinds.{AreKinds}
 use Rattle.file_laws.proofs.Starts.{kinds-same, kinds-start}
@@ -31,9 +31,9 @@ use Rattle.time_rules.specs.declared.clock.Clock.{Clock}
 use Rattle.machine_model.specs.Run.{Choose, Tick, desk_of}
 use Rattle.machine_model.specs.Start.{Boot, Starts}
 use Rattle.machine_model.specs.State.{State}
-use Rattle.event_rules.specs.Console.{terminals_emptied}
-use Rattle.event_rules.specs.Start.{first_priority, first_process, first_start, no_parent, superuser}
-use Rattle.event_rules.specs.Terminals.{TerminalsOnlyGain}
+use Rattle.machine_model.specs.Console.{terminals_emptied}
+use Rattle.machine_model.specs.ProcessStart.{first_priority, first_process, first_start, no_parent, superuser}
+use Rattle.machine_model.specs.Terminals.{TerminalsOnlyGain}
 use Rattle.machine_model.proofs.Gains.{tick-gains}
 use Rattle.wait_laws.specs.Running.{AreOnPaths, AreRequested, IsRunning}
 use Rattle.wait_laws.proofs.Requested.{calls-then, paths-then}
@@ -278,7 +278,7 @@ arrival-left tick n old new arrives = record {
     in_calls : AreInCalls old.processes old.io → AreInCalls new.processes new.io
     in_calls all q lives waits =
         let lived : IsLiving old.processes.records q =
-            lived-key old.processes arrives.terminal.user arrives.answer.signal q (subst (λ (processes : Processes). IsLiving processes.records q) arrives.signal lives) in
+        lived-key old.processes arrives.terminal.user arrives.answer.signal q (subst (λ (processes : Processes). IsLiving processes.records q) arrives.signal lives) in
         let goes = goes-key old.processes arrives.terminal.user arrives.answer.signal q lived in
         let at : record_of new.processes.records q ≡ Some goes.new = ap (λ (processes : Processes). record_of processes.records q) arrives.signal ∙ goes.is in
         let life : (record_at new.processes.records q).life ≡ (record_at old.processes.records q).life = ap (λ (r : Record). r.life) (there-at new.processes.records q goes.new at) ∙ goes.life in

@@ -1,9 +1,9 @@
 -- What holds of every state of slices and runs.
 use Rattle.std.proofs.Common.{◌≡◌, ℕ, ◌-◌, Bool, true, false, Option, Some, None, List, [], ◌∷◌, ◌++◌, sym, subst}
 use Rattle.std.specs.Prelude.{MatchBool, MatchOption}
-use Rattle.event_rules.specs.declared.ends.SliceEnd.{SliceEnd}
-use Rattle.event_rules.specs.declared.ends.SliceEnd.TheVariants.{Idle, Ran}
-use Rattle.event_rules.specs.Console.{console_bytes, terminals_emptied}
+use Rattle.machine_model.specs.declared.ends.SliceEnd.{SliceEnd}
+use Rattle.machine_model.specs.declared.ends.SliceEnd.TheVariants.{Idle, Ran}
+use Rattle.machine_model.specs.Console.{console_bytes, terminals_emptied}
 use Rattle.machine_model.specs.Event.{cost}
 use Rattle.machine_model.specs.Run.{Run, Slice, Steps, is_going}
 use Rattle.machine_model.specs.State.{State, has_living}

@@ -17,30 +17,30 @@ use Rattle.proc_rules.specs.declared.record.SendFault.TheVariants.{NoProcess, Pe
 use Rattle.proc_rules.specs.Ends.{after_reap, reaped}
 use Rattle.proc_rules.specs.Records.{free_process, is_waiting, record_at, with_priority}
 use Rattle.proc_rules.specs.Signals.{is_reached, send_fault}
-use Rattle.user_names.specs.declared.name_fault.NameFault.{NameFault}
-use Rattle.user_names.specs.declared.name_fault.NameFault.TheVariants.{Unreadable, NoName}
-use Rattle.user_names.specs.UserNames.{name_at, user_cell}
-use Rattle.call_rules.specs.declared.proc_call.ProcCall.{ProcCall}
-use Rattle.call_rules.specs.declared.proc_call.ProcCall.TheVariants as Call
-use Rattle.call_rules.specs.Attempts.{attempted}
-use Rattle.call_rules.specs.CallResult.{CallResult, done, refused, waits, ends, needs, refuses, changes, reads_name}
-use Rattle.call_rules.specs.Chain.{f_chain, begun_anew, with_program}
-use Rattle.call_rules.specs.CmpNam.{f_cmpnam, same_names}
-use Rattle.call_rules.specs.Crc.{f_crc, crc_continued}
-use Rattle.call_rules.specs.Fork.{f_fork, with_child, forked_regs}
-use Rattle.call_rules.specs.Processes.{Processes, no_own, own_at, regs_at, user_at, cells_at, with_memory, with_own, with_records, with_regs_of}
-use Rattle.call_rules.specs.Link.{Mapped, f_link, mapped_group, links_at, after_link}
-use Rattle.call_rules.specs.Mem.{f_mem, sets_pages, resized, with_size, size_regs}
-use Rattle.call_rules.specs.ModuleLinks.{Entered, found_entry, module_at, without_module_link, without_primary_link}
-use Rattle.call_rules.specs.Program.{Program, area_pages, asks_for_program, blocks_of_pages, most_pages, page_count, program_kind, is_unreadable, module_name, name_at_x, reads_program}
-use Rattle.call_rules.specs.PrsNam.{f_prsnam, parses_name, past_slash, name_regs}
-use Rattle.call_rules.specs.SPrior.{f_sprior}
-use Rattle.call_rules.specs.Send.{f_send, after_signal}
-use Rattle.call_rules.specs.Sleep.{f_sleep, falls_asleep, may_wake, sleep_end, ticks_left}
-use Rattle.call_rules.specs.UnLink.{f_unlink, after_unlink}
-use Rattle.call_rules.specs.UnLoad.{f_unload}
-use Rattle.call_rules.specs.UserBytes.{user_bytes, d_of}
-use Rattle.call_rules.specs.Wait.{f_wait, reaped_regs}
+use Rattle.os9_base.specs.declared.name_fault.NameFault.{NameFault}
+use Rattle.os9_base.specs.declared.name_fault.NameFault.TheVariants.{Unreadable, NoName}
+use Rattle.os9_base.specs.UserNames.{name_at, user_cell}
+use Rattle.proc_rules.specs.declared.proc_call.ProcCall.{ProcCall}
+use Rattle.proc_rules.specs.declared.proc_call.ProcCall.TheVariants as Call
+use Rattle.proc_rules.specs.Attempts.{attempted}
+use Rattle.proc_rules.specs.CallResult.{CallResult, done, refused, waits, ends, needs, refuses, changes, reads_name}
+use Rattle.proc_rules.specs.Chain.{f_chain, begun_anew, with_program}
+use Rattle.proc_rules.specs.CmpNam.{f_cmpnam, same_names}
+use Rattle.proc_rules.specs.Crc.{f_crc, crc_continued}
+use Rattle.proc_rules.specs.Fork.{f_fork, with_child, forked_regs}
+use Rattle.proc_rules.specs.Processes.{Processes, no_own, own_at, regs_at, user_at, cells_at, with_memory, with_own, with_records, with_regs_of}
+use Rattle.proc_rules.specs.Link.{Mapped, f_link, mapped_group, links_at, after_link}
+use Rattle.proc_rules.specs.Mem.{f_mem, sets_pages, resized, with_size, size_regs}
+use Rattle.proc_rules.specs.ModuleLinks.{Entered, found_entry, module_at, without_module_link, without_primary_link}
+use Rattle.proc_rules.specs.Program.{Program, area_pages, asks_for_program, blocks_of_pages, most_pages, page_count, program_kind, is_unreadable, module_name, name_at_x, reads_program}
+use Rattle.proc_rules.specs.PrsNam.{f_prsnam, parses_name, past_slash, name_regs}
+use Rattle.proc_rules.specs.SPrior.{f_sprior}
+use Rattle.proc_rules.specs.Send.{f_send, after_signal}
+use Rattle.proc_rules.specs.Sleep.{f_sleep, falls_asleep, may_wake, sleep_end, ticks_left}
+use Rattle.proc_rules.specs.UnLink.{f_unlink, after_unlink}
+use Rattle.proc_rules.specs.UnLoad.{f_unload}
+use Rattle.proc_rules.specs.UserBytes.{user_bytes, d_of}
+use Rattle.proc_rules.specs.Wait.{f_wait, reaped_regs}
 
 module _ (m : Processes) (p : ℕ) where
   -- a process that waits after an attempt has the call that it had before

@@ -1,4 +1,5 @@
 mod guests;
+mod history;
 mod hosts;
 mod messages;
 mod processor;

@@ -1,6 +1,6 @@
 use Rattle.std.proofs.Common.{map}
 use Rattle.std.specs.String.{string_bytes}
-use Rattle.console_boot.proofs.RoomLemmas.{console-free}
+use Rattle.os9_console.proofs.RoomLemmas.{console-free}
 use Rattle.os9_console.proofs.run_with.Goals as goal
 
 pub console_main-requires-clause-devices : goal.console_main-requires-clause-devices

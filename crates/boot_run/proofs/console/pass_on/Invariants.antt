@@ -2,7 +2,7 @@ use Rattle.std.proofs.Common.{◌≡◌, ◌≤◌, take, All}
 use Rattle.std.specs.Vec.{vec_len}
 use Rattle.os9_outer.specs.Stream.{stream_with}
 use Rattle.device_table.specs.Seen.{terminal_states}
-use Rattle.event_rules.specs.Console.{console_bytes}
+use Rattle.machine_model.specs.Console.{console_bytes}
 use Rattle.os9_words.specs.Notes.{notes_of}
 use Rattle.boot_run.specs.Console.{IsObserved, emptied_front}
 use Rattle.boot_run.specs.World.{HasNoFault, world_of}

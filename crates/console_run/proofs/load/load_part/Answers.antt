@@ -3,7 +3,7 @@ use Rattle.std.specs.Prelude.{Err, Ok, OnErr, Result}
 use Rattle.os9_outer.specs.declared.terminal.Key.{Key}
 use Rattle.device_table.specs.Seen.{terminal_states}
 use Rattle.run_laws.specs.Session.{keys_loaded}
-use Rattle.session_text.specs.declared.typed.Typed.{Typed}
+use Rattle.console_run.specs.declared.typed.Typed.{Typed}
 use Rattle.console_run.specs.Kept.{IsKept}
 use Rattle.console_run.proofs.KeyLemmas.{own-keys, part-kept}
 use Rattle.console_run.proofs.load.load_part.Goals as goal

@@ -1,6 +1,6 @@
 use Rattle.std.proofs.Common.{◌-◌, ◌≤◌, ℕ, List, arith, drop, length, take, subst}
 use Rattle.device_table.specs.Seen.{terminal_states}
-use Rattle.session_text.specs.Typed.{keys_typed}
+use Rattle.console_run.specs.Typed.{keys_typed}
 use Rattle.console_run.specs.Turn.{LoadsKeys}
 use Rattle.console_run.proofs.PartLemmas.{part-left, part-taken}
 use Rattle.console_run.proofs.part.type_part.Goals as goal

@@ -14,7 +14,7 @@ use Rattle.boot_run.specs.Machine.{MachineCall, setup_with}
 use Rattle.boot_run.specs.World.{world_of}
 use Rattle.boot_run.proofs.MachineLemmas.{called-output, called-refused, called-whole, called-without_memory, drives-counted, drives-started, images-there, where-refused}
 use Rattle.console_run.specs.Keyboard.{keyboard_state}
-use Rattle.session_text.specs.Typed.{kept_keys, kept_slices}
+use Rattle.console_run.specs.Typed.{kept_keys, kept_slices}
 use Rattle.console_run.proofs.PartLemmas.{keeps-none}
 use Rattle.console_run.proofs.SessionLemmas.{asks-none, asks-over, never-began, never-part, not-output, session-lost, session-over, session-part, stands-begun, whole-part}
 use Rattle.console_run.proofs.session.run_session.Goals as goal

@@ -3,7 +3,7 @@ use Rattle.file_drives.specs.Drives.{drive_views}
 use Rattle.os9_kernel.specs.Outside.{outside}
 use Rattle.boot_run.specs.World.{world_of}
 use Rattle.boot_run.proofs.RunLemmas.{stands-emptied}
-use Rattle.session_text.specs.declared.typed.TheConstants.{SLICE}
+use Rattle.console_run.specs.declared.typed.TheConstants.{SLICE}
 use Rattle.console_run.proofs.PassLemmas.{breaks-turn, passes-slice, stops-turn}
 use Rattle.console_run.proofs.turn.run_turn.Goals as goal
 

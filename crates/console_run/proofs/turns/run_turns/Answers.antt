@@ -9,7 +9,7 @@ use Rattle.os9_kernel.specs.Outside.{outside}
 use Rattle.os9_kernel.specs.Tie.{ticks}
 use Rattle.boot_run.specs.World.{world_of}
 use Rattle.boot_run.proofs.RunLemmas.{none-living, some-living}
-use Rattle.session_text.specs.Typed.{kept_bytes, kept_keys, keys_typed}
+use Rattle.console_run.specs.Typed.{kept_bytes, kept_keys, keys_typed}
 use Rattle.console_run.specs.Kept.{load_of}
 use Rattle.console_run.specs.Keyboard.{keyboard_state}
 use Rattle.console_run.specs.Lines.{GaveLines}

@@ -8,7 +8,7 @@ use Rattle.boot_run.proofs.ConsoleLemmas.{nowhere}
 use Rattle.console_run.specs.Keyboard.{keyboard_state}
 use Rattle.console_run.specs.Lines.{GaveLines}
 use Rattle.console_run.specs.Turn.{console_state, rest_of}
-use Rattle.session_text.specs.Typed.{kept_bytes, kept_keys}
+use Rattle.console_run.specs.Typed.{kept_bytes, kept_keys}
 use Rattle.console_run.proofs.EndLemmas.{ComesFrom}
 use Rattle.console_run.proofs.KeyLemmas.{IsOfTerm}
 use Rattle.console_run.proofs.turns.run_turns.Given as goal

@@ -24,7 +24,7 @@ returns-clause-call g c drives m tied differ =
     let caller = caller_of m p in
     attempts-of Call.Read m c.args.io.now drives p c.read.new.s c.read.new.io _ _ c.read.result differ
     (tries-same m c.args.io.now p c.read.result c.read.new.s c.read.new.io _ _ (read_step ReadKind.Bytes caller c.args.io.now) (model.i_read caller c.args.io.now)
-        (read_step-bytes caller c.args.io.now)
+    (read_step-bytes caller c.args.io.now)
     (c.read.ensures.call m tied (c.regs-regs.ensures.regs ∙ regs-tied c.args.s.now m p tied)))
 
 pub returns-clause-memory : goal.returns-clause-memory
@@ -33,5 +33,5 @@ returns-clause-memory g c drives m tied wants =
     let caller = caller_of m p in
     wants-of m c.args.io.now p c.read.result c.read.new.s c.read.new.io _ _ (model.i_read caller c.args.io.now) wants
     (tries-same m c.args.io.now p c.read.result c.read.new.s c.read.new.io _ _ (read_step ReadKind.Bytes caller c.args.io.now) (model.i_read caller c.args.io.now)
-        (read_step-bytes caller c.args.io.now)
+    (read_step-bytes caller c.args.io.now)
     (c.read.ensures.call m tied (c.regs-regs.ensures.regs ∙ regs-tied c.args.s.now m p tied)))

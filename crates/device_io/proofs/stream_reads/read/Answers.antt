@@ -2,8 +2,8 @@ use Rattle.std.proofs.Common.{◌≡◌, ◌∙◌, is_none, is_some, sym, subst
 use Rattle.std.proofs.lemmas.Bool.{false≢true}
 use Rattle.os9_base.specs.declared.errors.TheConstants.{E_BPADDR}
 use Rattle.os9_base.specs.declared.registers.Regs.{Regs}
-use Rattle.call_rules.specs.Processes.{cells_at, regs_at}
-use Rattle.call_rules.specs.UserBytes.{user_bytes}
+use Rattle.proc_rules.specs.Processes.{cells_at, regs_at}
+use Rattle.proc_rules.specs.UserBytes.{user_bytes}
 use Rattle.guest_memory.specs.Tie.{cells_of}
 use Rattle.io_model.specs.declared.pending.PendingCall.{PendingCall}
 use Rattle.io_rules.specs.Attempts.{caller_of}
@@ -18,7 +18,7 @@ pub refuse-requires-clause-no_read : goal.refuse-requires-clause-no_read
 refuse-requires-clause-no_read g c =
     let cells = cells_of c.args.s.now.memory c.args.p.0 in
     kept-none (pending_at c.args.io.now c.args.p.0) (λ (call : PendingCall). StaysRead cells c.args.regs c.args.io.now c.args.p.0) (λ (call : PendingCall). IsNoRead c.args.io.now call)
-        c.requires.stays
+    c.requires.stays
     (λ call stays. false≢true (sym c.if-not-is_named.true ∙ c.is_named.ensures.fits.1 stays.named))
 
 pub returns-then-not-is_named-clause-call : goal.returns-then-not-is_named-clause-call

@@ -1,7 +1,7 @@
 use Rattle.std.proofs.Common.{◌≡◌, not, None, Some, sym, subst}
 use Rattle.os9_base.specs.declared.errors.TheConstants.{E_BPNUM, E_BMODE}
 use Rattle.os9_base.specs.declared.registers.Regs.{Regs}
-use Rattle.call_rules.specs.Processes.{regs_at}
+use Rattle.proc_rules.specs.Processes.{regs_at}
 use Rattle.io_rules.specs.Attempts.{caller_of}
 use Rattle.io_rules.specs.Io.{OpenPath, open_path}
 use Rattle.io_rules.specs.Modes.{can_read}

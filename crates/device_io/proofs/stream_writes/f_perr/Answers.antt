@@ -1,5 +1,5 @@
 use Rattle.std.proofs.Common.{◌≡◌, ◌∙◌, List, ℕ, length, subst, sym}
-use Rattle.call_rules.specs.Processes.{cells_at, regs_at}
+use Rattle.proc_rules.specs.Processes.{cells_at, regs_at}
 use Rattle.io_model.specs.Line.{line_length}
 use Rattle.io_rules.specs.Attempts.{caller_of}
 use Rattle.io_rules.specs.Write as model

@@ -5,7 +5,7 @@ use Rattle.device_paths.specs.Listed.{listed_by, listed_with, tails}
 use Rattle.device_paths.specs.Tail.{GoesUp}
 use Rattle.device_paths.specs.declared.names.Step.{Step}
 use Rattle.device_paths.specs.declared.names.Step.TheVariants.{Another}
-use Rattle.user_names.specs.declared.name_fault.NameFault.{NameFault}
+use Rattle.os9_base.specs.declared.name_fault.NameFault.{NameFault}
 use Rattle.device_paths.proofs.list.read_behind_device.Goals as goal
 
 pub returns-in-Another-clause-list : goal.returns-in-Another-clause-list

@@ -7,7 +7,7 @@ use Rattle.device_paths.specs.Tail.{step_by}
 use Rattle.device_paths.specs.declared.named.Named.{Named}
 use Rattle.device_paths.specs.declared.names.Step.{Step}
 use Rattle.device_paths.proofs.StandingLemmas.{first-read, names-by, next-behind}
-use Rattle.user_names.specs.declared.name_fault.NameFault.{NameFault}
+use Rattle.os9_base.specs.declared.name_fault.NameFault.{NameFault}
 use Rattle.device_paths.proofs.named.read_name.Goals as goal
 
 pub returns-clause-names : goal.returns-clause-names

@@ -3,7 +3,7 @@ use Rattle.guest_memory.specs.Tie.{cells_of}
 use Rattle.io_rules.specs.PathList.{names_at, names_behind}
 use Rattle.os9_base.specs.Cells.{Cells}
 use Rattle.device_paths.specs.Tail.{tail_of, tail_after}
-use Rattle.user_names.specs.declared.name_fault.NameFault.{NameFault}
+use Rattle.os9_base.specs.declared.name_fault.NameFault.{NameFault}
 use Rattle.device_paths.proofs.names.read_step.Goals as goal
 
 pub returns-clause-step : goal.returns-clause-step

@@ -5,7 +5,7 @@ use Rattle.os9_base.specs.Cells.{Cells}
 use Rattle.device_paths.specs.Tail.{tail_of, GoesUp}
 use Rattle.device_paths.specs.declared.names.Step.{Step}
 use Rattle.device_paths.specs.declared.names.Step.TheVariants.{Another, Last}
-use Rattle.user_names.specs.declared.name_fault.NameFault.{NameFault}
+use Rattle.os9_base.specs.declared.name_fault.NameFault.{NameFault}
 use Rattle.device_paths.proofs.NamesLemmas.{no-names_yet, of-same, next-name, names-end, same-still, same-memory}
 use Rattle.device_paths.proofs.names.read_tail.Goals as goal
 

@@ -2,7 +2,7 @@ use Rattle.std.proofs.Common.{◌≡◌, ◌∙◌, ◌+◌, ◌<◌, ℕ, Some,
 use Rattle.guest_memory.specs.Tie.{cells_of}
 use Rattle.io_rules.specs.PathList.{behind, behind_slash, is_marked}
 use Rattle.os9_base.specs.Cells.{Cells}
-use Rattle.user_names.specs.UserNames.{user_cell}
+use Rattle.os9_base.specs.UserNames.{user_cell}
 use Rattle.device_paths.proofs.NamesLemmas.{behind-slash_at}
 use Rattle.device_paths.proofs.names.what_follows.Goals as goal
 

@@ -1,8 +1,8 @@
 use Rattle.std.proofs.Common.{◌∙◌, not, Result, Err, vec_len, sym, ap}
 use Rattle.os9_base.specs.declared.errors.TheConstants.{E_BMODE, E_BPNAM}
 use Rattle.os9_base.specs.declared.registers.Regs.{Regs}
-use Rattle.user_names.specs.declared.name_fault.NameFault.{NameFault}
-use Rattle.call_rules.specs.Processes.{cells_at, regs_at}
+use Rattle.os9_base.specs.declared.name_fault.NameFault.{NameFault}
+use Rattle.proc_rules.specs.Processes.{cells_at, regs_at}
 use Rattle.io_rules.specs.Attempts.{caller_of}
 use Rattle.io_rules.specs.PathList.{path_list}
 use Rattle.io_rules.specs.Step.{IoStep, refused, refuses}

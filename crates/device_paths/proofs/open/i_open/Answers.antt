@@ -1,5 +1,5 @@
 use Rattle.std.proofs.Common.{ℕ, List, length, vec_len, sym, subst}
-use Rattle.call_rules.specs.Processes.{regs_at}
+use Rattle.proc_rules.specs.Processes.{regs_at}
 use Rattle.io_rules.specs.Attempts.{caller_of}
 use Rattle.io_rules.specs.Lead.{what_is_there}
 use Rattle.io_rules.specs.Modes.{is_mode}

@@ -2,7 +2,7 @@ use Rattle.std.proofs.Common.{◌≡◌, ◌∙◌, ℕ, nat_le, true, false, So
 use Rattle.os9_base.specs.Cells.{FitsIn}
 use Rattle.os9_base.specs.declared.call.CallEnd.{CallEnd}
 use Rattle.os9_base.specs.declared.registers.Regs.{Regs}
-use Rattle.call_rules.specs.Processes.{Processes, regs_at}
+use Rattle.proc_rules.specs.Processes.{Processes, regs_at}
 use Rattle.guest_memory.specs.Tie.{cells_of}
 use Rattle.io_rules.specs.Io.{Io}
 use Rattle.lock_model.specs.Laws.{Covers}

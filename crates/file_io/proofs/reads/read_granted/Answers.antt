@@ -1,7 +1,7 @@
 use Rattle.std.proofs.Common.{◌≡◌, ◌∙◌, ℕ, ◌≤◌, List, Option, None, Some, Ok, take, ap, sym, refl, subst, arith}
 use Rattle.os9_base.specs.declared.call.CallEnd.{CallEnd}
 use Rattle.os9_base.specs.declared.registers.Regs.{Regs}
-use Rattle.call_rules.specs.Processes.{regs_at}
+use Rattle.proc_rules.specs.Processes.{regs_at}
 use Rattle.proc_rules.specs.Records.{record_at}
 use Rattle.proc_rules.specs.declared.record.Record.{Record}
 use Rattle.rbf_access.specs.Reading.{read_calls}

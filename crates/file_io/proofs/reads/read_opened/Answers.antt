@@ -1,8 +1,8 @@
 use Rattle.std.proofs.Common.{◌≡◌, ◌∙◌, is_none, is_some, subst}
 use Rattle.os9_base.specs.declared.errors.TheConstants.{E_BPADDR}
 use Rattle.os9_base.specs.declared.registers.Regs.{Regs}
-use Rattle.call_rules.specs.Processes.{cells_at, regs_at}
-use Rattle.call_rules.specs.UserBytes.{user_bytes}
+use Rattle.proc_rules.specs.Processes.{cells_at, regs_at}
+use Rattle.proc_rules.specs.UserBytes.{user_bytes}
 use Rattle.file_rules.specs.Attempts.{asker_of}
 use Rattle.file_state.specs.declared.state.FileState.{FileState}
 use Rattle.file_io.proofs.TryingLemmas.{ends-refuses-false, ends-refuses-true, none-of, regs-tied, some-of, tries-refused}

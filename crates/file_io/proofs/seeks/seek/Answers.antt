@@ -1,6 +1,6 @@
 use Rattle.std.proofs.Common.{◌≡◌, ◌∙◌, ℕ, None, ap, refl, subst}
 use Rattle.os9_base.specs.declared.registers.Regs.{Regs}
-use Rattle.call_rules.specs.Processes.{regs_at, with_regs_of}
+use Rattle.proc_rules.specs.Processes.{regs_at, with_regs_of}
 use Rattle.io_rules.specs.Io.{Io, with_call}
 use Rattle.proc_state.specs.Tie.{Represents}
 use Rattle.file_rules.specs.Attempts.{asker_of}

@@ -1,5 +1,5 @@
 use Rattle.std.proofs.Common.{◌≡◌, ◌∙◌, ◌<◌, ℕ, Option, Some, None, List, length, option_map, take, ap, sym, subst, arith, length-take}
-use Rattle.call_rules.specs.Processes.{cells_at}
+use Rattle.proc_rules.specs.Processes.{cells_at}
 use Rattle.device_io.proofs.LineLemmas.{line-is, line-same}
 use Rattle.io_rules.specs.Transfer.{line_at}
 use Rattle.lock_model.specs.Locks.{Locks, request_of}

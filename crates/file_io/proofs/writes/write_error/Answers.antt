@@ -2,7 +2,7 @@ use Rattle.std.proofs.Common.{◌≡◌, ◌∙◌, Bool, Option, not, sym, ap, 
 use Rattle.std.specs.Option.{option_map_or}
 use Rattle.os9_base.specs.declared.errors.TheConstants.{E_BMODE}
 use Rattle.os9_base.specs.declared.registers.Regs.{Regs}
-use Rattle.call_rules.specs.Processes.{regs_at}
+use Rattle.proc_rules.specs.Processes.{regs_at}
 use Rattle.io_rules.specs.Modes.{can_write}
 use Rattle.io_rules.specs.Write.{error_line}
 use Rattle.io_rules.specs.declared.modes.TheConstants.{STANDARD_ERROR}

@@ -1,6 +1,6 @@
 use Rattle.std.proofs.Common.{◌≡◌, ◌+◌, ◌<◌, ◌^◌, ℕ, List, length, take, sym, ap, refl, subst, arith}
 use Rattle.std.proofs.lemmas.List.{length-take-le}
-use Rattle.call_rules.specs.Processes.{user_at}
+use Rattle.proc_rules.specs.Processes.{user_at}
 use Rattle.file_drives.specs.Calls.{writing_calls}
 use Rattle.file_drives.specs.Changed.{file_answer}
 use Rattle.file_rules.specs.Change.{writes}

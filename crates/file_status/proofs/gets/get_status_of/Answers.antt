@@ -1,6 +1,6 @@
 use Rattle.std.proofs.Common.{◌≡◌, ap, subst, arith}
 use Rattle.os9_base.specs.declared.registers.Regs.{Regs}
-use Rattle.call_rules.specs.Processes.{regs_at, with_regs_of}
+use Rattle.proc_rules.specs.Processes.{regs_at, with_regs_of}
 use Rattle.proc_state.specs.Tie.{Represents}
 use Rattle.file_status.proofs.CodeLemmas.{by-code, getting-unknown, position-told, ready-told}
 use Rattle.file_status.proofs.gets.get_status_of.Goals as goal

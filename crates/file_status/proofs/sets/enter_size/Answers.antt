@@ -1,6 +1,6 @@
 use Rattle.std.proofs.Common.{◌≡◌, ◌≢◌, ◌∙◌, None, ap, refl, sym, subst}
 use Rattle.os9_base.specs.declared.registers.Regs.{Regs}
-use Rattle.call_rules.specs.Processes.{with_regs_of}
+use Rattle.proc_rules.specs.Processes.{with_regs_of}
 use Rattle.io_rules.specs.Io.{with_call}
 use Rattle.lock_model.specs.Records.{Records}
 use Rattle.proc_rules.specs.Records.{record_at}

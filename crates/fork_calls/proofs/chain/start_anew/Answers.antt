@@ -1,10 +1,10 @@
 use Rattle.std.proofs.Common.{subst, take}
 use Rattle.std.proofs.lemmas.Result.{err_from_is_err_and}
-use Rattle.call_rules.specs.Chain.{begun_anew, with_program}
-use Rattle.call_rules.specs.Processes.{Processes, own_at}
-use Rattle.call_rules.specs.ModuleLinks.{without_primary_link}
-use Rattle.call_rules.specs.Program.{Program}
-use Rattle.module_calls.proofs.Steps.{refused-answers, done-answers}
+use Rattle.proc_rules.specs.Chain.{begun_anew, with_program}
+use Rattle.proc_rules.specs.Processes.{Processes, own_at}
+use Rattle.proc_rules.specs.ModuleLinks.{without_primary_link}
+use Rattle.proc_rules.specs.Program.{Program}
+use Rattle.proc_calls.proofs.Steps.{refused-answers, done-answers}
 use Rattle.proc_state.specs.Tie.{Represents}
 use Rattle.fork_calls.specs.Naming.{meant}
 use Rattle.fork_calls.specs.Starting.{starts_anew}

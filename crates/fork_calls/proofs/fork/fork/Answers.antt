@@ -1,8 +1,8 @@
 use Rattle.std.proofs.Common.{sym, subst}
 use Rattle.std.proofs.lemmas.Result.{err_from_is_err_and}
-use Rattle.call_rules.specs.CallResult.{CallResult}
-use Rattle.call_rules.specs.Fork.{f_fork}
-use Rattle.module_calls.proofs.Steps.{refused-answers}
+use Rattle.proc_rules.specs.CallResult.{CallResult}
+use Rattle.proc_rules.specs.Fork.{f_fork}
+use Rattle.proc_calls.proofs.Steps.{refused-answers}
 use Rattle.proc_state.specs.Tie.{Answers}
 use Rattle.fork_calls.specs.Starting.{starts_child}
 use Rattle.fork_calls.proofs.fork.fork.Goals as goal

@@ -3,11 +3,11 @@ use Rattle.std.proofs.lemmas.Result.{err_from_is_err_and}
 use Rattle.os9_base.specs.declared.errors.TheConstants.{E_PRCFUL}
 use Rattle.os9_base.specs.declared.registers.Regs.{Regs}
 use Rattle.proc_rules.specs.Records.{free_process}
-use Rattle.call_rules.specs.Fork.{with_child, forked_regs}
-use Rattle.call_rules.specs.Chain.{with_program}
-use Rattle.call_rules.specs.Processes.{Processes, regs_at, with_regs_of}
-use Rattle.call_rules.specs.Program.{Program}
-use Rattle.module_calls.proofs.Steps.{refused-answers, done-answers, refused-alone}
+use Rattle.proc_rules.specs.Fork.{with_child, forked_regs}
+use Rattle.proc_rules.specs.Chain.{with_program}
+use Rattle.proc_rules.specs.Processes.{Processes, regs_at, with_regs_of}
+use Rattle.proc_rules.specs.Program.{Program}
+use Rattle.proc_calls.proofs.Steps.{refused-answers, done-answers, refused-alone}
 use Rattle.proc_state.specs.Tie.{Represents}
 use Rattle.fork_calls.specs.Loading.{with_new_child}
 use Rattle.fork_calls.specs.Naming.{meant}

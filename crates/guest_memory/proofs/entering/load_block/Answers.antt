@@ -2,7 +2,7 @@ use Rattle.std.proofs.Common.{◌≡◌, arith}
 use Rattle.std.proofs.lemmas.Bool.{some_since}
 use Rattle.block_pool.specs.Blocks.{IsPool, IsFreeBlock, pool_after_take}
 use Rattle.block_map.proofs.Counts.{no_zeros}
-use Rattle.memory_laws.proofs.Gains.{Gains-written}
+use Rattle.guest_memory.proofs.Gains.{Gains-written}
 use Rattle.guest_memory.proofs.entering.load_block.Goals as goal
 
 pub unwrap-id-requires : goal.unwrap-id-requires

@@ -5,8 +5,8 @@ use Rattle.std.proofs.lemmas.List.{length-set, length-drop, drop-drop, take_more
 use Rattle.std.proofs.lemmas.List.FromFn.{map-range_with_len_more}
 use Rattle.proc_model.specs.declared.group.BlockId.{BlockId}
 use Rattle.proc_model.specs.Objects.{file_block, file_blocks}
-use Rattle.memory_laws.specs.Gains.{GainsBlocks}
-use Rattle.memory_laws.proofs.Gains.{Gains-then, part-of, block_of-part}
+use Rattle.guest_memory.specs.Gains.{GainsBlocks}
+use Rattle.guest_memory.proofs.Gains.{Gains-then, part-of, block_of-part}
 use Rattle.guest_memory.proofs.entering.load_group.Goals as goal
 
 pub loop-part-preserved : goal.loop-part-preserved

@@ -3,7 +3,7 @@ use Rattle.std.specs.List.{range_with_len}
 use Rattle.std.specs.Slice.Iter.{chunks_rest, chunks_size}
 use Rattle.block_pool.specs.Blocks.{IsPool, free_block_count}
 use Rattle.proc_model.specs.Objects.{file_block, file_blocks}
-use Rattle.memory_laws.specs.Gains.{GainsBlocks}
+use Rattle.guest_memory.specs.Gains.{GainsBlocks}
 use Rattle.guest_memory.proofs.entering.load_group.Given as goal
 
 -- the first blocks of the file are loaded, and the others are to come

@@ -1,5 +1,5 @@
 use Rattle.std.proofs.Common.{rules, ◌≡◌, ◌<◌, true, None, length, arith, ap, sym, ◌∙◌}
-use Rattle.memory_laws.proofs.MappedGroups.{names_number, position-first}
+use Rattle.guest_memory.proofs.MappedGroups.{names_number, position-first}
 use Rattle.guest_memory.proofs.groups.slot_of.Goals as goal
 
 pub returns-then-is_some_and : goal.returns-then-is_some_and

@@ -1,6 +1,6 @@
 use Rattle.std.proofs.Common.{◌≡◌, ◌<◌, ℕ, false, None, get_or}
 use Rattle.proc_model.specs.Slots.{IsMap}
-use Rattle.memory_laws.proofs.MappedGroups.{names_number}
+use Rattle.guest_memory.proofs.MappedGroups.{names_number}
 use Rattle.guest_memory.proofs.groups.slot_of.Given as goal
 
 abbrev pub invariant-loop-slot : goal.invariant-loop-slot

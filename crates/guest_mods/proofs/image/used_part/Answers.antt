@@ -1,7 +1,7 @@
 -- The parts stand one behind the other.
 use Rattle.std.proofs.Common.{◌≡◌, ◌+◌, ◌++◌, ℕ, List, [], length, arith, ap, ◌∙◌}
 use Rattle.guest_mods.specs.BootDisk.{ident_front, root_front, root_entries, file_front, used_sectors, sector_with}
-use Rattle.blank_disk.specs.Image.{marks_map}
+use Rattle.vol_tools.specs.Image.{marks_map}
 use Rattle.guest_mods.proofs.Parts.{parts-put}
 use Rattle.guest_mods.proofs.image.used_part.Goals as goal
 

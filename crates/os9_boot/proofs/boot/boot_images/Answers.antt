@@ -10,7 +10,7 @@ use Rattle.os9_words.specs.declared.command.Command.TheVariants.{Boot as BootCom
 use Rattle.boot_run.specs.Machine.{history_left}
 use Rattle.boot_run.specs.World.{world_of}
 use Rattle.os9_boot.specs.History.{output_bytes, outputs_of}
-use Rattle.command_files.specs.FileNames.{run_inputs}
+use Rattle.boot_run.specs.FileNames.{run_inputs}
 use Rattle.os9_boot.proofs.NameLemmas.{behind-end, behind-images, behind-texts, images-unwritten, names-read, names-stopped, names-written, texts-unwritten}
 use Rattle.os9_boot.proofs.boot.boot_images.Goals as goal
 

@@ -4,7 +4,7 @@ use Rattle.rbf_check.specs.Tree.{IsTreeOf}
 use Rattle.os9_words.specs.declared.command.Command.TheVariants.{Check as CheckCommand}
 use Rattle.os9_boot.proofs.BootCallLemmas.{out-of-memory, stopped-call}
 use Rattle.os9_boot.proofs.CheckLemmas.{counts-printed, image-faulted, printed-after}
-use Rattle.command_files.specs.declared.status.End.TheVariants.{NoMemory, BadImage}
+use Rattle.boot_run.specs.declared.status.End.TheVariants.{NoMemory, BadImage}
 use Rattle.os9_boot.proofs.NameLemmas.{behind-print, names-read, names-stopped}
 use Rattle.os9_boot.proofs.check.check_image.Goals as goal
 

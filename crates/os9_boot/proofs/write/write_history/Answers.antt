@@ -1,5 +1,5 @@
 use Rattle.std.proofs.Common.{◌∙◌, refl, inl}
-use Rattle.command_files.proofs.ReadLemmas.{written-none}
+use Rattle.boot_run.proofs.ReadLemmas.{written-none}
 use Rattle.os9_boot.proofs.WriteLemmas.{none-yet, text-failed, text-wanting, text-written}
 use Rattle.os9_boot.proofs.write.write_history.Goals as goal
 

@@ -2,7 +2,7 @@
 use Rattle.std.proofs.Common.{◌+◌, ◌≤◌, arith, pos, FitsSigned, w8, w16}
 use Rattle.std.proofs.lemmas.Int.{to_z-of_z}
 use Rattle.jiff.proofs.SpanFacts.{signed_arith}
-use Rattle.civil_time.specs.CivilTime.{packet_time}
+use Rattle.time_rules.specs.CivilTime.{packet_time}
 use Rattle.os9_clock.proofs.CalendarTie.{parts-of, is_date, is_clock}
 use Rattle.os9_clock.proofs.time.civil_time.Goals as goal
 

@@ -1,6 +1,6 @@
 -- A time of the same day.
 use Rattle.std.proofs.Common.{arith}
-use Rattle.civil_time.specs.CivilTime.{packet_time}
+use Rattle.time_rules.specs.CivilTime.{packet_time}
 use Rattle.os9_clock.proofs.CalendarTie.{same_packet}
 use Rattle.os9_clock.proofs.time.time_at.Goals as goal
 

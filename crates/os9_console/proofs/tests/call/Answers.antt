@@ -1,7 +1,8 @@
 use Rattle.std.proofs.Common.{◌≡◌, length, arith}
 use Rattle.std.proofs.lemmas.List.Elements.{All-nil}
-use Rattle.boot_images.specs.Drives.{IsEmpty}
+use Rattle.boot_run.specs.Drives.{IsEmpty}
 use Rattle.os9_boot.proofs.RoomLemmas.{four-drives}
+use Rattle.os9_console.proofs.tests.call.OwnLists.{own-1}
 use Rattle.os9_console.proofs.tests.call.Goals as goal
 
 pub call_over-requires-clause-drives : goal.call_over-requires-clause-drives
@@ -15,6 +16,6 @@ call_over-requires-clause-drives c =
       c.in_ok-add_drive-3.ensures.count,
       c.in_ok-add_drive-4.ensures.count,
     ) in
-    four-drives _ c.add_drive-4.new.drives.items four (c.in_ok-add_drive-4.ensures.empty
+    four-drives (λ box. (own-1.entry box.vtable).1) c.add_drive-4.new.drives.items four (c.in_ok-add_drive-4.ensures.empty
     (c.in_ok-add_drive-3.ensures.empty (c.in_ok-add_drive-2.ensures.empty (c.in_ok-add_drive.ensures.empty
     (rw c.new-drives.ensures.items (All-nil IsEmpty))))))

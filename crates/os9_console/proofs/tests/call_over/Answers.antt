@@ -1,7 +1,7 @@
 use Rattle.std.proofs.Common.{map}
 use Rattle.std.specs.String.{string_bytes}
 use Rattle.os9_boot.proofs.RoomLemmas.{free-for}
-use Rattle.console_boot.proofs.RoomLemmas.{console-free}
+use Rattle.os9_console.proofs.RoomLemmas.{console-free}
 use Rattle.os9_console.proofs.tests.call_over.Goals as goal
 
 pub console_main-status-requires-clause-devices : goal.console_main-status-requires-clause-devices

@@ -1,8 +1,8 @@
 -- The commands below the index are done, and what they show is put.
 use Rattle.std.proofs.Common.{◌≡◌}
 use Rattle.std.specs.Vec.{vec_len}
-use Rattle.event_rules.specs.Start.{Refuses}
-use Rattle.event_rules.specs.declared.ends.BootFault.{BootFault}
+use Rattle.machine_model.specs.ProcessStart.{Refuses}
+use Rattle.machine_model.specs.declared.ends.BootFault.{BootFault}
 use Rattle.os9_kernel.specs.Outside.{outside}
 use Rattle.os9_words.specs.Notes.{notes_of}
 use Rattle.boot_run.specs.World.{HasNoFault, world_of}

@@ -3,8 +3,8 @@ use Rattle.std.specs.Prelude.{IfSome}
 use Rattle.std.proofs.lemmas.Result.{err_from_is_err_and}
 use Rattle.os9_outer.specs.Host.{file_contents}
 use Rattle.boot_run.specs.World.{World}
-use Rattle.command_files.specs.FileNames.{script_names}
-use Rattle.command_files.proofs.ReadLemmas.{only-one, read-only, read-then, stop-before, stop-behind, stop-only, stops-after}
+use Rattle.boot_run.specs.FileNames.{script_names}
+use Rattle.boot_run.proofs.ReadLemmas.{only-one, read-only, read-then, stop-before, stop-behind, stop-only, stops-after}
 use Rattle.os9_debug.specs.Debug.{debug_file_name}
 use Rattle.os9_debug.proofs.FileLemmas.{has-files, notes-so, stops-so}
 use Rattle.os9_debug.proofs.files.read_files.Goals as goal

@@ -3,8 +3,8 @@ use Rattle.os9_base.specs.declared.call.CallEnd.{CallEnd}
 use Rattle.os9_base.specs.declared.call.CallEnd.TheVariants.{Error}
 use Rattle.os9_base.specs.declared.errors.TheConstants.{E_BPADDR}
 use Rattle.os9_base.specs.declared.registers.Regs.{Regs}
-use Rattle.call_rules.specs.Processes.{Processes, cells_at, regs_at}
-use Rattle.call_rules.specs.PrsNam.{past_slash, parses_name}
+use Rattle.proc_rules.specs.Processes.{Processes, cells_at, regs_at}
+use Rattle.proc_rules.specs.PrsNam.{past_slash, parses_name}
 use Rattle.guest_memory.specs.Tie.{cells_of}
 use Rattle.proc_rules.specs.Records.{AreRecords, IsLiving, record_at}
 use Rattle.proc_state.specs.declared.state.ProcState.{ProcState}

@@ -5,9 +5,9 @@ use Rattle.rbf_model.specs.Geometry.{sector}
 use Rattle.rbf_model.specs.File.{file_at}
 use Rattle.rbf_model.specs.Space.{owned}
 use Rattle.rbf_sector.specs.Ident.{geometry_of}
-use Rattle.rbf_reach.specs.declared.file.FoundFile.{FoundFile}
-use Rattle.rbf_reach.specs.Files.{AreFiles, found_numbers}
-use Rattle.rbf_reach.proofs.FoundFiles.{file_on, at_number, as_many, file_reached}
+use Rattle.rbf_sector_rules.specs.declared.file.FoundFile.{FoundFile}
+use Rattle.rbf_sector_rules.specs.Files.{AreFiles, found_numbers}
+use Rattle.rbf_sector_rules.proofs.FoundFiles.{file_on, at_number, as_many, file_reached}
 use Rattle.rbf_check.specs.Clusters.{NotesClusters, AreUsed}
 use Rattle.rbf_check.proofs.Noted.{used_more}
 use Rattle.rbf_check.proofs.clusters.list_used.Goals as goal

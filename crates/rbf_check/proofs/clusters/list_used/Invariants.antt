@@ -1,7 +1,7 @@
 use Rattle.rbf_model.specs.Disk.{disk_of}
 use Rattle.std.proofs.Common.{take}
 use Rattle.rbf_model.specs.Geometry.{sector}
-use Rattle.rbf_reach.specs.Files.{found_numbers}
+use Rattle.rbf_sector_rules.specs.Files.{found_numbers}
 use Rattle.rbf_sector.specs.Ident.{geometry_of}
 use Rattle.rbf_check.specs.Clusters.{AreUsed}
 use Rattle.rbf_check.proofs.clusters.list_used.Given as goal

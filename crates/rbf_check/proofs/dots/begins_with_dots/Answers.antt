@@ -1,4 +1,4 @@
-use Rattle.rbf_reach.specs.Reading.{listed}
+use Rattle.rbf_sector_rules.specs.Reading.{listed}
 use Rattle.rbf_check.proofs.Dotting.{too_short}
 use Rattle.rbf_check.proofs.dots.begins_with_dots.Goals as goal
 

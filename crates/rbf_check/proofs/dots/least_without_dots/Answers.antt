@@ -2,11 +2,11 @@ use Rattle.rbf_model.specs.Disk.{disk_of}
 use Rattle.std.proofs.Common.{arith, get_or}
 use Rattle.rbf_model.specs.Geometry.{sector}
 use Rattle.rbf_sector.specs.Ident.{geometry_of}
-use Rattle.rbf_reach.specs.Least.{IsLeast}
+use Rattle.rbf_sector_rules.specs.Least.{IsLeast}
 use Rattle.rbf_check.specs.Dots.{IsWithoutDots}
-use Rattle.rbf_reach.specs.Files.{found_numbers}
-use Rattle.rbf_reach.proofs.FoundFiles.{file_on, at_number, as_many}
-use Rattle.rbf_reach.proofs.Leasts.{least_next}
+use Rattle.rbf_sector_rules.specs.Files.{found_numbers}
+use Rattle.rbf_sector_rules.proofs.FoundFiles.{file_on, at_number, as_many}
+use Rattle.rbf_sector_rules.proofs.Leasts.{least_next}
 use Rattle.rbf_check.proofs.Dotting.{file_after, least_without, dots_decided}
 use Rattle.rbf_check.proofs.dots.least_without_dots.Goals as goal
 

@@ -2,9 +2,9 @@ use Rattle.std.proofs.Common.{◌≡◌, ◌∙◌, ℕ, refl, subst, arith, rul
 use Rattle.std.specs.Prelude.{MatchBool}
 use Rattle.rbf_model.specs.Geometry.{sector}
 use Rattle.rbf_sector.specs.Ident.{geometry_of}
-use Rattle.rbf_reach.specs.Reading.{listed}
+use Rattle.rbf_sector_rules.specs.Reading.{listed}
 use Rattle.rbf_check.specs.Dots.{BeginsWithDots}
-use Rattle.rbf_reach.proofs.Headers.{header_of}
+use Rattle.rbf_sector_rules.proofs.Headers.{header_of}
 use Rattle.rbf_check.proofs.Dotting.{answer_true, answer_must, nothing_marked, dotted_root, dotted_more, dotted_are, number_linked}
 use Rattle.rbf_check.proofs.dots.list_dotted.Goals as goal
 

@@ -1,6 +1,6 @@
 use Rattle.std.proofs.Common.{ℕ, ◌∙◌, subst, arith}
 use Rattle.std.specs.Prelude.{MatchBool}
-use Rattle.rbf_reach.specs.Reading.{listed}
+use Rattle.rbf_sector_rules.specs.Reading.{listed}
 use Rattle.rbf_check.specs.Dots.{BeginsWithDots}
 use Rattle.rbf_check.proofs.Dotting.{answer_true, marks_one}
 use Rattle.rbf_check.proofs.dots.mark_dots.Goals as goal

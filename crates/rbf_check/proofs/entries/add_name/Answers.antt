@@ -1,5 +1,5 @@
 use Rattle.std.proofs.Common.{◌∙◌, ◌+◌, ◌*◌, ◌≤◌, ap, length, None, Some, arith}
-use Rattle.rbf_reach.specs.Reading.{listed}
+use Rattle.rbf_sector_rules.specs.Reading.{listed}
 use Rattle.rbf_check.proofs.Keyed.{is_free, is_entry, name_is, named_past, no_name, name_dot, name_dot_dot, named_or_not}
 use Rattle.rbf_check.proofs.entries.add_name.Goals as goal
 

@@ -1,5 +1,5 @@
 use Rattle.rbf_check.specs.Keys.{AreNamed}
-use Rattle.rbf_reach.specs.Reading.{listed}
+use Rattle.rbf_sector_rules.specs.Reading.{listed}
 use Rattle.rbf_check.proofs.entries.is_well_named.Given as goal
 
 abbrev pub invariant-loop-i : goal.invariant-loop-i

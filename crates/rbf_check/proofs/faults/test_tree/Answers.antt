@@ -2,7 +2,7 @@ use Rattle.rbf_model.specs.Disk.{disk_of}
 use Rattle.std.proofs.Common.{arith}
 use Rattle.rbf_model.specs.Geometry.{sector}
 use Rattle.rbf_sector.specs.Ident.{geometry_of}
-use Rattle.rbf_reach.proofs.Headers.{header_of}
+use Rattle.rbf_sector_rules.proofs.Headers.{header_of}
 use Rattle.rbf_check.specs.Verdict.{IsLeastError}
 use Rattle.rbf_check.proofs.Verdicts.{keeps, passed, stopped, handed_on}
 use Rattle.rbf_check.proofs.faults.test_tree.Goals as goal

@@ -1,6 +1,6 @@
 use Rattle.std.proofs.Common.{sym, ◌∙◌, None}
 use Rattle.std.proofs.lemmas.List.{get_or_read}
-use Rattle.rbf_reach.proofs.Tables.{given_new}
+use Rattle.rbf_sector_rules.proofs.Tables.{given_new}
 use Rattle.rbf_check.proofs.links.first_of.Goals as goal
 
 pub returns-in-None-clause-noted : goal.returns-in-None-clause-noted

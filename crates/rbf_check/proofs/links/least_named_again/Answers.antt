@@ -1,11 +1,11 @@
 use Rattle.std.proofs.Common.{◌≡◌, ◌∙◌, ℕ, arith, rules, length, replicate, None, subst}
 use Rattle.rbf_model.specs.Geometry.{sector}
 use Rattle.rbf_sector.specs.Ident.{geometry_of}
-use Rattle.rbf_reach.specs.Least.{IsLeast, Before}
+use Rattle.rbf_sector_rules.specs.Least.{IsLeast, Before}
 use Rattle.rbf_check.specs.Named.{AreFirsts, IsNamedAgain}
-use Rattle.rbf_reach.proofs.Leasts.{least_before, least_next}
-use Rattle.rbf_reach.proofs.Tables.{none_filled}
-use Rattle.rbf_reach.proofs.Headers.{header_of}
+use Rattle.rbf_sector_rules.proofs.Leasts.{least_before, least_next}
+use Rattle.rbf_sector_rules.proofs.Tables.{none_filled}
+use Rattle.rbf_sector_rules.proofs.Headers.{header_of}
 use Rattle.rbf_check.proofs.Naming.{firsts_none, numbers_below, least_again}
 use Rattle.rbf_check.proofs.links.least_named_again.Goals as goal
 

@@ -1,5 +1,5 @@
 use Rattle.std.proofs.Common.{◌≡◌, length}
-use Rattle.rbf_reach.specs.Least.{IsLeast, Before}
+use Rattle.rbf_sector_rules.specs.Least.{IsLeast, Before}
 use Rattle.rbf_check.specs.Named.{AreFirsts, IsNamedAgain}
 use Rattle.rbf_check.proofs.links.least_named_again.Given as goal
 

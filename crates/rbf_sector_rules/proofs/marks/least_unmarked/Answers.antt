@@ -2,12 +2,12 @@ use Rattle.rbf_model.specs.Disk.{disk_of}
 use Rattle.std.proofs.Common.{ℕ, List, arith, get_or, subst, sym}
 use Rattle.rbf_model.specs.Geometry.{sector}
 use Rattle.rbf_sector.specs.Ident.{geometry_of}
-use Rattle.rbf_reach.specs.Least.{IsLeast}
+use Rattle.rbf_sector_rules.specs.Least.{IsLeast}
 use Rattle.rbf_sector_rules.specs.Nexts.{AreNexts}
 use Rattle.rbf_sector_rules.specs.Used.{IsUnmarked, IsUnmarkedIn, used_by}
-use Rattle.rbf_reach.specs.Files.{found_numbers}
-use Rattle.rbf_reach.proofs.FoundFiles.{file_on, at_number, as_many, file_reached}
-use Rattle.rbf_reach.proofs.Leasts.{least_next}
+use Rattle.rbf_sector_rules.specs.Files.{found_numbers}
+use Rattle.rbf_sector_rules.proofs.FoundFiles.{file_on, at_number, as_many, file_reached}
+use Rattle.rbf_sector_rules.proofs.Leasts.{least_next}
 use Rattle.rbf_sector_rules.proofs.Unmarked.{least_unmarked_is}
 use Rattle.rbf_sector_rules.proofs.marks.least_unmarked.Goals as goal
 

@@ -5,7 +5,7 @@ use Rattle.std.specs.List.{range_with_len}
 use Rattle.rbf_model.specs.Geometry.{sector}
 use Rattle.rbf_model.specs.Segments.{sectors_of}
 use Rattle.rbf_sector.specs.Ident.{geometry_of}
-use Rattle.rbf_reach.specs.Least.{IsLeast}
+use Rattle.rbf_sector_rules.specs.Least.{IsLeast}
 use Rattle.rbf_sector_rules.specs.Used.{IsUnmarked, IsUnmarkedIn}
 use Rattle.rbf_sector_rules.proofs.Owned.{AreRuns, runs_are}
 use Rattle.rbf_sector_rules.proofs.NextTables.{least_of_run}

@@ -3,7 +3,7 @@ use Rattle.std.proofs.Common.{take}
 use Rattle.rbf_model.specs.Geometry.{sector}
 use Rattle.rbf_model.specs.Segments.{sectors_of}
 use Rattle.rbf_sector.specs.Ident.{geometry_of}
-use Rattle.rbf_reach.specs.Least.{IsLeast}
+use Rattle.rbf_sector_rules.specs.Least.{IsLeast}
 use Rattle.rbf_sector_rules.specs.Used.{IsUnmarkedIn}
 use Rattle.rbf_sector_rules.proofs.marks.least_unmarked_of.Given as goal
 

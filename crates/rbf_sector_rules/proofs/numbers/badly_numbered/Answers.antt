@@ -3,7 +3,7 @@ use Rattle.std.proofs.lemmas.Bool.{MatchBool-at_false}
 use Rattle.rbf_model.specs.Fields.{segments_field}
 use Rattle.rbf_model.specs.Geometry.{sector}
 use Rattle.rbf_sector.specs.Ident.{geometry_of}
-use Rattle.rbf_reach.specs.Reading.{listed}
+use Rattle.rbf_sector_rules.specs.Reading.{listed}
 use Rattle.rbf_sector_rules.specs.Rules.{HasBadNumber}
 use Rattle.rbf_sector_rules.proofs.Numbered.{none_broken}
 use Rattle.rbf_sector_rules.proofs.numbers.badly_numbered.Goals as goal

@@ -3,11 +3,11 @@ use Rattle.std.proofs.Common.{◌≡◌, ◌*◌, ◌<◌, List, ℕ, Some, None
 use Rattle.std.proofs.lemmas.Bool.{false≢true}
 use Rattle.rbf_model.specs.Geometry.{sector}
 use Rattle.rbf_sector.specs.Ident.{geometry_of}
-use Rattle.rbf_reach.specs.Reading.{listed}
+use Rattle.rbf_sector_rules.specs.Reading.{listed}
 use Rattle.rbf_sector_rules.specs.Rules.{IsBadPosition}
 use Rattle.rbf_sector_rules.proofs.NextTables.{least_of_run}
-use Rattle.rbf_reach.proofs.Headers.{header_of}
-use Rattle.rbf_reach.proofs.Positioned.{ArePositions, positions_are}
+use Rattle.rbf_sector_rules.proofs.Headers.{header_of}
+use Rattle.rbf_sector_rules.proofs.Positioned.{ArePositions, positions_are}
 use Rattle.rbf_sector_rules.proofs.BadPositions.{none_more, none_bad, bad_in_run}
 use Rattle.rbf_sector_rules.proofs.numbers.has_bad_number.Goals as goal
 use Rattle.rbf_sector_rules.proofs.numbers.has_bad_number.Goals.{In_ok-list_positions}

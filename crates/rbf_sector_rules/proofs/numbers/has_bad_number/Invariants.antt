@@ -3,7 +3,7 @@ use Rattle.std.proofs.Common.{◌≡◌, ℕ, true, take}
 use Rattle.rbf_model.specs.Geometry.{sector}
 use Rattle.rbf_model.specs.Segments.{has}
 use Rattle.rbf_sector.specs.Ident.{geometry_of}
-use Rattle.rbf_reach.specs.Positions.{positions_in}
+use Rattle.rbf_sector_rules.specs.Positions.{positions_in}
 use Rattle.rbf_sector_rules.specs.Rules.{IsBadPosition}
 use Rattle.rbf_sector_rules.proofs.numbers.has_bad_number.Given as goal
 

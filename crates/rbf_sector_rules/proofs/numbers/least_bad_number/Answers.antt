@@ -2,12 +2,12 @@ use Rattle.rbf_model.specs.Disk.{disk_of}
 use Rattle.std.proofs.Common.{◌*◌, ℕ, List, arith, get_or, subst, sym}
 use Rattle.rbf_model.specs.Geometry.{sector}
 use Rattle.rbf_sector.specs.Ident.{geometry_of}
-use Rattle.rbf_reach.specs.Least.{IsLeast}
+use Rattle.rbf_sector_rules.specs.Least.{IsLeast}
 use Rattle.rbf_sector_rules.specs.Nexts.{AreNexts}
 use Rattle.rbf_sector_rules.specs.Rules.{BreaksNumbersAt, IsBadPosition}
-use Rattle.rbf_reach.specs.Files.{found_numbers}
-use Rattle.rbf_reach.proofs.FoundFiles.{file_on, at_number, as_many}
-use Rattle.rbf_reach.proofs.Leasts.{least_next}
+use Rattle.rbf_sector_rules.specs.Files.{found_numbers}
+use Rattle.rbf_sector_rules.proofs.FoundFiles.{file_on, at_number, as_many}
+use Rattle.rbf_sector_rules.proofs.Leasts.{least_next}
 use Rattle.rbf_sector_rules.proofs.Numbered.{least_numbers}
 use Rattle.rbf_sector_rules.proofs.numbers.least_bad_number.Goals as goal
 

@@ -2,8 +2,8 @@ use Rattle.rbf_model.specs.Disk.{disk_of}
 use Rattle.std.proofs.Common.{get_or}
 use Rattle.rbf_model.specs.Geometry.{sector}
 use Rattle.rbf_sector.specs.Ident.{geometry_of}
-use Rattle.rbf_reach.specs.Files.{found_numbers}
-use Rattle.rbf_reach.specs.Least.{IsLeast, Before}
+use Rattle.rbf_sector_rules.specs.Files.{found_numbers}
+use Rattle.rbf_sector_rules.specs.Least.{IsLeast, Before}
 use Rattle.rbf_sector_rules.specs.Rules.{BreaksNumbersAt}
 use Rattle.rbf_sector_rules.proofs.numbers.least_bad_number.Given as goal
 

@@ -6,7 +6,7 @@ use Rattle.rbf_model.specs.Segments.{sectors_of}
 use Rattle.rbf_model.specs.Space.{system_sectors}
 use Rattle.rbf_sector.specs.Ident.{geometry_of}
 use Rattle.rbf_segs.specs.Segments.{IsSegment}
-use Rattle.rbf_reach.proofs.Headers.{header_of}
+use Rattle.rbf_sector_rules.proofs.Headers.{header_of}
 use Rattle.rbf_sector_rules.proofs.Listed.{front_of_root, front_of_other, listed_is, one_segment}
 use Rattle.rbf_sector_rules.proofs.owners.list_segments.Goals as goal
 use Rattle.rbf_sector_rules.proofs.owners.list_segments.Goals.{then-file-image+in_ok-push, else-file-image}

@@ -6,11 +6,11 @@ use Rattle.rbf_sector_rules.specs.declared.uses.Owner.{Owner}
 use Rattle.rbf_sector.specs.Ident.{geometry_of}
 use Rattle.rbf_sector_rules.specs.Noted.{IsNoted}
 use Rattle.rbf_sector_rules.specs.Used.{used_by}
-use Rattle.rbf_reach.specs.Files.{found_numbers}
-use Rattle.rbf_reach.proofs.FoundFiles.{file_on, at_number, as_many}
-use Rattle.rbf_reach.proofs.FoundNumbers.{reached_found}
+use Rattle.rbf_sector_rules.specs.Files.{found_numbers}
+use Rattle.rbf_sector_rules.proofs.FoundFiles.{file_on, at_number, as_many}
+use Rattle.rbf_sector_rules.proofs.FoundNumbers.{reached_found}
 use Rattle.rbf_sector_rules.proofs.Owned.{AreRuns, runs_are}
-use Rattle.rbf_reach.proofs.Headers.{header_of}
+use Rattle.rbf_sector_rules.proofs.Headers.{header_of}
 use Rattle.rbf_sector_rules.proofs.Again.{AreSearched, searched_none, searched_more, none_again, below_breach, least_again}
 use Rattle.rbf_sector_rules.proofs.shares.least_used_again.Goals as goal
 use Rattle.rbf_sector_rules.proofs.shares.least_used_again.Goals.{In_ok-list_segments, After-loop-place}

@@ -1,5 +1,5 @@
 use Rattle.rbf_model.specs.Geometry.{sector}
-use Rattle.rbf_reach.specs.Files.{found_numbers}
+use Rattle.rbf_sector_rules.specs.Files.{found_numbers}
 use Rattle.rbf_sector.specs.Ident.{geometry_of}
 use Rattle.rbf_sector_rules.proofs.Again.{AreSearched}
 use Rattle.rbf_sector_rules.proofs.shares.least_used_again.Given as goal

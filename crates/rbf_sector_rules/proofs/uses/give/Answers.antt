@@ -1,6 +1,6 @@
 use Rattle.std.proofs.Common.{sym, ◌∙◌, None}
 use Rattle.std.proofs.lemmas.List.{get_or_read}
-use Rattle.rbf_reach.proofs.Tables.{given_new}
+use Rattle.rbf_sector_rules.proofs.Tables.{given_new}
 use Rattle.rbf_sector_rules.proofs.uses.give.Goals as goal
 
 pub returns-in-None-clause-given : goal.returns-in-None-clause-given

@@ -1,6 +1,6 @@
 -- The machine runs with the disk that was made, and the counts are those of the image that it leaves.
 use Rattle.std.proofs.Common.{subst}
-use Rattle.boot_images.specs.Outcome.{RunsImages}
+use Rattle.boot_run.specs.Outcome.{RunsImages}
 use Rattle.boot_run.specs.Machine.{history_left}
 use Rattle.boot_run.specs.World.{world_of}
 use Rattle.os9_kernel.specs.Outside.{outside}

@@ -1,5 +1,5 @@
-use Rattle.civil_time.proofs.Days.{same-packet}
-use Rattle.civil_time.proofs.Next.{later-packet}
+use Rattle.time_rules.proofs.Days.{same-packet}
+use Rattle.time_rules.proofs.Next.{later-packet}
 use Rattle.time_rules.specs.Clock.{seconds_since}
 use Rattle.time_rules.proofs.laws.a_clock_shows_one_time.Goals as goal
 

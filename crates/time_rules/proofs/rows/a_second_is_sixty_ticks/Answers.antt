@@ -1,5 +1,5 @@
 use Rattle.std.proofs.Common.{refl}
-use Rattle.civil_time.specs.CivilTime.{days_of_years, days_of_months, packet_time}
+use Rattle.time_rules.specs.CivilTime.{days_of_years, days_of_months, packet_time}
 use Rattle.time_rules.specs.Rows.{first_of_march, leap_day}
 use Rattle.time_rules.proofs.rows.a_second_is_sixty_ticks.Goals as goal
 

@@ -1,8 +1,8 @@
 -- The path leads to a directory, whose entries are read, and the file of each.
 use Rattle.std.proofs.Common.{ℕ, List, [], drop, None, Ok, Err, refl, sym, ap, ◌∙◌, option_map}
 use Rattle.std.proofs.lemmas.Result.{err_from_is_err_and}
-use Rattle.tool_rules.specs.Numbers.{reading_number}
-use Rattle.tool_rules.specs.Tool.{list as list_tool}
+use Rattle.vol_tools.specs.Numbers.{reading_number}
+use Rattle.vol_tools.specs.Tool.{list as list_tool}
 use Rattle.rbf_model.specs.Walk.{directory_entries}
 use Rattle.vol_tools.specs.Listed.{lines_of}
 use Rattle.vol_tools.specs.Opening.{IsOpened, is_of_kind}

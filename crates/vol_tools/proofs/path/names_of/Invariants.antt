@@ -1,7 +1,7 @@
 -- The parts so far are names.
 use Rattle.std.proofs.Common.{◌≡◌, ℕ, true, List, map, take, Bor}
 use Rattle.std.specs.List.{list_all}
-use Rattle.tool_rules.specs.Path.{is_name_text}
+use Rattle.vol_tools.specs.Path.{is_name_text}
 use Rattle.vol_tools.proofs.path.names_of.Given as goal
 
 abbrev pub invariant-loop-part : goal.invariant-loop-part

@@ -1,7 +1,7 @@
 -- The last name of the path is that of the place.
 use Rattle.std.proofs.Common.{◌≡◌, ◌++◌, ◌∷◌, [], Some, arith}
 use Rattle.std.proofs.lemmas.Grind.{common_steps}
-use Rattle.tool_rules.specs.Path.{path_names}
+use Rattle.vol_tools.specs.Path.{path_names}
 use Rattle.vol_tools.proofs.Places.{place_put}
 use Rattle.vol_tools.proofs.place.place_of.Goals as goal
 

@@ -1,8 +1,8 @@
 -- The path leads to a file, which is read whole.
 use Rattle.std.proofs.Common.{ℕ, List, [], Ok, Err, refl, sym, ap, ◌∙◌, option_map}
 use Rattle.std.proofs.lemmas.Result.{err_from_is_err_and}
-use Rattle.tool_rules.specs.Numbers.{reading_number}
-use Rattle.tool_rules.specs.Tool.{get as get_tool}
+use Rattle.vol_tools.specs.Numbers.{reading_number}
+use Rattle.vol_tools.specs.Tool.{get as get_tool}
 use Rattle.vol_tools.specs.Opening.{IsOpened, is_of_kind}
 use Rattle.vol_tools.specs.declared.opening.Opened.{Opened}
 use Rattle.vol_tools.specs.declared.opening.Kind.TheVariants.{File}

@@ -2,7 +2,7 @@
 use Rattle.std.proofs.Common.{refl, sym, ap, ◌∙◌, option_map}
 use Rattle.std.proofs.lemmas.Result.{err_from_is_err_and}
 use Rattle.vol_tools.specs.Names.{place}
-use Rattle.tool_rules.specs.Numbers.{removing_number}
+use Rattle.vol_tools.specs.Numbers.{removing_number}
 use Rattle.vol_tools.proofs.Counts.{no_faults}
 use Rattle.vol_tools.proofs.Removed.{no_place}
 use Rattle.vol_tools.proofs.Tails.{unused_kept}

@@ -1,5 +1,5 @@
 use Rattle.rbf_change.specs.Names.{deletion_end}
-use Rattle.rbf_delete.specs.Deletions.{deletion_calls, descriptor_found}
+use Rattle.rbf_entries.specs.Deletions.{deletion_calls, descriptor_found}
 use Rattle.rbf_walk.specs.Walk.{AnswersWalk, directory_fault}
 use Rattle.file_drives.proofs.FindLemmas.{entry-found-on}
 use Rattle.file_drives.proofs.PlacedLemmas.{file-on, on-disks, reads-file, view-after}

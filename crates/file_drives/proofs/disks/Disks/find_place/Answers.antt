@@ -1,4 +1,4 @@
-use Rattle.rbf_create.specs.Places.{AnswersPlace, place_calls, place_found}
+use Rattle.rbf_entries.specs.Places.{AnswersPlace, place_calls, place_found}
 use Rattle.rbf_walk.specs.Walk.{directory_fault}
 use Rattle.file_drives.proofs.FindLemmas.{place-found-on}
 use Rattle.file_drives.proofs.PlacedLemmas.{file-on, on-disks, reads-file, view-after}

@@ -1,5 +1,5 @@
 use Rattle.std.proofs.Common.{◌≡◌, ap, sym}
-use Rattle.rbf_create.specs.Entering.{widened}
+use Rattle.rbf_entries.specs.Entering.{widened}
 use Rattle.file_rules.specs.Change.{makes_directory}
 use Rattle.file_drives.proofs.FoundLemmas.{file-found, place-here}
 use Rattle.file_drives.proofs.PlacedLemmas.{changes-found, file-on, view-before}

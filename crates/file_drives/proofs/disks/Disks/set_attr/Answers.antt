@@ -1,5 +1,5 @@
 use Rattle.std.proofs.Common.{◌≡◌, refl}
-use Rattle.rbf_delete.specs.Attributes.{attribute_calls}
+use Rattle.rbf_entries.specs.Attributes.{attribute_calls}
 use Rattle.file_rules.specs.Change.{sets_attributes}
 use Rattle.file_drives.proofs.PlacedLemmas.{changes-volume, file-on}
 use Rattle.file_drives.specs.Changed.{Asked, numbered}

@@ -1,6 +1,6 @@
 use Rattle.std.proofs.Common.{◌≡◌, ◌≢◌, ◌||◌, ◌∙◌, ℕ, ◌+◌, ◌<◌, ◌≤◌, Bool, false, refl, ap, sym, subst, below_more, arith}
-use Rattle.call_rules.specs.IoReady.{has_io}
-use Rattle.call_rules.specs.declared.io_ready.IoReady.{IoReady}
+use Rattle.proc_rules.specs.IoReady.{has_io}
+use Rattle.proc_rules.specs.declared.io_ready.IoReady.{IoReady}
 use Rattle.io_rules.specs.Io.{Io}
 use Rattle.io_rules.specs.Waiting.{io_may_go}
 use Rattle.lock_model.specs.Records.{Records}

@@ -1,5 +1,5 @@
 use Rattle.std.proofs.Common.{◌≡◌, ◌||◌, ℕ, ◌<◌, ◌≤◌, false}
-use Rattle.call_rules.specs.IoReady.{has_io}
+use Rattle.proc_rules.specs.IoReady.{has_io}
 use Rattle.io_rules.specs.Waiting.{io_may_go}
 use Rattle.lock_model.specs.Waits.{lock_may_go}
 use Rattle.file_state.proofs.state.FileState.ready_set.Given as goal

@@ -1,5 +1,5 @@
 use Rattle.std.proofs.Common.{◌≡◌, ℕ, ◌+◌, ◌%◌, Some, Option, List, get_or, ap, sym, ◌∙◌, arith}
-use Rattle.user_names.specs.UserNames.{user_cell}
+use Rattle.os9_base.specs.UserNames.{user_cell}
 use Rattle.guest_memory.specs.Tie.{cells_of}
 use Rattle.guest_memory.proofs.Seen.{cells_of-seen, seen-live, seen-byte}
 use Rattle.guest_memory.proofs.memory.Memory.byte.Goals as goal

@@ -3,7 +3,7 @@ use Rattle.std.proofs.lemmas.List.{length-take-le}
 use Rattle.block_map.specs.TakenBlocks.{group_blocks}
 use Rattle.block_pool.specs.Blocks.{free_block_count}
 use Rattle.proc_model.specs.Objects.{file_blocks}
-use Rattle.memory_laws.proofs.Entering.{entered-no_ram, entered-ok}
+use Rattle.guest_memory.proofs.Entered.{entered-no_ram, entered-ok}
 use Rattle.guest_memory.proofs.EnterCalls.{sound-enter, tied-enter}
 use Rattle.guest_memory.proofs.memory.Memory.enter.Goals as goal
 

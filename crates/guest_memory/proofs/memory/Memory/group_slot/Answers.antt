@@ -1,7 +1,7 @@
 use Rattle.std.proofs.Common.{arith, ap, ◌∙◌, get_or, position}
 use Rattle.proc_model.specs.declared.group.BlockId.{BlockId}
 use Rattle.proc_model.specs.Slots.{Slots}
-use Rattle.memory_laws.proofs.MappedGroups.{names_number}
+use Rattle.guest_memory.proofs.MappedGroups.{names_number}
 use Rattle.guest_memory.proofs.MapCalls.{is_map_of}
 use Rattle.guest_memory.proofs.GroupCalls.{first-block, slot-tied}
 use Rattle.guest_memory.proofs.Headers.{slot-fits, group-some}

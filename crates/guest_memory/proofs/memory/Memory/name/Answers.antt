@@ -1,5 +1,5 @@
 use Rattle.std.proofs.Common.{ℕ, Option, ap, ◌∙◌}
-use Rattle.user_names.specs.UserNames.{name_at}
+use Rattle.os9_base.specs.UserNames.{name_at}
 use Rattle.guest_memory.proofs.Seen.{cells_of-seen, borrowed-cells, seen-names}
 use Rattle.guest_memory.proofs.memory.Memory.name.Goals as goal
 

@@ -5,7 +5,7 @@ use Rattle.block_map.specs.TakenBlocks.{group_blocks}
 use Rattle.block_pool.specs.Blocks.{free_block_count}
 use Rattle.proc_model.specs.declared.group.BlockId.{BlockId}
 use Rattle.proc_model.specs.Slots.{Slots}
-use Rattle.memory_laws.proofs.Keeping.{map_of}
+use Rattle.guest_memory.proofs.Keeping.{map_of}
 use Rattle.guest_memory.proofs.Areas.{area-fits}
 use Rattle.guest_memory.proofs.MapCalls.{is_map_of, live}
 use Rattle.guest_memory.proofs.GroupCalls.{many, same}

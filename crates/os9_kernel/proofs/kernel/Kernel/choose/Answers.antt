@@ -1,11 +1,11 @@
 use Rattle.std.proofs.Common.{◌≡◌, option_map, refl, sym, ap, ◌∙◌}
 use Rattle.os9_base.specs.declared.registers.Pid.{Pid}
-use Rattle.call_rules.specs.Choice.{choice_of, after_choice}
+use Rattle.proc_rules.specs.Choice.{choice_of, after_choice}
 use Rattle.file_rules.specs.Locking.{files_may_go}
 use Rattle.machine_model.specs.Run.{Choose}
 use Rattle.machine_model.specs.State.{State}
 use Rattle.os9_kernel.specs.declared.kernel.Kernel.{Kernel}
-use Rattle.wake_laws.proofs.OpenRuns.{choice-open}
+use Rattle.lock_laws.proofs.OpenRuns.{choice-open}
 use Rattle.os9_kernel.proofs.Looking.{looked-still}
 use Rattle.os9_kernel.proofs.Marking.{known-still}
 use Rattle.os9_kernel.proofs.kernel.Kernel.choose.Goals as goal

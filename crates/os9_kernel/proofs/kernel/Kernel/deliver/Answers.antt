@@ -3,14 +3,14 @@ use Rattle.std.specs.Prelude.{slice_index_or}
 use Rattle.proc_rules.specs.declared.own.Own.{Own}
 use Rattle.proc_rules.specs.declared.record.Record.{Record}
 use Rattle.proc_rules.specs.Records.{IsLiving, record_at, is_waiting}
-use Rattle.call_rules.specs.Delivery.{delivered, after_delivery}
-use Rattle.call_rules.specs.Processes.{Processes, no_own, own_at}
+use Rattle.proc_rules.specs.Delivery.{delivered, after_delivery}
+use Rattle.proc_rules.specs.Processes.{Processes, no_own, own_at}
 use Rattle.io_rules.specs.Io.{Io}
 use Rattle.io_rules.specs.Waiting.{interrupted_count}
 use Rattle.file_rules.specs.Files.{Files}
 use Rattle.file_rules.specs.Locking.{files_interrupted}
 use Rattle.file_state.specs.Tie.{StandsFor}
-use Rattle.event_rules.specs.Event.{broken_off, delivery_end}
+use Rattle.machine_model.specs.ProcessEvent.{broken_off, delivery_end}
 use Rattle.machine_model.specs.Event.{before_delivery, files_after_delivery}
 use Rattle.machine_model.specs.State.{State}
 use Rattle.proc_state.specs.Tie.{Represents as RepresentsProcesses}

@@ -1,6 +1,6 @@
 use Rattle.std.proofs.Common.{◌≡◌, ◌∷◌, ◌++◌, false, refl, sym, ap, ◌∙◌, inl, inr, ◌⊎◌, arith}
-use Rattle.event_rules.specs.declared.ends.EventEnd.{EventEnd}
-use Rattle.event_rules.specs.declared.ends.EventEnd.TheVariants.{Ran, Waits, Ended, NoMemory}
+use Rattle.machine_model.specs.declared.ends.EventEnd.{EventEnd}
+use Rattle.machine_model.specs.declared.ends.EventEnd.TheVariants.{Ran, Waits, Ended, NoMemory}
 use Rattle.machine_model.specs.Run.{FirstSteps, is_going}
 use Rattle.os9_kernel.proofs.Changing.{keeps-more}
 use Rattle.os9_kernel.proofs.Turns.{turned, turn-continues, turn-begins, turn-ends, used-up, begun-here}

@@ -8,8 +8,8 @@ use Rattle.guest_memory.specs.Tie.{Represents as RepresentsMemory}
 use Rattle.proc_rules.specs.declared.record.Record.{Record}
 use Rattle.proc_rules.specs.Records.{IsLiving}
 use Rattle.proc_state.specs.Tie.{Represents as RepresentsProcesses}
-use Rattle.call_rules.specs.End.{ended}
-use Rattle.call_rules.specs.Processes.{Processes, own_at, regs_at, with_memory, with_own, with_regs_of}
+use Rattle.proc_rules.specs.End.{ended}
+use Rattle.proc_rules.specs.Processes.{Processes, own_at, regs_at, with_memory, with_own, with_regs_of}
 use Rattle.file_rules.specs.Processes.{files_ended}
 use Rattle.file_state.specs.Tie.{StandsFor}
 use Rattle.file_state.specs.declared.state.FileState.{FileState}
@@ -23,7 +23,7 @@ use Rattle.os9_kernel.proofs.Looking.{looked-still, looks_again, never-looked}
 use Rattle.os9_kernel.proofs.Marking.{forgets, known-still, never-known}
 use Rattle.os9_kernel.proofs.Pending.{at_most-three, pending-is}
 use Rattle.os9_kernel.proofs.Represented.{some-machine, tick-kept}
-use Rattle.event_rules.proofs.Ticks.{ended-tick}
+use Rattle.machine_model.proofs.Ticks.{ended-tick}
 use Rattle.os9_kernel.proofs.Turning.{all-done, some-left, turn-next, turn-call, turn-abort}
 use Rattle.os9_kernel.proofs.kernel.Kernel.execute.Goals as goal
 use Rattle.os9_kernel.proofs.kernel.Kernel.execute.Goals.{After-set_regs}

@@ -5,8 +5,8 @@ use Rattle.std.specs.Prelude.{slice_index_or}
 use Rattle.os9_base.specs.declared.call.CallEnd.{CallEnd}
 use Rattle.os9_base.specs.declared.call.CallEnd.TheVariants.{Wait}
 use Rattle.device_table.specs.Seen.{terminal_states}
-use Rattle.call_rules.specs.Attempts.{after_attempt}
-use Rattle.call_rules.specs.Processes.{Processes, no_own}
+use Rattle.proc_rules.specs.Attempts.{after_attempt}
+use Rattle.proc_rules.specs.Processes.{Processes, no_own}
 use Rattle.file_rules.specs.Attempts.{asker_of}
 use Rattle.file_rules.specs.Files.{Files}
 use Rattle.file_state.specs.Attempt.{Standing, standing}
@@ -160,7 +160,7 @@ returns-clause-progress g c ran =
     let (time, is_time) = some-time old _ s tied in
     let it = c.try_load-end.ensures.call time s.processes s.files tied.processes tied.files tied.run.locked.state.running.kinds in
     let told : Comes s.processes p.0 it.result end c.begin.new.self.processes =
-        subst (λ (processes : ProcState). Comes s.processes p.0 it.result end processes) (sym c.begin.ensures.processes) it.comes in
+    subst (λ (processes : ProcState). Comes s.processes p.0 it.result end processes) (sym c.begin.ensures.processes) it.comes in
     let (there, same) = c.tell_end.ensures.told s.processes it.result told in
     let (t, regs, is) = goes-on it.result (sym (c.event_end.ensures ∙ ap event_end_of same) ∙ ran) s.processes p.0 in
     let none = no-call new.processes t p.0 regs c.requires.next.process.1 (subst (λ (m : Processes). RepresentsProcesses new.processes m) is there) in

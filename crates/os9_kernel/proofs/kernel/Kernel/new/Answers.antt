@@ -2,8 +2,8 @@ use Rattle.std.proofs.Common.{◌≡◌, None, Err, length, refl, sym, ap, subst
 use Rattle.std.specs.Vec.{vec_len}
 use Rattle.std.proofs.lemmas.List.{length-map}
 use Rattle.file_drives.specs.Drives.{drive_views}
-use Rattle.file_start.specs.Start.{StartsDrives}
-use Rattle.file_start.specs.declared.fault.StartFault.{StartFault}
+use Rattle.cold_start.specs.Start.{StartsDrives}
+use Rattle.cold_start.specs.declared.fault.StartFault.{StartFault}
 use Rattle.file_state.specs.declared.state.FileState.{FileState}
 use Rattle.os9_kernel.specs.declared.kernel.Kernel.{Kernel}
 use Rattle.os9_kernel.specs.declared.marks.Marks.TheVariants.{Everyone}

@@ -7,12 +7,12 @@ use Rattle.os9_base.specs.declared.call.CallEnd.TheVariants.{NoMemory, Wait}
 use Rattle.os9_outer.specs.TerminalState.{TerminalState}
 use Rattle.os9_sched.specs.Members.{member_of, wait_at}
 use Rattle.os9_sched.specs.declared.member.Cause.{Cause}
-use Rattle.call_rules.specs.Attempts.{after_attempt}
-use Rattle.call_rules.specs.CallResult.{CallResult}
-use Rattle.call_rules.specs.Processes.{Processes, no_own}
-use Rattle.call_rules.specs.declared.proc_call.ProcCall.{ProcCall}
+use Rattle.proc_rules.specs.Attempts.{after_attempt}
+use Rattle.proc_rules.specs.CallResult.{CallResult}
+use Rattle.proc_rules.specs.Processes.{Processes, no_own}
+use Rattle.proc_rules.specs.declared.proc_call.ProcCall.{ProcCall}
 use Rattle.file_rules.specs.Memory.{LacksEntry, LacksMemory}
-use Rattle.file_dispatch.specs.Attempts.{MayAttempt}
+use Rattle.path_dispatch.specs.Attempts.{MayAttempt}
 use Rattle.file_rules.specs.Attempts.{FileAttempts, asker_of, io_effect}
 use Rattle.io_model.specs.Path.{ArePaths}
 use Rattle.io_rules.specs.Io.{Io}
@@ -23,7 +23,7 @@ use Rattle.io_rules.specs.Attempts.{result_of}
 use Rattle.lock_model.specs.Records.{Records}
 use Rattle.file_rules.specs.Locking.{call_wait}
 use Rattle.file_state.specs.Attempt.{settled}
-use Rattle.event_rules.specs.declared.ends.EventEnd.{EventEnd}
+use Rattle.machine_model.specs.declared.ends.EventEnd.{EventEnd}
 use Rattle.proc_rules.specs.declared.record.Record.{Record}
 use Rattle.proc_rules.specs.Records.{IsLiving, is_waiting, record_at}
 use Rattle.file_drives.specs.Drives.{boxed_seen}

@@ -1,6 +1,6 @@
 use Rattle.std.proofs.Common.{◌≡◌, Some, None, option_map, [], refl, sym, ap, ◌∙◌, subst, inl, inr}
 use Rattle.os9_base.specs.declared.registers.Pid.{Pid}
-use Rattle.event_rules.specs.declared.ends.SliceEnd.{SliceEnd}
+use Rattle.machine_model.specs.declared.ends.SliceEnd.{SliceEnd}
 use Rattle.file_drives.specs.Drives.{media_at}
 use Rattle.machine_model.specs.Run.{BeginsSlice, FirstSteps, Slice}
 use Rattle.os9_kernel.proofs.Changing.{keeps-by}

@@ -1,6 +1,6 @@
 use Rattle.std.proofs.Common.{◌≡◌, ℕ, Option, Some, None, IfSome, IfNone, option_map, List, length, take, drop, ap, sym, ◌∙◌, arith}
 use Rattle.os9_base.specs.Cells.{Cells}
-use Rattle.user_names.specs.UserLines.{line_at}
+use Rattle.os9_base.specs.UserLines.{line_at}
 use Rattle.guest_memory.proofs.Seen.{cells_of-seen}
 use Rattle.guest_memory.specs.Tie.{cells_of}
 use Rattle.proc_state.proofs.UserBytes.{take-front}

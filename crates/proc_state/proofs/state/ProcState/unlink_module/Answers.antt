@@ -1,6 +1,6 @@
 use Rattle.std.proofs.Common.{◌≡◌, ◌∙◌, sym, ap, subst, List, length, map, take, drop, ◌++◌, arith}
 use Rattle.std.proofs.lemmas.List.{length-map}
-use Rattle.call_rules.specs.ModuleLinks.{still_primary}
+use Rattle.proc_rules.specs.ModuleLinks.{still_primary}
 use Rattle.guest_memory.specs.Tie.{modules_of}
 use Rattle.proc_model.specs.Memory.{MemoryState}
 use Rattle.proc_model.specs.MemoryChanges.{unlinked}

@@ -1,6 +1,0 @@
-use Rattle.area_laws.proofs.Beginning.{start-own}
-use Rattle.area_laws.proofs.OwnRows.{first-own, second-own}
-use Rattle.area_laws.proofs.own.data_areas_are_own.Goals as goal
-
-pub returns : goal.returns
-returns c = record { start = start-own; first = first-own; second = second-own }

@@ -1,6 +1,0 @@
-use Rattle.area_laws.proofs.Beginning.{start-appeared}
-use Rattle.area_laws.proofs.Owning.{still-appeared}
-use Rattle.area_laws.proofs.own.names_have_appeared.Goals as goal
-
-pub returns : goal.returns
-returns c = record { start = start-appeared; event = still-appeared }

@@ -1,5 +1,0 @@
-use Rattle.asm_forms.proofs.Statements.{statement-formed}
-use Rattle.asm_forms.proofs.laws.only_statements_are_read.Goals as goal
-
-pub returns : goal.returns
-returns c = λ line s is. statement-formed line s is

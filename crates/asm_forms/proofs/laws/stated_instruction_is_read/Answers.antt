@@ -1,5 +1,0 @@
-use Rattle.asm_forms.proofs.Stated.{stated-read}
-use Rattle.asm_forms.proofs.laws.stated_instruction_is_read.Goals as goal
-
-pub returns : goal.returns
-returns c = λ line name s at is. stated-read line name s at is

@@ -1,5 +1,0 @@
-use Rattle.asm_forms.proofs.Statements.{statement-read}
-use Rattle.asm_forms.proofs.laws.statement_is_read.Goals as goal
-
-pub returns : goal.returns
-returns c = λ line s is. statement-read line s is

@@ -1,5 +1,0 @@
-pub mod Sums
-pub mod Expressions
-pub mod Operands
-pub mod Instructions
-pub mod Statements

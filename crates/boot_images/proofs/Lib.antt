@@ -1,5 +1,0 @@
-pub mod BootFileLemmas
-pub mod DriveLemmas
-pub mod ImageLemmas
-pub mod RunLemmas
-pub mod NoteLemmas

@@ -1,2 +1,0 @@
-pub mod CivilTime
-pub mod Rows

@@ -1,5 +1,0 @@
-use Rattle.claim_laws.proofs.Contents.{contents-come}
-use Rattle.claim_laws.proofs.laws.contents_change_in_the_range_of_a_granted_request.Goals as goal
-
-pub returns : goal.returns
-returns c = contents-come

@@ -1,4 +1,0 @@
-pub mod ReadLemmas
-pub mod FileLemmas
-pub mod OutputLemmas
-pub mod ChangeLemmas

@@ -1,0 +1,10 @@
+pub mod Lines
+pub mod Courses
+pub mod Registers
+pub mod Breaking
+pub mod Emptying
+pub mod Faults
+pub mod Looks
+pub mod Passing
+pub mod Positions
+pub mod Remaining

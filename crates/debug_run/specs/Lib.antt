@@ -1,0 +1,10 @@
+pub mod Commands
+pub mod Cuts
+pub mod Course
+pub mod Disassembly
+pub mod Prints
+pub mod Rows
+pub mod Show
+pub mod Devices
+pub mod Moves
+pub mod Position

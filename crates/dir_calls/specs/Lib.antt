@@ -1,9 +1,0 @@
-pub mod Calls
-pub mod ChgDir
-pub mod Delete
-pub mod Kept
-pub mod Locating
-pub mod Looks
-pub mod MakDir
-pub mod Naming
-pub mod Tries

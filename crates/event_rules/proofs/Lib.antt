@@ -1,3 +1,0 @@
-pub mod StartLaws
-pub mod TerminalLaws
-pub mod Ticks

@@ -1,5 +1,0 @@
-pub mod Console
-pub mod Event
-pub mod Start
-pub mod State
-pub mod Terminals

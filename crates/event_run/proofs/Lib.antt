@@ -1,7 +1,0 @@
-pub mod Breaking
-pub mod Emptying
-pub mod Faults
-pub mod Looks
-pub mod Passing
-pub mod Positions
-pub mod Remaining

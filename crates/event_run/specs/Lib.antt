@@ -1,3 +1,0 @@
-pub mod Devices
-pub mod Moves
-pub mod Position

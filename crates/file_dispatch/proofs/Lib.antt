@@ -1,5 +1,0 @@
-pub mod Closing
-pub mod Lifting
-pub mod OnCalls
-pub mod OnNumbers
-pub mod OnPaths

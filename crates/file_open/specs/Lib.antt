@@ -1,4 +1,0 @@
-pub mod Attempts
-pub mod Calls
-pub mod Ends
-pub mod Steps

@@ -1,4 +1,0 @@
-pub mod CommandLemmas
-pub mod FirstLemmas
-pub mod ReadLemmas
-pub mod StartLemmas

@@ -1,5 +1,0 @@
-use Rattle.image_laws.proofs.CutOff.{one_after_another}
-use Rattle.image_laws.proofs.stops.lawful_writes_follow_one_another.Goals as goal
-
-pub returns : goal.returns
-returns c = one_after_another

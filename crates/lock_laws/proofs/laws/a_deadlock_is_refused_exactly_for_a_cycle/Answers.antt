@@ -1,8 +1,0 @@
-use Rattle.lock_laws.proofs.Deadlocks.{alone, always}
-use Rattle.lock_laws.proofs.laws.a_deadlock_is_refused_exactly_for_a_cycle.Goals as goal
-
-pub returns : goal.returns
-returns c = record {
-  alone = alone;
-  always = always;
-}

@@ -1,5 +1,0 @@
-use Rattle.lock_laws.proofs.CallLocks.{event-changes}
-use Rattle.lock_laws.proofs.laws.an_event_changes_locks_by_its_call.Goals as goal
-
-pub returns : goal.returns
-returns c = event-changes

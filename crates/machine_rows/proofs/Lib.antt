@@ -1,2 +1,0 @@
-pub mod RowEvents
-pub mod Times

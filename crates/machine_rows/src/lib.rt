@@ -1,4 +1,0 @@
-//! Worked slices of the machine.
-#![tactic(auto)]
-
-pub mod rows;

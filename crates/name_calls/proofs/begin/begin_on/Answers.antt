@@ -1,0 +1,26 @@
+use Rattle.std.proofs.Common.{◌∙◌, ap, sym}
+use Rattle.io_rules.specs.Io.{Io, pending_at, with_paths, new_desc}
+use Rattle.name_calls.proofs.BeginLemmas.{begun-quietly, full-quietly, paths-full}
+use Rattle.name_calls.proofs.OpenEndLemmas.{regs-tied}
+use Rattle.name_calls.proofs.begin.begin_on.Goals as goal
+
+pub refuse-requires-clause-first : goal.refuse-requires-clause-first
+refuse-requires-clause-first c =
+    ap (λ (io : Io). pending_at io c.args.p.0) c.begin_on_disk.ensures.io ∙ c.requires.first
+
+pub answer-requires-clause-first : goal.answer-requires-clause-first
+answer-requires-clause-first c =
+    ap (λ (io : Io). pending_at io c.args.p.0) c.begin_on_disk.ensures.io ∙ c.requires.first
+
+pub returns-in-Err-clause-begins : goal.returns-in-Err-clause-begins
+returns-in-Err-clause-begins c m was now list views tied stands next =
+    let none = c.in-Err.ensures.number in
+    full-quietly m was now c.args.p.0 list c.args.target c.args.files.now views stands c.refuse.result c.args.s.now c.begin_on_disk.new.self c.refuse.new.io c.refuse.ensures.io
+    (c.begin_on_disk.ensures.io ∙ ap (with_paths c.args.files.now.io) (paths-full c.args.files.now.io.paths c.args.p.0 (new_desc c.args.target c.regs-regs.result.a) none))
+    none c.refuse.ensures.end tied
+
+pub returns-in-Ok-clause-begins : goal.returns-in-Ok-clause-begins
+returns-in-Ok-clause-begins c m was now list views tied stands next =
+    begun-quietly m was now c.args.p.0 list c.args.target c.args.files.now views stands c.answer.result c.answer.new.s c.begin_on_disk.new.self c.answer.new.io c.answer.ensures.io
+    c.in-Ok.a c.args.next c.in-Ok.ensures.number next c.answer.ensures.end
+    c.regs-regs.result (c.regs-regs.ensures.regs ∙ sym (regs-tied c.args.s.now m c.args.p.0 tied)) c.begin_on_disk.ensures.io (c.answer.ensures.tied m tied)

@@ -1,0 +1,13 @@
+pub mod Attempts
+pub mod OpenCalls
+pub mod Ends
+pub mod Steps
+pub mod ListCalls
+pub mod ChgDir
+pub mod Delete
+pub mod Kept
+pub mod Locating
+pub mod Looks
+pub mod MakDir
+pub mod Naming
+pub mod Tries

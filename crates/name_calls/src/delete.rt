@@ -1,0 +1,164 @@
+//! I$Delete and I$DeletX.
+
+ghost use Rattle.std.specs.Prelude.{◌≡◌, List, None, length, vec_len};
+ghost use Rattle.file_drives.specs.Drives.{drives_seen};
+ghost use Rattle.file_drives.specs.Mounted.{HasFileAt};
+ghost use Rattle.file_rules.specs.Delete.{deletes_by};
+ghost use Rattle.file_rules.specs.declared.path_call.PathCall.TheVariants as Call;
+ghost use Rattle.file_state.specs.Attempt.{standing};
+ghost use Rattle.file_state.specs.Counted.{AttemptsWithin};
+ghost use Rattle.file_state.specs.Tie.{IsSound};
+ghost use Rattle.name_calls.specs.ListCalls.{deletes_by_calls, i_delete_calls, i_deletx_calls};
+ghost use Rattle.name_calls.specs.Delete.{DeletesIn};
+ghost use Rattle.name_calls.specs.Kept.{KeepsAllButDisks};
+ghost use Rattle.name_calls.specs.Tries.{TriesFrom};
+ghost use Rattle.file_routes.specs.Ways.{refuses_by};
+ghost use Rattle.io_rules.specs.Io.{pending_at};
+ghost use Rattle.os9_base.specs.declared.registers.TimePacket.{TimePacket};
+ghost use Rattle.os9_outer.specs.TerminalState.{TerminalState};
+ghost use Rattle.proc_rules.specs.Records.{IsLiving};
+ghost use Rattle.proc_state.specs.Tie.{IsSame};
+
+use crate::ends::end_call;
+use crate::list_modes::{is_for_execution, is_mode};
+use crate::naming::{LastLocated, locate_last};
+use device_table::devices::Devices;
+use file_routes::way::{Purpose, mode_refusal};
+use file_state::state::FileState;
+use lock_model::place::FilePlace;
+use os9_base::call::CallEnd;
+use os9_base::errors::E_SHARE;
+use os9_base::registers::Pid;
+use os9_outer::drive::BlockDriver;
+use proc_state::state::ProcState;
+
+/// I$Delete: deletes a file (System Programmer's Manual, I$Delete). Takes the address of the path
+/// list in X; returns X past the list. The list starts at the data directory of the process, if it
+/// names no device.
+///
+/// # Errors
+///
+/// E$BPAddr exactly if a byte of the path list that has to be read is in no named slot or past
+/// `FFFF`; else those of the list; else E$FNA exactly if it names a terminal, a pipe or the root of
+/// a drive; else those of the walk to the directory; else E$FNA exactly if the user may not change
+/// that directory, E$PNNF exactly if the name is not there, E$FNA exactly if it names a directory
+/// or a file that the user may not write, E$Share exactly if a path is on the file. The number of
+/// the fault, if the drive fails.
+pub fn i_delete(s: &mut ProcState, files: &mut FileState, devices: &mut Devices, p: Pid) -> CallEnd
+    requires lives { IsLiving s.old.table p.0 }
+    requires first { pending_at files.old.io p.0 ≡ None }
+    requires sound { IsSound files.old (drives_seen BlockDriver-box devices.old) }
+    ensures call { (now : TimePacket) (terms : List TerminalState)
+        → length terms ≡ vec_len devices.old.terms
+        → AttemptsWithin i_delete_calls Call.Delete now p.0 result terms terms
+        (standing BlockDriver-box s.old files.old devices.old)
+        (standing BlockDriver-box s.new files.new devices.new) }
+    ensures lives { IsLiving s.new.table p.0 }
+    ensures terms_kept { devices.new.terms ≡ devices.old.terms }
+{
+    let came = delete_named(s, files, devices, p, false, None);
+    end_call(s, files, p, came)
+}
+
+/// I$DeletX: deletes a file (System Programmer's Manual, I$DeletX). Takes a mode in A and the
+/// address of the path list in X; returns X past the list. A list that names no device starts at
+/// the execution directory of the process if the mode is for execution, else at its data directory.
+/// The mode is not tested on the file.
+///
+/// # Errors
+///
+/// As `i_delete`, with E$BMode exactly if the mode has none of read, write and execute, after
+/// E$BPAddr and before all others.
+pub fn i_deletx(s: &mut ProcState, files: &mut FileState, devices: &mut Devices, p: Pid) -> CallEnd
+    requires lives { IsLiving s.old.table p.0 }
+    requires first { pending_at files.old.io p.0 ≡ None }
+    requires sound { IsSound files.old (drives_seen BlockDriver-box devices.old) }
+    ensures call { (now : TimePacket) (terms : List TerminalState)
+        → length terms ≡ vec_len devices.old.terms
+        → AttemptsWithin i_deletx_calls Call.DeletX now p.0 result terms terms
+        (standing BlockDriver-box s.old files.old devices.old)
+        (standing BlockDriver-box s.new files.new devices.new) }
+    ensures lives { IsLiving s.new.table p.0 }
+    ensures terms_kept { devices.new.terms ≡ devices.old.terms }
+{
+    let mode = s.regs(p).a;
+    let refusal = mode_refusal(is_mode(mode));
+    let came = delete_named(s, files, devices, p, is_for_execution(mode), refusal);
+    end_call(s, files, p, came)
+}
+
+/// Deletes the file that the path list at X names, for execution or not, in a call with this
+/// refusal, if any; returns the address just past the list.
+///
+/// # Errors
+///
+/// As `i_deletx`, with the call's refusal in place of E$BMode.
+fn delete_named(
+    s: &mut ProcState,
+    files: &mut FileState,
+    devices: &mut Devices,
+    p: Pid,
+    execute: bool,
+    refusal: Option<u8>,
+) -> Result<u32, u8>
+    requires lives { IsLiving s.old.table p.0 }
+    requires sound { IsSound files.old (drives_seen BlockDriver-box devices.old) }
+    ensures tries { (now : TimePacket) → TriesFrom
+        (λ asker was terms. deletes_by asker was terms execute (refuses_by refusal))
+        (deletes_by_calls execute) now p.0 (vec_len devices.old.terms) result
+        (standing BlockDriver-box s.old files.old devices.old)
+        (standing BlockDriver-box s.new files.new devices.new) }
+    ensures io_kept { files.new.io ≡ files.old.io }
+    ensures same { IsSame s.old s.new }
+    ensures terms_kept { devices.new.terms ≡ devices.old.terms }
+{
+    let user = s.table.user(p);
+    match locate_last(s, files, devices, p, Purpose::Existing, execute, refusal) {
+        Err(number) => Err(number),
+        Ok(last) => delete_in(files, devices, last, user, execute),
+    }
+}
+
+/// Deletes the file with the last name of a path list in the directory that was found, and returns
+/// the address just past the list.
+///
+/// # Errors
+///
+/// In this order: E$FNA exactly if the user may not change the directory, E$PNNF exactly if the
+/// name is not there, E$FNA exactly if it names a directory or a file that the user may not write,
+/// E$Share exactly if a path is on the file. The number of the fault, if the drive fails.
+fn delete_in(
+    files: &mut FileState,
+    devices: &mut Devices,
+    last: LastLocated,
+    user: u16,
+    execute: bool,
+) -> Result<u32, u8>
+    requires { HasFileAt files.old.disks (drives_seen BlockDriver-box devices.old) last.directory }
+    ensures deletes { DeletesIn user execute last
+        files.old (drives_seen BlockDriver-box devices.old) result
+        files.new (drives_seen BlockDriver-box devices.new) }
+    ensures rest_kept { KeepsAllButDisks files.old files.new }
+    ensures terms_kept { devices.new.terms ≡ devices.old.terms }
+{
+    match files
+        .disks
+        .find_deletable(devices, last.directory, &last.name, user, execute)
+    {
+        Err(error) => Err(error.number()),
+        Ok(found) => {
+            let place = FilePlace {
+                drive: last.directory.drive,
+                number: found.descriptor,
+            };
+            if files.is_open(place) {
+                Err(E_SHARE)
+            } else {
+                match files.disks.delete_at(devices, last.directory, &found) {
+                    Err(fault) => Err(fault.number()),
+                    Ok(()) => Ok(last.next),
+                }
+            }
+        }
+    }
+}

@@ -1,2 +1,0 @@
-mod Choosing
-mod Registers

@@ -1,3 +1,0 @@
-pub mod Entering
-mod Seen
-mod Starting

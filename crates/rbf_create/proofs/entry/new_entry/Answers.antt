@@ -1,6 +1,0 @@
-use Rattle.rbf_create.proofs.EntryBytes.{numbered}
-use Rattle.rbf_create.proofs.NewEntries.{padded_length}
-use Rattle.rbf_create.proofs.entry.new_entry.Goals as goal
-
-pub returns : goal.returns
-returns c = numbered c.args.name.now c.padded-bytes.result _ _ _ (padded_length c.args.name.now c.padded-bytes.ensures.name) c.padded-bytes.ensures.bytes

@@ -1,5 +1,0 @@
-use Rattle.rbf_create.proofs.NewDescriptor.{new_list}
-use Rattle.rbf_create.proofs.parts.descriptor.Goals as goal
-
-pub returns-clause-rest : goal.returns-clause-rest
-returns-clause-rest c = new_list c.write_fd.new.b c.args.file.now.segs c.write_fd.ensures.segs c.write_fd.ensures.ended c.write_fd.ensures.behind

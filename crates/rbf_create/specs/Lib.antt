@@ -1,9 +1,0 @@
-pub mod Places
-pub mod Made
-pub mod Described
-pub mod Rooms
-pub mod NewEntry
-pub mod Entering
-pub mod Creating
-pub mod FolderMade
-pub mod Asked

@@ -1,0 +1,6 @@
+use Rattle.std.proofs.Common.{◌≡◌, ◌-◌, take, ◌++◌, replicate}
+use Rattle.rbf_change.specs.Names.{marked_name}
+use Rattle.rbf_entries.proofs.entry.padded.Given as goal
+
+abbrev pub invariant-loop-i : goal.invariant-loop-i
+invariant-loop-i l = l.bytes ≡ take l.i (marked_name l.name) ++ replicate (32 - l.i) 0

@@ -1,0 +1,14 @@
+pub mod Becomes
+pub mod Entries
+pub mod Attributes
+pub mod Deletions
+pub mod Deleted
+pub mod Places
+pub mod Made
+pub mod Described
+pub mod Rooms
+pub mod NewEntry
+pub mod Entering
+pub mod Creating
+pub mod FolderMade
+pub mod Asked

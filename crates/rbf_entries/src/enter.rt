@@ -1,0 +1,74 @@
+ghost use Rattle.std.specs.Prelude.{◌≡◌, OnErr, IsSome};
+ghost use Rattle.os9_base.specs.declared.registers.TimePacket.{TimePacket};
+ghost use Rattle.rbf_access.specs.Drive.{Counts};
+ghost use Rattle.rbf_access.specs.Faults.{file_fault};
+ghost use Rattle.rbf_access.specs.Mounted.{IsMounted};
+ghost use Rattle.rbf_access.specs.Reading.{OnVolumeFile};
+ghost use Rattle.rbf_entries.specs.Entries.{MayFill};
+ghost use Rattle.rbf_write.specs.Files.{IsLoaded};
+ghost use Rattle.rbf_entries.specs.Entering.{entry_calls};
+ghost use Rattle.rbf_entries.specs.NewEntry.{MayEnter, AnswersEntry};
+
+use crate::append::append_entry;
+use crate::sector::put_entry;
+use os9_base::registers::TimePacket;
+use os9_outer::drive::BlockDriver;
+use rbf_access::{FileFault, Volume};
+use rbf_write::Loaded;
+
+/// Writes the entry of a new file into its place in a directory whose descriptor has been read: the
+/// first free place, or the one after the last entry, for which the directory may gain a cluster.
+/// The last sector write brings the file into the volume (OS-9 Technical Reference, Random Block
+/// File Manager, "Directories").
+///
+/// # Errors
+///
+/// `Device` if an access of the drive fails: then the tree is unchanged, and a cluster may be lost.
+pub fn enter_file(
+    v: &mut Volume,
+    d: &mut dyn BlockDriver,
+    dir: &Loaded,
+    place: u32,
+    entry: &[u8; 32],
+    now: TimePacket,
+) -> Result<(), FileFault>
+    requires mounted { IsMounted v.old (media d.old) }
+    requires read { IsLoaded (media d.old) dir.now.number dir.now }
+    requires place { MayEnter (media d.old) dir.now.number place entry.now }
+    ensures answer { OnVolumeFile (media d.old) dir.now.number (λ on file. AnswersEntry on file
+        (record { directory = dir.now.number; place = place; entry = entry.now; now = now })
+        (media d.old) (media d.new) result) }
+    ensures device { OnErr result (IsSome (file_fault result)) }
+    ensures mounted { IsMounted v.new (media d.new) }
+    ensures counts { OnVolumeFile (media d.old) dir.now.number (λ on file.
+        Counts BlockDriver-dyn (file_fault result) (entry_calls on file) d.old d.new) }
+{
+    if place < dir.file.size / 32 {
+        fill_place(v, d, dir, place, entry)
+    } else {
+        append_entry(v, d, dir, place, entry, now)
+    }
+}
+
+// Writes the entry into a free place.
+fn fill_place(
+    v: &mut Volume,
+    d: &mut dyn BlockDriver,
+    dir: &Loaded,
+    place: u32,
+    entry: &[u8; 32],
+) -> Result<(), FileFault>
+    requires mounted { IsMounted v.old (media d.old) }
+    requires read { IsLoaded (media d.old) dir.now.number dir.now }
+    requires place { MayFill (media d.old) dir.now.number place entry.now }
+    ensures answer { (now : TimePacket) → OnVolumeFile (media d.old) dir.now.number (λ on file.
+        AnswersEntry on file
+        (record { directory = dir.now.number; place = place; entry = entry.now; now = now })
+        (media d.old) (media d.new) result) }
+    ensures device { OnErr result (IsSome (file_fault result)) }
+    ensures mounted { IsMounted v.new (media d.new) }
+    ensures counts { Counts BlockDriver-dyn (file_fault result) 2 d.old d.new }
+{
+    let lsn = dir.file.segs.lsn_of(place / 8).unwrap();
+    put_entry(v, d, lsn, place, entry)
+}

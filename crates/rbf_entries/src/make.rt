@@ -1,0 +1,91 @@
+ghost use Rattle.std.specs.Prelude.{◌≡◌, ◌+◌, false};
+ghost use Rattle.rbf_access.specs.Drive.{Counts};
+ghost use Rattle.rbf_access.specs.Faults.{file_fault};
+ghost use Rattle.rbf_access.specs.Mounted.{HasFile, IsMounted};
+ghost use Rattle.rbf_access.specs.Reading.{OnVolumeFile};
+ghost use Rattle.rbf_walk.specs.Walk.{directory_fault};
+ghost use Rattle.rbf_entries.specs.Entering.{AnswersEntering, entering_calls, widened};
+ghost use Rattle.rbf_entries.specs.Places.{IsPlaceFor, place_calls};
+ghost use Rattle.rbf_entries.specs.Asked.{folder_request};
+ghost use Rattle.rbf_entries.specs.FolderMade.{folder_calls};
+
+use crate::folder::create_folder;
+use crate::folder_parts::new_clusters;
+use crate::{NewPlace, check_room, enter_file, find_place, new_entry};
+use os9_base::name::Name;
+use os9_base::registers::TimePacket;
+use os9_outer::drive::BlockDriver;
+use rbf_access::{FileFault, Volume};
+use rbf_walk::DirError;
+
+/// Makes a directory in another one, for a user, and returns the number of its descriptor (OS-9
+/// Technical Reference, I$MakDir). Its entry is put into the first free place of its parent, or
+/// after the last entry, by the last sector write. All conditions are checked before anything is
+/// taken.
+///
+/// # Errors
+///
+/// In this order: `BadPath` for the names `.` and `..`, before any access of the drive;
+/// `NotAllowed` if the user may not read or may not write the parent; `Exists` if the name is
+/// there; `NoCluster` if fewer clusters are free than the directory and its entry need;
+/// `TooManyRuns` if the parent needs a cluster and already has all its segments. Then nothing has
+/// changed. `Device` if an access of the drive fails: then the tree is unchanged, and clusters may
+/// be lost. If the call would have been refused for any of these causes, a drive fault changes
+/// nothing.
+pub fn make_dir(
+    v: &mut Volume,
+    d: &mut dyn BlockDriver,
+    dir: u32,
+    name: &Name,
+    attr: u8,
+    user: u16,
+    now: TimePacket,
+) -> Result<u32, DirError>
+    requires mounted { IsMounted v.old (media d.old) }
+    requires file { HasFile (media d.old) dir }
+    ensures answer { OnVolumeFile (media d.old) dir (λ on file. AnswersEntering on file
+        (folder_request dir name.now attr user now) (media d.old) (media d.new) result) }
+    ensures mounted { IsMounted v.new (media d.new) }
+    ensures counts { OnVolumeFile (media d.old) dir (λ on file.
+        Counts BlockDriver-dyn (directory_fault result)
+        (place_calls file name.now user false
+        + entering_calls on file (folder_calls on (media d.new) result) result) d.old d.new) }
+{
+    let found = find_place(v, d, dir, name, user, false)?;
+    let n = make_dir_at(v, d, &found, name, attr, now)?;
+    Ok(n)
+}
+
+/// Makes a directory by a name that is not in its parent, and returns the number of its descriptor
+/// (OS-9 Technical Reference, I$MakDir). Its entry is put into the place that
+/// [`crate::find_place`] has returned to a user who searched to read.
+///
+/// # Errors
+///
+/// As [`make_dir`] from `NoCluster` on; a refusal makes no call of the drive.
+pub fn make_dir_at(
+    v: &mut Volume,
+    d: &mut dyn BlockDriver,
+    found: &NewPlace,
+    name: &Name,
+    attr: u8,
+    now: TimePacket,
+) -> Result<u32, FileFault>
+    requires mounted { IsMounted v.old (media d.old) }
+    requires place { IsPlaceFor (media d.old) name.now found.now }
+    requires reading { found.now.execute ≡ false }
+    ensures answer { OnVolumeFile (media d.old) found.now.dir.number (λ on file. AnswersEntering on
+        file (folder_request found.now.dir.number name.now attr found.now.user now)
+        (media d.old) (media d.new) (widened result)) }
+    ensures mounted { IsMounted v.new (media d.new) }
+    ensures counts { OnVolumeFile (media d.old) found.now.dir.number (λ on file.
+        Counts BlockDriver-dyn (file_fault result)
+        (entering_calls on file (folder_calls on (media d.new) result) (widened result))
+        d.old d.new) }
+{
+    let clusters = new_clusters(v.ident.cluster);
+    check_room(v, &found.dir.file, found.place, clusters)?;
+    let n = create_folder(v, d, attr, found.user, found.dir.number, now)?;
+    enter_file(v, d, &found.dir, found.place, &new_entry(name, n), now)?;
+    Ok(n)
+}

@@ -1,8 +1,0 @@
-use Rattle.rbf_model.specs.Geometry.{sector}
-use Rattle.rbf_sector.specs.Ident.{geometry_of}
-use Rattle.rbf_reach.specs.Files.{found_numbers}
-use Rattle.rbf_reach.proofs.Linking.{AreLinksOf}
-use Rattle.rbf_reach.proofs.links.list_links.Given as goal
-
-abbrev pub invariant-loop-file : goal.invariant-loop-file
-invariant-loop-file l = AreLinksOf (geometry_of l.image.ident) (sector l.image.bytes.now) (found_numbers l.files) l.links.items l.file-index

@@ -1,3 +1,0 @@
-pub mod TextLemmas
-mod FitLemmas
-mod PushLemmas

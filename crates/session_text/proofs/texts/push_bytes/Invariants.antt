@@ -1,8 +1,0 @@
-use Rattle.std.proofs.Common.{◌≡◌, ◌++◌, All, take}
-use Rattle.std.specs.List.{flat_map}
-use Rattle.session_text.specs.Texts.{IsByte, byte_word}
-use Rattle.session_text.proofs.texts.push_bytes.Given as goal
-
-abbrev pub invariant-loop-byte : goal.invariant-loop-byte
-invariant-loop-byte l =
-    (l.text.items ≡ l.initial.text.items ++ flat_map byte_word (take l.byte-index l.bytes)) × All IsByte (take l.byte-index l.bytes)

@@ -1,2 +1,0 @@
-pub mod UserLines
-pub mod UserNames

@@ -1,4 +1,0 @@
-pub mod Call
-pub mod Left
-pub mod Steps
-pub mod Vol

@@ -1,5 +1,0 @@
-use Rattle.vol_laws.proofs.Calls.{over-leaves}
-use Rattle.vol_laws.proofs.commands.a_get_over_its_image_leaves_the_file.Goals as goal
-
-pub returns : goal.returns
-returns c = over-leaves

@@ -1,5 +1,0 @@
-use Rattle.vol_laws.proofs.Lists.{one_repair}
-use Rattle.vol_laws.proofs.tools.a_repair_leaves_what_it_gives.Goals as goal
-
-pub returns : goal.returns
-returns c = one_repair

@@ -1,2 +1,0 @@
-pub mod NewDisk
-pub mod Turns
