@@ -185,7 +185,7 @@ module _ (setup : Setup) (kernel : Kernel) (before : World) (started later : Out
   unfolding begun was
   tied = record {
     processes = begins.2.processes;
-    files = subst (λ (views : List DriveView). StandsFor kernel.files views was.files) (sym drives) begins.2.files;
+    files = subst (λ (views : List DriveView). StandsFor kernel.machine.files views was.files) (sym drives) begins.2.files;
     is = λ i. record (begins.2.is i) { terms = later.terms };
     run = start-open (boot_with setup (drive_states started.drives) later.terms) begun starts (omega (arith, count, unloaded.some)) (omega (arith, count, unloaded.few)) civil;
     looked = begins.2.looked;

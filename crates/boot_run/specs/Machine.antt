@@ -24,6 +24,7 @@ use Rattle.os9_kernel.specs.declared.new.Config.{Config}
 use Rattle.boot_run.specs.Console.{IsObserved}
 use Rattle.boot_run.specs.Slices.{ComesInto, RunsPartly}
 use Rattle.boot_run.specs.World.{World, HasNoFault, FailsToWrite}
+use Rattle.boot_run.specs.declared.imaged.Start.{Start}
 use Rattle.boot_run.specs.declared.machine.RunEnd.{RunEnd}
 use Rattle.boot_run.specs.declared.machine.RunEnd.TheVariants.{Ended, Living, Refused, DriveFailed, OutputFailed, NoMemory}
 
@@ -45,6 +46,21 @@ setup_with config file images keys slices = record {
   images = images;
   keys = keys;
   slices = slices;
+}
+
+-- the configuration of a machine that is started so, with this number of images
+abbrev pub config_of : Start → ℕ → Config
+config_of start images = record { blocks = start.blocks; images = images; time = start.time }
+
+-- its setup with these images
+abbrev pub setup_of : Start → List (List ℕ) → Setup
+setup_of start images = record {
+  file = start.file.items;
+  blocks = start.blocks;
+  time = start.time;
+  images = images;
+  keys = start.keys.items;
+  slices = start.slices.items;
 }
 
 -- what a machine needs to run: a valid number of blocks, a date and time, fewer slices than ticks are counted, one to
@@ -155,7 +171,7 @@ pub record MachineCall (setup : Setup) (history : List Entry) (before after : Wo
   pub files_kept : after.files ≡ before.files
 
 -- the same with the images that were in the first drives
-abbrev pub MachineRuns : Config → List ℕ → List ScriptKey → List ℕ → RunEnd → List Entry → World → World → Type 0
-MachineRuns config file keys slices end history before after =
-    (images : List (List ℕ)) → HaveImages config.images images before.devices.drives
-    → MachineCall (setup_with config file images keys slices) history before after end
+abbrev pub MachineRuns : Start → ℕ → RunEnd → List Entry → World → World → Type 0
+MachineRuns start count end history before after =
+    (images : List (List ℕ)) → HaveImages count images before.devices.drives
+    → MachineCall (setup_of start images) history before after end

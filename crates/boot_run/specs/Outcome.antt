@@ -18,7 +18,6 @@ use Rattle.boot_run.specs.declared.machine.RunEnd.{RunEnd}
 use Rattle.boot_run.specs.declared.machine.RunEnd.TheVariants.{Ended, Living, OutputFailed, NoMemory}
 use Rattle.boot_run.specs.Drives.{holding}
 use Rattle.boot_run.specs.Ready.{AreEmptyAgain}
-use Rattle.boot_run.specs.declared.imaged.Start.{Start}
 
 -- an image holds the volume of a drive: it has the length of the one that was put in, its first sector and the bytes
 -- after its volume
@@ -99,14 +98,3 @@ pub record RunsImages (setup : Setup) (images : List (List ℕ)) (history : List
   pub output_fault : end ≡ OutputFailed → FailsToWrite before after
   pub no_fault : end ≢ OutputFailed → HasNoFault before after
   pub files_kept : after.files ≡ before.files
-
--- the setup of a machine with these images
-abbrev pub setup_of : Start → List (List ℕ) → Setup
-setup_of start images = record {
-  file = start.file.items;
-  blocks = start.blocks;
-  time = start.time;
-  images = images;
-  keys = start.keys.items;
-  slices = start.slices.items;
-}

@@ -2,9 +2,9 @@
 
 ghost use Rattle.std.specs.Prelude.{◌≡◌, All, length, vec_len};
 ghost use Rattle.boot_run.specs.BootFile.{IsVolume};
-ghost use Rattle.boot_run.specs.Outcome.{RunsImages, setup_of};
+ghost use Rattle.boot_run.specs.Outcome.{RunsImages};
 ghost use Rattle.boot_run.specs.Ready.{AreFree, CanStart};
-ghost use Rattle.boot_run.specs.Machine.{history_left};
+ghost use Rattle.boot_run.specs.Machine.{history_left, setup_of};
 ghost use Rattle.boot_run.specs.World.{OnWorld};
 ghost use Rattle.os9_kernel.specs.Outside.{outside};
 ghost use Rattle.os9_words.specs.Notes.{notes_of};
@@ -14,7 +14,6 @@ use crate::images::Images;
 use crate::{RunOutcome, run_machine};
 use device_table::devices::Devices;
 use os9_base::registers::TimePacket;
-use os9_kernel::Config;
 use os9_outer::drive::BlockDriver;
 use os9_outer::host::Host;
 use os9_outer::terminal::CharDriver;
@@ -58,20 +57,7 @@ pub fn run_images<H: Host>(
     ensures terminals { vec_len devices.new.terms ≡ vec_len devices.old.terms }
 {
     insert_images(alloc, images, devices);
-    let config = Config {
-        blocks: start.blocks,
-        images: images.len(),
-        time: start.time,
-    };
-    let outcome = run_machine(
-        alloc,
-        config,
-        start.file.as_slice(),
-        start.keys.as_slice(),
-        start.slices.as_slice(),
-        host,
-        devices,
-    );
+    let outcome = run_machine(alloc, start, images.len(), host, devices);
     eject_images(alloc, images, devices);
     outcome
 }

@@ -3,10 +3,11 @@
 ghost use Rattle.std.specs.Prelude.{◌≡◌, ◌≢◌, vec_len};
 ghost use Rattle.os9_kernel.specs.Outside.{outside};
 ghost use Rattle.os9_words.specs.Notes.{notes_of};
-ghost use Rattle.boot_run.specs.Machine.{CanRun, MachineRuns, history_left};
+ghost use Rattle.boot_run.specs.Machine.{CanRun, MachineRuns, config_of, history_left};
 ghost use Rattle.boot_run.specs.RunEnd.{start_end};
 ghost use Rattle.boot_run.specs.World.{OnWorld};
 
+use crate::imaged::Start;
 use crate::load_keys;
 use crate::run::{RunFault, run_slices};
 use device_table::devices::Devices;
@@ -17,7 +18,6 @@ use os9_outer::drive::BlockDriver;
 use os9_outer::host::Host;
 use os9_outer::terminal::CharDriver;
 use record_locks::records::Records;
-use script_text::script::ScriptKey;
 use std::alloc::Global;
 
 /// How a run of a machine ended.
@@ -59,41 +59,45 @@ impl RunOutcome {
     }
 }
 
-/// Starts a machine with a boot file and the images in its first drives, and runs it over the
-/// slices. The bytes put on the terminals go to the output stream after each slice. The terminals
-/// are loaded with their keys once the kernel is made.
+/// Starts a machine with this number of images in its first drives, and runs it over the slices.
+/// The bytes put on the terminals go to the output stream after each slice. The terminals are
+/// loaded with their keys once the kernel is made.
 pub fn run_machine<H: Host>(
     alloc: Global,
-    config: Config,
-    file: &[u8],
-    keys: &[ScriptKey],
-    slices: &[u32],
+    start: &Start,
+    images: u8,
     host: &mut H,
     devices: &mut Devices,
 ) -> RunOutcome
-    requires { CanRun config slices.now (outside BlockDriver-box CharDriver-box devices.old) }
-    ensures call { OnWorld (MachineRuns config file.now keys.now slices.now result.end
+    requires { CanRun (config_of start.now images) start.now.slices.items
+        (outside BlockDriver-box CharDriver-box devices.old) }
+    ensures call { OnWorld (MachineRuns start.now images result.end
         (history_left result.records)) H.Host host.old host.new
         BlockDriver-box CharDriver-box devices.old devices.new }
     ensures notes_kept { notes_of H.Host host.new ≡ notes_of H.Host host.old }
     ensures terminals { vec_len devices.new.terms ≡ vec_len devices.old.terms }
     ensures drives { vec_len devices.new.drives ≡ vec_len devices.old.drives }
 {
-    let mut kernel = match Kernel::new(alloc, config, file, devices) {
+    let config = Config {
+        blocks: start.blocks,
+        images,
+        time: start.time,
+    };
+    let mut kernel = match Kernel::new(alloc, config, start.file.as_slice(), devices) {
         Ok(kernel) => kernel,
         Err(error) => {
             let end = end_of_start(error);
             return RunOutcome { end, records: None };
         }
     };
-    match load_keys(alloc, devices, keys) {
+    match load_keys(alloc, devices, start.keys.as_slice()) {
         Ok(()) => {}
         Err(_) => {
             let end = RunEnd::NoMemory;
             return RunOutcome { end, records: None };
         }
     }
-    match run_slices(&mut kernel, slices, host, devices) {
+    match run_slices(&mut kernel, start.slices.as_slice(), host, devices) {
         Ok(()) => {
             let end = run_end(kernel.living(), kernel.ticks());
             let records = Some(kernel.into_records());

@@ -1,2 +1,10 @@
-pub mod Attempt
+pub mod CallAttempt
 pub mod Waits
+pub mod Staying
+pub mod Attempts
+pub mod Bounds
+pub mod Calls
+pub mod Dates
+pub mod Keeping
+pub mod Numbers
+pub mod Uses

@@ -9,7 +9,7 @@ ghost use Rattle.time_rules.specs.Clock.{IsClock};
 ghost use Rattle.time_rules.specs.STime.{sets_clock};
 ghost use Rattle.time_rules.specs.declared.clock.Clock.{Clock};
 ghost use Rattle.time_rules.specs.declared.time_call.TimeCall.TheVariants as Call;
-ghost use Rattle.call_dispatch.specs.Attempt.{Attempts, AttemptsNow, step_end};
+ghost use Rattle.call_dispatch.specs.CallAttempt.{Attempts, AttemptsNow, step_end};
 
 use crate::clock::now;
 use crate::packets::{read_packet, store_packet};

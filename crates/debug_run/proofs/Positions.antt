@@ -215,7 +215,7 @@ module _ (old : Position) (kernel : Kernel) (before mid : Outside) (count events
       let (t, turn, there) = steps s tied in
       let event = (turn-first s t end count turn).event in
       let who : event.0 ≡ p.0 = same_Some event.0 p.0 (sym event.1 ∙ chosen-is s tied) in
-      living-few old.kernel.processes s.processes tied.processes p.0 (subst (IsLiving s.processes.records) who event.2)
+      living-few old.kernel.machine.processes s.processes tied.processes p.0 (subst (IsLiving s.processes.records) who event.2)
 
   pub turn-stands : Stands old.kernel before → Stands kernel mid
   turn-stands (s, tied) = let (t, turn, there) = steps s tied in (t, there)

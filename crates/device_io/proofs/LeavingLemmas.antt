@@ -1,5 +1,5 @@
 -- What an attempt leaves that stores bytes, by how it ends.
-use Rattle.std.proofs.Common.{◌≡◌, ◌≢◌, ◌⊎◌, ◌+◌, ◌<◌, ◌≤◌, ℕ, Bool, None, Some, IsSome, List, inl, inr, sym, subst, arith}
+use Rattle.std.proofs.Common.{◌≡◌, ◌≢◌, ◌⊎◌, ◌+◌, ◌<◌, ◌≤◌, ℕ, Bool, None, Some, IsSome, List, take, inl, inr, sym, subst, arith}
 use Rattle.os9_base.specs.Cells.{Cells, FitsIn}
 use Rattle.os9_base.specs.declared.call.CallEnd.{CallEnd}
 use Rattle.os9_base.specs.declared.registers.Regs.{Regs}
@@ -7,14 +7,18 @@ use Rattle.proc_model.specs.MemoryChanges.{stored}
 use Rattle.proc_rules.specs.Processes.{Processes, regs_at, with_memory, with_regs_of}
 use Rattle.io_model.specs.Pending.{count_left, moved_on}
 use Rattle.io_model.specs.Path.{PathTable}
-use Rattle.io_model.specs.Pipe.{read_answer, read_line_answer, bytes_moved}
+use Rattle.io_model.specs.Pipe.{moved_count, read_answer, read_line_answer, bytes_moved}
 use Rattle.io_model.specs.declared.pending.PendingCall.{PendingCall}
 use Rattle.io_model.specs.declared.pipe.PipeAns.{PipeAns}
+use Rattle.io_model.specs.declared.terminal.ReadKind.TheVariants.{Bytes, WholeLine}
+use Rattle.io_rules.specs.Alone.{is_alone}
 use Rattle.io_rules.specs.Attempts.{caller_of}
 use Rattle.io_rules.specs.Codes.{direction_of}
 use Rattle.io_rules.specs.Io.{Io, pipe_bytes, with_call}
 use Rattle.io_rules.specs.Pipes.{count_regs, after_taking, read_end, read_leaves, reads_pipe, read_line_end, read_line_leaves, reads_pipe_line}
-use Rattle.io_rules.specs.Step.{stores, answers, fails, keeps}
+use Rattle.io_rules.specs.Read.{pipe_read}
+use Rattle.io_rules.specs.Step.{Caller, stores, answers, fails, keeps}
+use Rattle.io_rules.specs.declared.io_call.Direction.TheVariants.{Reading}
 use Rattle.io_state.specs.Sound.{MayWait, SetsStatus}
 use Rattle.proc_state.specs.Tie.{Represents}
 use Rattle.proc_state.specs.declared.state.ProcState.{ProcState}
@@ -59,30 +63,39 @@ fits-behind cells at count moved most fits within = (omega (arith, fits.0), λ k
         let same : at + (moved + k) ≡ at + moved + k = omega arith in
         subst (λ (place : ℕ). IsSome (cells place)) same (fits.1 (moved + k) (omega arith))
 
-module _ (m : Processes) (p pipe : ℕ) (regs : Regs) (call : PendingCall) (alone : Bool) (io between : Io) (moved : PipeAns) (taken : List ℕ) (end : CallEnd) (processes : ProcState) (new : Io) where
+module _ (m : Processes) (p pipe : ℕ) (regs : Regs) (call : PendingCall) (alone : Bool) (io between : Io) (moved : PipeAns) (into : List ℕ) (end : CallEnd) (processes : ProcState) (new : Io) where
   -- an I$Read, by what the pipe answered
-  pub read-leaves : regs ≡ regs_at m p → moved ≡ read_answer (pipe_bytes io pipe) alone call.count
-      → taken ≡ bytes_moved moved (pipe_bytes io pipe) → between ≡ after_taking io pipe moved
-      → Leaves (stores regs.x taken (read_end (caller_of m p) call moved) between) m p end processes new
-      → Leaves (reads_pipe (caller_of m p) io pipe call alone) m p end processes new
-  read-leaves same answer_is taken_is left leaves =
-      let in_state = subst (λ (i : Io). Leaves (stores regs.x taken (read_end (caller_of m p) call moved) i) m p end processes new) left leaves in
-      let in_bytes = subst (λ (bytes : List ℕ). Leaves (stores regs.x bytes (read_end (caller_of m p) call moved) (after_taking io pipe moved)) m p end processes new) taken_is in_state in
-      let in_regs = subst (λ (r : Regs). Leaves (stores r.x (bytes_moved moved (pipe_bytes io pipe))
-      (read_end (caller_of m p) call moved) (after_taking io pipe moved)) m p end processes new) same in_bytes in
-      subst (λ (a : PipeAns). Leaves (read_leaves (caller_of m p) io pipe call a) m p end processes new) answer_is in_regs
+  pub read-leaves : (a : PipeAns) → moved ≡ a → regs ≡ regs_at m p → alone ≡ is_alone io p call.path.0 Reading
+      → moved ≡ read_answer (pipe_bytes io pipe) alone call.count
+      → take (moved_count moved) into ≡ bytes_moved moved (pipe_bytes io pipe) → between ≡ after_taking io pipe moved
+      → Leaves (stores regs.x (take (moved_count a) into) (read_end (caller_of m p) call a) between) m p end processes new
+      → Leaves (pipe_read Bytes (caller_of m p) io pipe call) m p end processes new
+  read-leaves a is same alone_is answer_is taken_is left leaves =
+      let caller : Caller = caller_of m p in
+      let in_moved = subst (λ (a : PipeAns). Leaves (stores regs.x (take (moved_count a) into) (read_end caller call a) between) m p end processes new) (sym is) leaves in
+      let in_state = subst (λ (i : Io). Leaves (stores regs.x (take (moved_count moved) into) (read_end caller call moved) i) m p end processes new) left in_moved in
+      let in_bytes = subst (λ (bytes : List ℕ). Leaves (stores regs.x bytes (read_end caller call moved) (after_taking io pipe moved)) m p end processes new) taken_is in_state in
+      let in_regs = subst (λ (r : Regs). Leaves (stores r.x (bytes_moved moved (pipe_bytes io pipe)) (read_end caller call moved) (after_taking io pipe moved)) m p end processes new) same in_bytes in
+      let in_answer = subst (λ (a : PipeAns). Leaves (read_leaves caller io pipe call a) m p end processes new) answer_is in_regs in
+      subst (λ (alone : Bool). Leaves (reads_pipe caller io pipe call alone) m p end processes new) alone_is in_answer
 
   -- an I$ReadLn, by what the pipe answered
-  pub line-leaves : regs ≡ regs_at m p → moved ≡ read_line_answer (pipe_bytes io pipe) alone (count_left call)
-      → taken ≡ bytes_moved moved (pipe_bytes io pipe) → between ≡ after_taking io pipe moved
-      → Leaves (stores (regs.x + call.moved) taken (read_line_end (caller_of m p) alone call taken moved) between) m p
-      end processes new → Leaves (reads_pipe_line (caller_of m p) io pipe call alone) m p end processes new
-  line-leaves same answer_is taken_is left leaves =
-      let in_state = subst (λ (i : Io). Leaves (stores (regs.x + call.moved) taken (read_line_end (caller_of m p) alone call taken moved) i) m p end processes new) left leaves in
+  pub line-leaves : (a : PipeAns) → moved ≡ a → regs ≡ regs_at m p → alone ≡ is_alone io p call.path.0 Reading
+      → moved ≡ read_line_answer (pipe_bytes io pipe) alone (count_left call)
+      → take (moved_count moved) into ≡ bytes_moved moved (pipe_bytes io pipe) → between ≡ after_taking io pipe moved
+      → Leaves (stores (regs.x + call.moved) (take (moved_count a) into)
+      (read_line_end (caller_of m p) alone call (take (moved_count a) into) a) between) m p end processes new
+      → Leaves (pipe_read WholeLine (caller_of m p) io pipe call) m p end processes new
+  line-leaves a is same alone_is answer_is taken_is left leaves =
+      let caller : Caller = caller_of m p in
+      let in_moved = subst (λ (a : PipeAns). Leaves (stores (regs.x + call.moved) (take (moved_count a) into)
+      (read_line_end caller alone call (take (moved_count a) into) a) between) m p end processes new) (sym is) leaves in
+      let in_state = subst (λ (i : Io). Leaves (stores (regs.x + call.moved) (take (moved_count moved) into)
+      (read_line_end caller alone call (take (moved_count moved) into) moved) i) m p end processes new) left in_moved in
       let in_bytes = subst (λ (bytes : List ℕ). Leaves (stores (regs.x + call.moved) bytes
-      (read_line_end (caller_of m p) alone call bytes moved) (after_taking io pipe moved)) m p end processes new)
-      taken_is in_state in
+      (read_line_end caller alone call bytes moved) (after_taking io pipe moved)) m p end processes new) taken_is in_state in
       let in_regs = subst (λ (r : Regs). Leaves (stores (r.x + call.moved) (bytes_moved moved (pipe_bytes io pipe))
-      (read_line_end (caller_of m p) alone call (bytes_moved moved (pipe_bytes io pipe)) moved)
+      (read_line_end caller alone call (bytes_moved moved (pipe_bytes io pipe)) moved)
       (after_taking io pipe moved)) m p end processes new) same in_bytes in
-      subst (λ (a : PipeAns). Leaves (read_line_leaves (caller_of m p) io pipe call alone a) m p end processes new) answer_is in_regs
+      let in_answer = subst (λ (a : PipeAns). Leaves (read_line_leaves caller io pipe call alone a) m p end processes new) answer_is in_regs in
+      subst (λ (alone : Bool). Leaves (reads_pipe_line caller io pipe call alone) m p end processes new) alone_is in_answer

@@ -2,14 +2,15 @@
 use Rattle.std.proofs.Common.{◌≡◌, ◌≢◌, ℕ, Bool, true, false, Option, Some, None, is_some, is_none, option_map, option_and_then, unwrap_or, inl, sym, ap, refl, ◌∙◌, subst, arith}
 use Rattle.std.specs.Prelude.{IfSome}
 use Rattle.std.proofs.lemmas.Bool.{false≢true}
+use Rattle.os9_base.specs.Cells.{Cells}
 use Rattle.os9_base.specs.declared.registers.Regs.{Regs}
+use Rattle.guest_memory.specs.Tie.{cells_of}
 use Rattle.proc_rules.specs.Processes.{Processes, regs_at}
 use Rattle.io_model.specs.Path.{slot_of, desc_of}
 use Rattle.io_model.specs.declared.pending.PendingCall.{PendingCall}
 use Rattle.io_model.specs.declared.path.Desc.{Desc}
 use Rattle.io_model.specs.declared.path.SysPath.{SysPath}
 use Rattle.io_model.specs.declared.path.Target.{Target}
-use Rattle.io_model.specs.declared.path.Target.TheVariants.{Term}
 use Rattle.io_model.specs.declared.terminal.ReadKind.{ReadKind}
 use Rattle.io_model.specs.declared.terminal.ReadKind.TheVariants.{Bytes, WholeLine}
 use Rattle.io_rules.specs.Codes.{direction_of}
@@ -21,16 +22,21 @@ use Rattle.io_rules.specs.declared.io_call.IoCall.{IoCall}
 use Rattle.io_rules.specs.Again.{IsAgain, IsPending, KeepsCount, path_number}
 use Rattle.io_state.proofs.HeldLemmas.{slot-held}
 use Rattle.io_state.proofs.WaitLemmas.{none-some, some-same}
-use Rattle.io_state.specs.Sound.{IsIo, IsNoRead, read_kind, read_kind_of, target_at}
-use Rattle.device_io.specs.Leaving.{ReadsNoTerminal}
+use Rattle.io_state.specs.Sound.{IsIo, read_kind, read_kind_of, target_at}
 use Rattle.proc_state.specs.Tie.{Represents}
 use Rattle.proc_state.specs.declared.state.ProcState.{ProcState}
 use Rattle.proc_rules.specs.Records.{record_at}
-use Rattle.device_io.specs.Moving.{MayMove, read_call, read_code}
+use Rattle.io_state.specs.Context.{InCall}
+use Rattle.io_state.specs.declared.requester.Requester.{Requester}
+use Rattle.device_io.specs.Moving.{MayAttempt, MayMove, StaysAllowed, StaysIfPending, read_call, read_code}
 
 -- the registers of the processes are those of the machine
 pub regs-tied : (s : ProcState) (m : Processes) (p : ℕ) → Represents s m → (record_at s.table p).regs ≡ regs_at m p
 regs-tied s m p tied = ap (λ (i : Processes). regs_at i p) (sym tied.is)
+
+-- the registers at a call are those of the machine
+pub called-regs : (by : Requester) (s : ProcState) (m : Processes) → InCall by s → Represents s m → by.regs ≡ regs_at m by.p.0
+called-regs by s m calls tied = calls.regs ∙ regs-tied s m by.p.0 tied
 
 -- what is not there is nothing
 pub none-of : {A : Type 0} (o : Option A) (there : Bool) → there ≡ is_some o → there ≡ false → is_none o ≡ true
@@ -68,17 +74,6 @@ opened-parts io p n opened is = by_slot (slot_of io.paths p n) refl is
     by_slot (Some s) slot_is e = by_desc s (desc_of io.paths s.0) slot_is refl e
 
 -- ---- the call of an attempt
-
--- a call that is kept is this one, which reads no terminal: nothing that is kept reads one
-pub no-read-on : (io : Io) (p : ℕ) (target : Target) (call : PendingCall) → ((n : ℕ) → target ≡ Term n → ⊥) → MayMove io p target call → ReadsNoTerminal io p
-no-read-on io p target call other move = by (pending_at io p) move.same
-  where
-    no_read : IsNoRead io call
-    no_read n on reads = other n (let e : Some target ≡ Some (Term n) = sym move.on ∙ on in cc)
-
-    by : (pending : Option PendingCall) → IfSome pending (λ pending. pending ≡ call) → IfSome pending (IsNoRead io)
-    by None same = tt
-    by (Some pending) same = subst (λ (k : PendingCall). IsNoRead io k) (sym same) no_read
 
 -- where no call may be kept none is
 pub kept-none : (pending : Option PendingCall) (Q P : PendingCall → Type 0) → IfSome pending Q → ((call : PendingCall) → Q call → ⊥) → IfSome pending P
@@ -161,3 +156,27 @@ read-call kind regs io p opened call is again open_is call_is some = by (pending
         → IsReadCall kind regs io p opened.desc.target call
     by None none fact same = subst (λ (k : PendingCall). IsReadCall kind regs io p opened.desc.target k) (sym same) (begun none)
     by (Some pending) at fact same = subst (λ (k : PendingCall). IsReadCall kind regs io p opened.desc.target k) (sym same) (further pending at fact)
+
+-- ---- a read that its process may attempt
+
+module _ (kind : ReadKind) (by : Requester) (s : ProcState) (io : Io) (terms : ℕ) (calls : InCall by s) (may : MayAttempt (read_call kind) s io by.p.0 terms) where
+  stays-if : (kind : ReadKind) (cells : Cells) (regs : Regs) → StaysAllowed (read_call kind) cells regs io by.p.0 → StaysIfPending cells regs io by.p.0
+  stays-if Bytes cells regs stays = stays
+  stays-if WholeLine cells regs stays = stays
+
+  -- if it is pending it is not refused
+  pub stays-read : StaysIfPending (cells_of s.memory by.p.0) by.regs io by.p.0
+  stays-read = subst (λ (r : Regs). StaysIfPending (cells_of s.memory by.p.0) r io by.p.0) (sym calls.regs) (stays-if kind (cells_of s.memory by.p.0) (record_at s.table by.p.0).regs may.stays)
+
+  pub again-read : IsAgain (read_call kind) by.regs io by.p.0
+  again-read = subst (λ (r : Regs). IsAgain (read_call kind) r io by.p.0) (sym calls.regs) may.again
+
+  -- its call
+  pub called-read : (opened : OpenPath) (code : ℕ) (call : PendingCall) → IsIo io
+      → Some opened ≡ open_path io by.p.0 by.regs.a → code ≡ read_code kind
+      → call ≡ unwrap_or (pending_at io by.p.0) (first_call code opened by.regs.y) → by.regs.y ≢ 0
+      → IsReadCall kind by.regs io by.p.0 opened.desc.target call
+  called-read opened code call is opened_is code_is call_is some =
+      let now : call ≡ unwrap_or (pending_at io by.p.0) (first_call (read_code kind) opened by.regs.y) = subst
+      (λ (code : ℕ). call ≡ unwrap_or (pending_at io by.p.0) (first_call code opened by.regs.y)) code_is call_is in
+      read-call kind by.regs io by.p.0 opened call is again-read (sym opened_is) now some

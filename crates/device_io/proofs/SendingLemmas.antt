@@ -31,18 +31,17 @@ use Rattle.io_rules.specs.Write.{f_perr, i_write, i_writln, line_bytes, error_li
 use Rattle.io_rules.specs.declared.io_call.Direction.{Direction}
 use Rattle.io_rules.specs.declared.io_call.Direction.TheVariants as Way
 use Rattle.io_rules.specs.declared.io_call.IoCall.{IoCall}
-use Rattle.io_rules.specs.declared.io_call.IoCall.TheVariants as Call
 use Rattle.os9_base.specs.declared.calls.TheConstants.{I_WRITE, I_WRITLN}
 use Rattle.io_state.proofs.HeldLemmas.{slot-held}
 use Rattle.io_state.proofs.WaitLemmas.{some-same}
-use Rattle.io_state.specs.Sound.{IsIo, IsNoRead, target_at}
-use Rattle.device_io.specs.Leaving.{IsTold, ReadsNoTerminal, Settles}
+use Rattle.io_state.specs.Sound.{IsIo, target_at}
+use Rattle.device_io.specs.Leaving.{IsTold, Settles}
 use Rattle.proc_state.specs.Tie.{Comes}
 use Rattle.proc_state.specs.declared.state.ProcState.{ProcState}
 use Rattle.device_io.proofs.LineLemmas.{IsSentLine}
 use Rattle.device_io.proofs.MovingLemmas.{opened-parts}
 use Rattle.device_io.proofs.TryingLemmas.{tries-needs-some, tries-same}
-use Rattle.device_io.specs.Sending.{IsPutAnswer, MaySend, MayWrite, PutEnds, Sends, Tells, put_of, regs_done, sender, sent, write_call, write_code, write_named, write_on, write_open}
+use Rattle.device_io.specs.Sending.{MayWrite, PutEnds, Sends, Tells, put_of, regs_done, sender, sent, write_call, write_code, write_named, write_on, write_open}
 use Rattle.io_rules.specs.Memory.{WantsMemory}
 use Rattle.device_io.specs.Trying.{Tries}
 use Rattle.device_io.specs.declared.sending.WriteKind.{WriteKind}
@@ -67,24 +66,19 @@ kept-writes kind code is = ap (λ (o : Option IoCall). option_and_then direction
 no-way-back : Some Way.Writing ≡ Some Way.Reading → ⊥
 no-way-back e = cc
 
--- a call that is kept of such a write reads no terminal
-pub no-read : (kind : WriteKind) (regs : Regs) (io : Io) (p : ℕ) → IsAgain (write_call kind) regs io p → ReadsNoTerminal io p
-no-read kind regs io p again = by (pending_at io p) again
-  where
-    by : (pending : Option PendingCall) → IfSome pending (IsPending (write_call kind) regs io p) → IfSome pending (IsNoRead io)
-    by None fact = tt
-    by (Some pending) fact = λ n on reads. no-way-back (sym (kept-writes kind pending.code fact.code) ∙ reads)
-
 -- what is known of the call of a write
 pub record IsWriteCall (io : Io) (p : ℕ) (target : Target) (call : PendingCall) (count : ℕ) : Type 0 where
   pub may : MayWrite io p target call count
   pub first : (n : ℕ) → target ≡ Term n → pending_at io p ≡ None
 
-pub write-call : (kind : WriteKind) (regs : Regs) (io : Io) (p : ℕ) (opened : OpenPath) (call : PendingCall) (count : ℕ)
-    → IsIo io → MaySend kind regs io p count → open_path io p (path_number (write_call kind) regs) ≡ Some opened
-    → call ≡ unwrap_or (pending_at io p) (first_call (write_code kind) opened count) → count ≢ 0
+pub write-call : (kind : WriteKind) (regs : Regs) (io : Io) (p : ℕ) (opened : OpenPath) (code : ℕ) (call : PendingCall)
+    (count : ℕ) → IsIo io → IsAgain (write_call kind) regs io p
+    → IfSome (pending_at io p) (λ pending. pending.count ≡ count)
+    → open_path io p (path_number (write_call kind) regs) ≡ Some opened → code ≡ write_code kind
+    → call ≡ unwrap_or (pending_at io p) (first_call code opened count) → count ≢ 0
     → IsWriteCall io p opened.desc.target call count
-write-call kind regs io p opened call count is may open_is call_is some = by (pending_at io p) refl may.again may.same call_is
+write-call kind regs io p opened code call count is again kept open_is code_is call_is some =
+    by (pending_at io p) refl again kept (subst (λ (code : ℕ). call ≡ unwrap_or (pending_at io p) (first_call code opened count)) code_is call_is)
   where
     number : ℕ
     number = path_number (write_call kind) regs
@@ -168,18 +162,6 @@ module _ (caller : Caller) (io : Io) (regs : Regs) (new : Io) (terms : List Term
   sends-done end is state = sends-settled (leaves (answers regs) io) end refl ((is, refl), state)
 
 -- ---- terminals
-
--- what a terminal answers to a write
-pub put-answer : (process : Pid) (put : List ℕ) (count : ℕ) (answer : Progress) (io new : Io) (n : ℕ)
-    (before after : List TerminalState) → ChangesOneTerminal (Writes process put count answer (terminal_at io n)
-    (terminal_at new n)) n before after → IsPutAnswer answer
-put-answer process put count (Progress.Done moved) io new n before after device = tt
-put-answer process put count Progress.Wait io new n before after device =
-    let e : Progress.Wait ≡ Progress.Done count = device.4.outcome.answer_is in absurd cc
-put-answer process put count Progress.End io new n before after device =
-    let e : Progress.End ≡ Progress.Done count = device.4.outcome.answer_is in absurd cc
-put-answer process put count Progress.Fault io new n before after device = tt
-put-answer process put count Progress.NoMemory io new n before after device = tt
 
 module _ (caller : Caller) (io new : Io) (n : ℕ) (put : List ℕ) (count : ℕ) (regs : Regs) (before after : List TerminalState) where
   abbrev write : TerminalWrite
@@ -319,21 +301,6 @@ error-step caller io = refl
 -- the count of a call that is kept
 pub kept-same : (pending : Option PendingCall) (count other : ℕ) → count ≡ other → IfSome pending (λ pending. pending.count ≡ count) → IfSome pending (λ pending. pending.count ≡ other)
 kept-same pending count other same is = subst (λ (n : ℕ). IfSome pending (λ pending. pending.count ≡ n)) same is
-
--- the count that is kept of an I$Write, and of an F$PErr
-pub kept-bytes : (regs : Regs) (io : Io) (p : ℕ) → IsAgain Call.Write regs io p → IfSome (pending_at io p) (λ pending. pending.count ≡ regs.y)
-kept-bytes regs io p again = by (pending_at io p) again
-  where
-    by : (pending : Option PendingCall) → IfSome pending (IsPending Call.Write regs io p) → IfSome pending (λ pending. pending.count ≡ regs.y)
-    by None fact = tt
-    by (Some pending) fact = fact.count
-
-pub kept-error : (regs : Regs) (io : Io) (p : ℕ) → IsAgain Call.PErr regs io p → IfSome (pending_at io p) (λ pending. pending.count ≡ length (error_line regs.b))
-kept-error regs io p again = by (pending_at io p) again
-  where
-    by : (pending : Option PendingCall) → IfSome pending (IsPending Call.PErr regs io p) → IfSome pending (λ pending. pending.count ≡ length (error_line regs.b))
-    by None fact = tt
-    by (Some pending) fact = fact.count
 
 module _ (m : Processes) (io : Io) (process : Pid) (processes : ProcState) (new : Io) (before after : List TerminalState)
     (bytes : List ℕ) (regs : Regs) (end : CallEnd) (same : regs ≡ regs_at m process.0) where

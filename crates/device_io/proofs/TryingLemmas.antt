@@ -1,6 +1,5 @@
 -- What an attempt comes to, by the tests that it passes.
-use Rattle.std.proofs.Common.{◌≡◌, ◌≢◌, ℕ, Bool, true, false, Option, Some, None, List, sym, refl, subst}
-use Rattle.std.specs.Prelude.{if◌then◌else◌}
+use Rattle.std.proofs.Common.{◌≡◌, ◌≢◌, ℕ, Option, Some, None, List, sym, refl, subst}
 use Rattle.os9_base.specs.declared.call.CallEnd.{CallEnd}
 use Rattle.os9_base.specs.declared.call.CallEnd.TheVariants.{Done, Error, Wait, Ended, NoMemory}
 use Rattle.os9_base.specs.declared.registers.Regs.{Regs}
@@ -9,7 +8,7 @@ use Rattle.proc_rules.specs.CallResult.{CallResult}
 use Rattle.proc_rules.specs.Processes.{Processes, regs_at, with_regs_of}
 use Rattle.io_rules.specs.Attempts.{caller_of, result_of, step_of}
 use Rattle.io_rules.specs.Io.{Io, with_call}
-use Rattle.io_rules.specs.Step.{IoEffect, IoStep, refused, comes, needs, refuses, done, leaves, fails, answers}
+use Rattle.io_rules.specs.Step.{IoEffect, IoStep, refused, comes, needs, done, leaves, fails, answers}
 use Rattle.io_rules.specs.declared.io_call.IoCall.{IoCall}
 use Rattle.io_state.specs.Attempt.{Attempts}
 use Rattle.device_io.specs.Leaving.{Leaves}
@@ -67,20 +66,6 @@ module _ (m : Processes) (io : Io) (p : ℕ) (end : CallEnd) (processes : ProcSt
       → Tries (next a) m io p end processes new before after → Tries (needs o number next) m io p end processes new
       before after
   tries-needs-some {A} o a number next is tries = subst (λ (o : Option A). Tries (needs o number next) m io p end processes new before after) (sym is) tries
-
-  pub tries-refuses-true : (test : Bool) (number : ℕ) (next : IoStep) → test ≡ true → Tries (refused number) m io p
-      end processes new before after → Tries (refuses test number next) m io p end processes new before after
-  tries-refuses-true test number next is tries = subst (λ (t : Bool). Tries (refuses t number next) m io p end processes new before after) (sym is) tries
-
-  pub tries-refuses-false : (test : Bool) (number : ℕ) (next : IoStep) → test ≡ false → Tries next m io p end
-      processes new before after → Tries (refuses test number next) m io p end processes new before after
-  tries-refuses-false test number next is tries = subst (λ (t : Bool). Tries (refuses t number next) m io p end processes new before after) (sym is) tries
-
-  pub tries-if-true : (test : Bool) (one other : IoStep) → test ≡ true → Tries one m io p end processes new before after → Tries (if test then one else other) m io p end processes new before after
-  tries-if-true test one other is tries = subst (λ (t : Bool). Tries (if t then one else other) m io p end processes new before after) (sym is) tries
-
-  pub tries-if-false : (test : Bool) (one other : IoStep) → test ≡ false → Tries other m io p end processes new before after → Tries (if test then one else other) m io p end processes new before after
-  tries-if-false test one other is tries = subst (λ (t : Bool). Tries (if t then one else other) m io p end processes new before after) (sym is) tries
 
 -- what an attempt did is what its call does
 module _ (call : IoCall) (m : Processes) (io : Io) (drives p : ℕ) (processes : ProcState) (new : Io) (before after : List TerminalState) where

@@ -4,3 +4,4 @@ pub mod Reading
 pub mod Sending
 pub mod Streams
 pub mod Trying
+pub mod Keys

@@ -1,16 +1,14 @@
 -- Reads and writes as a process may attempt them, and what they do on a path that they found.
-use Rattle.std.specs.Prelude.{◌≡◌, ℕ, ◌<◌, true, not, ⊤, IfSome, IsSomeAnd, Some, is_none}
+use Rattle.std.specs.Prelude.{◌≡◌, ℕ, ◌<◌, true, ⊤, IfSome, IsSomeAnd, Some, is_none}
 use Rattle.os9_base.specs.Cells.{Cells, FitsIn}
 use Rattle.os9_base.specs.declared.calls.TheConstants.{I_READ, I_READLN}
-use Rattle.os9_base.specs.declared.errors.TheConstants.{E_BMODE, E_BPADDR}
+use Rattle.os9_base.specs.declared.errors.TheConstants.{E_BPADDR}
 use Rattle.os9_base.specs.declared.registers.Regs.{Regs}
 use Rattle.proc_rules.specs.Records.{record_at}
 use Rattle.proc_rules.specs.UserBytes.{user_bytes}
 use Rattle.guest_memory.specs.Tie.{cells_of}
 use Rattle.io_model.specs.Path.{PathTable}
 use Rattle.io_model.specs.declared.pending.PendingCall.{PendingCall}
-use Rattle.io_model.specs.declared.path.Desc.{Desc}
-use Rattle.io_model.specs.declared.path.SysPath.{SysPath}
 use Rattle.io_model.specs.declared.path.Target.{Target}
 use Rattle.io_model.specs.declared.path.Target.TheVariants.{Term}
 use Rattle.io_model.specs.declared.terminal.ReadKind.{ReadKind}
@@ -23,7 +21,7 @@ use Rattle.io_rules.specs.Step.{Caller, IoStep, reads, refuses}
 use Rattle.io_rules.specs.Transfer.{on_path, unless_nothing, call_now}
 use Rattle.io_rules.specs.declared.io_call.IoCall.{IoCall}
 use Rattle.io_rules.specs.declared.io_call.IoCall.TheVariants as Call
-use Rattle.io_state.specs.Sound.{IsThere, MayWait, target_at}
+use Rattle.io_state.specs.Sound.{MayWait, target_at}
 use Rattle.proc_state.specs.declared.state.ProcState.{ProcState}
 
 -- each path on a terminal is on one of the first `count` terminals
@@ -36,17 +34,6 @@ pub record MayMove (io : Io) (p : ℕ) (target : Target) (call : PendingCall) : 
   pub may : MayWait io.paths p call
   pub on : target_at io.paths call.path.0 ≡ Some target
   pub same : IfSome (pending_at io p) (λ pending. pending ≡ call)
-
--- ---- the path of a number
-
--- a system path with its descriptor
-abbrev pub open_as : SysPath → Desc → OpenPath
-open_as path desc = record { path = path; desc = desc }
-
--- the number of a process names this path, whose target exists
-pub record Finds (io : Io) (p number : ℕ) (path : OpenPath) : Type 0 where
-  pub opened : open_path io p number ≡ Some path
-  pub there : IsThere io path.desc.target
 
 -- ---- reads
 
@@ -81,10 +68,6 @@ unfoldable pub read_open : ReadKind → OpenPath → Caller → Io → IoStep
 read_open kind opened caller io =
     unless_nothing caller io
     (read_on kind (call_now caller io (read_code kind) opened caller.regs.y) opened.desc.target caller io)
-
--- an attempt on the path that its number names
-abbrev pub read_found : ReadKind → OpenPath → Caller → Io → IoStep
-read_found kind opened caller io = refuses (not (can_read opened.desc.mode)) E_BMODE (read_open kind opened caller io)
 
 -- an attempt whose buffer is in named slots
 unfoldable pub read_named : ReadKind → Caller → Io → IoStep

@@ -1,10 +1,10 @@
 -- Writes as a process may attempt them, and what they do on a path that they found.
-use Rattle.std.specs.Prelude.{◌≡◌, ℕ, ◌==◌, ⊤, not, IfSome, Some, None, List, length, if◌then◌else◌}
+use Rattle.std.specs.Prelude.{◌≡◌, ℕ, ◌==◌, ⊤, IfSome, Some, None, List, length, if◌then◌else◌}
 use Rattle.os9_base.specs.Cells.{Cells}
 use Rattle.os9_base.specs.declared.call.CallEnd.{CallEnd}
 use Rattle.os9_base.specs.declared.call.CallEnd.TheVariants as End
 use Rattle.os9_base.specs.declared.calls.TheConstants.{I_WRITE, I_WRITLN, F_PERR}
-use Rattle.os9_base.specs.declared.errors.TheConstants.{E_BMODE, E_WRITE}
+use Rattle.os9_base.specs.declared.errors.TheConstants.{E_WRITE}
 use Rattle.os9_base.specs.declared.registers.Pid.{Pid}
 use Rattle.os9_base.specs.declared.registers.Regs.{Regs}
 use Rattle.os9_outer.specs.TerminalState.{TerminalState, ChangesOneTerminal}
@@ -12,18 +12,19 @@ use Rattle.io_model.specs.Line.{line_length, line_put}
 use Rattle.io_model.specs.Terminal.{Writes}
 use Rattle.io_model.specs.declared.pending.PendingCall.{PendingCall}
 use Rattle.io_model.specs.declared.path.Target.{Target}
-use Rattle.io_model.specs.declared.path.Target.TheVariants.{Pipe, Term}
+use Rattle.io_model.specs.declared.path.Target.TheVariants.{Pipe}
 use Rattle.io_model.specs.declared.terminal.Progress.{Progress}
 use Rattle.io_rules.specs.Again.{IsAgain, path_number}
 use Rattle.io_rules.specs.Attempts.{Does, pending_in}
 use Rattle.io_rules.specs.Io.{Io, OpenPath, pending_at, terminal_at, with_call, with_terminal}
 use Rattle.io_rules.specs.Modes.{can_write}
-use Rattle.io_rules.specs.Step.{Caller, IoEnd, IoStep, done, leaves, refuses, writes}
+use Rattle.io_rules.specs.Step.{Caller, IoEnd, IoStep, done, leaves, writes}
 use Rattle.io_rules.specs.Transfer.{call_now, on_path}
 use Rattle.io_rules.specs.Write.{Sending, sent_bytes, sent_line, writes_target}
 use Rattle.io_rules.specs.declared.io_call.IoCall.{IoCall}
 use Rattle.io_rules.specs.declared.io_call.IoCall.TheVariants as Call
 use Rattle.io_state.specs.Sound.{MayWait, target_at}
+use Rattle.io_state.specs.declared.requester.Requester.{Requester}
 use Rattle.device_io.specs.Leaving.{IsTold}
 use Rattle.device_io.specs.Streams.{Streams}
 use Rattle.io_rules.specs.Memory.{WantsMemory}
@@ -73,14 +74,10 @@ IsLineOf kind bytes = put_count kind bytes ≡ length bytes
 abbrev pub IsLineFirst : WriteKind → Io → ℕ → List ℕ → Type 0
 IsLineFirst kind io p bytes = pending_at io p ≡ None → IsLineOf kind bytes
 
--- on a terminal a line write moves a line
-abbrev pub IsLineOn : Target → WriteKind → List ℕ → Type 0
-IsLineOn target kind bytes = (n : ℕ) → target ≡ Term n → IsLineOf kind bytes
-
 -- a process may attempt this kind of write of `count` bytes: its pending call, if it has one, is this write
-pub record MaySend (kind : WriteKind) (regs : Regs) (io : Io) (p count : ℕ) : Type 0 where
-  pub again : IsAgain (write_call kind) regs io p
-  pub same : IfSome (pending_at io p) (λ pending. pending.count ≡ count)
+pub record MaySend (kind : WriteKind) (by : Requester) (io : Io) (count : ℕ) : Type 0 where
+  pub again : IsAgain (write_call kind) by.regs io by.p.0
+  pub same : IfSome (pending_at io by.p.0) (λ pending. pending.count ≡ count)
 
 -- a process may attempt a write of `count` bytes in this call, on this target: on a pipe it may wait in it
 pub record MayWrite (io : Io) (p : ℕ) (target : Target) (call : PendingCall) (count : ℕ) : Type 0 where
@@ -107,11 +104,6 @@ unfoldable pub write_open : WriteKind → OpenPath → Caller → Io → List �
 write_open kind opened caller io bytes =
     if length bytes == 0 then done (sent kind caller bytes).regs io
     else write_on kind (call_now caller io (write_code kind) opened (length bytes)) opened.desc.target caller io bytes
-
--- an attempt on the path that its number names
-abbrev pub write_found : WriteKind → OpenPath → Caller → Io → List ℕ → IoStep
-write_found kind opened caller io bytes =
-    refuses (not (can_write opened.desc.mode)) E_BMODE (write_open kind opened caller io bytes)
 
 -- an attempt whose bytes are in named slots
 unfoldable pub write_named : WriteKind → Caller → Io → List ℕ → IoStep
@@ -140,13 +132,12 @@ Sends step caller io regs End.Wait new before after = Tells step caller io regs 
 Sends step caller io regs End.Ended new before after = Tells step caller io regs End.Ended new before after
 Sends step caller io regs End.NoMemory new before after = WantsMemory step caller io before after
 
--- this kind of write, with this step and these bytes, by a process with these registers, ends in this way with any
--- cells
-abbrev pub SendsFrom : WriteKind → (Caller → Io → List ℕ → IoStep) → Pid → Regs → List ℕ → CallEnd → Streams → Streams
+-- this kind of write, with this step and these bytes, ends in this way with any cells
+abbrev pub SendsFrom : WriteKind → (Caller → Io → List ℕ → IoStep) → Requester → List ℕ → CallEnd → Streams → Streams
     → Type 0
-SendsFrom kind step p regs bytes end before after =
-    (cells : Cells) → Sends (step (sender p regs cells) before.io bytes) (sender p regs cells) before.io
-    (regs_done kind regs (length bytes)) end after.io before.terms after.terms
+SendsFrom kind step by bytes end before after =
+    (cells : Cells) → Sends (step (sender by.p by.regs cells) before.io bytes) (sender by.p by.regs cells) before.io
+    (regs_done kind by.regs (length bytes)) end after.io before.terms after.terms
 
 -- a terminal gives this answer to this kind of write of these bytes, and the call is not pending
 pub record IsPut (kind : WriteKind) (p : Pid) (n : ℕ) (bytes : List ℕ) (answer : Progress) (before after : Streams)

@@ -2,9 +2,8 @@
 use Rattle.std.specs.Prelude.{◌≡◌, ◌≢◌, ℕ, Option, Some, None, List}
 use Rattle.os9_base.specs.declared.call.CallEnd.{CallEnd}
 use Rattle.os9_base.specs.declared.call.CallEnd.TheVariants.{Done, Error, Wait, Ended, NoMemory}
-use Rattle.os9_base.specs.declared.registers.Regs.{Regs}
 use Rattle.os9_outer.specs.TerminalState.{TerminalState}
-use Rattle.proc_rules.specs.Processes.{Processes, regs_at}
+use Rattle.proc_rules.specs.Processes.{Processes}
 use Rattle.io_rules.specs.Attempts.{Does, caller_of, io_after, result_by, result_of, step_of}
 use Rattle.io_rules.specs.Io.{Io}
 use Rattle.io_rules.specs.Memory.{WantsMemory}
@@ -13,6 +12,7 @@ use Rattle.io_rules.specs.declared.io_call.IoCall.{IoCall}
 use Rattle.io_state.specs.Attempt.{Attempts}
 use Rattle.proc_state.specs.Tie.{Comes, Represents}
 use Rattle.proc_state.specs.declared.state.ProcState.{ProcState}
+use Rattle.io_state.specs.declared.requester.Requester.{Requester}
 use Rattle.device_io.specs.Streams.{Streams}
 
 -- an attempt of a process does this: its end, and the processes, the state and the terminals after it
@@ -41,11 +41,11 @@ EndsBy (Some it) at bytes m p end processes =
 
 -- ---- from any state that the kernel's processes represent
 
--- an attempt that does this, of a process with these registers, ends in this way
-abbrev pub TriesFrom : (Caller → Io → IoStep) → Regs → ℕ → CallEnd → ProcState → ProcState → Streams → Streams → Type 0
-TriesFrom step regs p end old new before after =
-    (m : Processes) → Represents old m → regs ≡ regs_at m p
-    → Tries (step (caller_of m p) before.io) m before.io p end new after.io before.terms after.terms
+-- an attempt that does this ends in this way
+abbrev pub TriesFrom : (Caller → Io → IoStep) → Requester → CallEnd → ProcState → ProcState → Streams → Streams → Type 0
+TriesFrom step by end old new before after =
+    (m : Processes) → Represents old m
+    → Tries (step (caller_of m by.p.0) before.io) m before.io by.p.0 end new after.io before.terms after.terms
 
 -- an attempt of a call, on a machine with `drives` drives, has this result, unless it is out of memory
 abbrev pub AttemptsFrom : IoCall → ℕ → ℕ → CallEnd → ProcState → ProcState → Streams → Streams → Type 0

@@ -1,14 +1,14 @@
-//! I$Read, I$ReadLn, I$Write, I$WritLn and F$PErr on terminals and pipes.
+//! What terminals and pipes take and give: reads and writes of processes, and the keys of a tick.
 #![tactic(auto)]
 
+mod ends;
+pub mod keys;
 mod lines;
 mod modes;
 mod moving;
-mod pipe_ends;
-pub mod pipe_reads;
-pub mod pipe_writes;
+mod pipe_reads;
+mod pipe_writes;
 mod sending;
-mod stream_ends;
 pub mod stream_reads;
 pub mod stream_writes;
 mod terminals;

@@ -13,35 +13,29 @@ ghost use Rattle.device_io.specs.Reading.{HasWindow, IsRead};
 use guest_memory::memory::Memory;
 use io_model::path::Target;
 use io_model::pipe::PIPE_BYTES;
+use io_state::requester::Requester;
 use io_state::state::IoState;
 use os9_base::registers::Pid;
 use proc_state::state::ProcState;
 
-/// Reads the bytes that a process writes on the path of a number, from an address on, each to its
-/// place in the buffer, and returns their count. None if one of them is in no named slot or past
-/// `FFFF`. For a write into a pipe it reads only the bytes that the attempt may move.
-pub(crate) fn read_moving(
-    s: &mut ProcState,
-    io: &IoState,
-    p: Pid,
-    number: u8,
-    at: u16,
-    count: u16,
-) -> Option<u16>
-    requires process { p.0 < 33 }
-    requires left { IfSome (pending_at io.now p.0) (λ pending. pending.moved < count) }
-    ensures read { (m : Processes) → Represents s.old m → IsRead io.now p.0 number
-        (user_bytes (cells_at m p.0) at count) result s.new.buffer.items }
+/// Reads the `count` bytes at X that a process writes on the path in A, each to its place in the
+/// buffer, and returns their count. None if one of them is in no named slot or past `FFFF`. For a
+/// write into a pipe it reads only the bytes that the attempt may move.
+pub(crate) fn read_moving(s: &mut ProcState, io: &IoState, by: Requester, count: u16) -> Option<u16>
+    requires process { by.p.0 < 33 }
+    requires left { IfSome (pending_at io.now by.p.0) (λ pending. pending.moved < count) }
+    ensures read { (m : Processes) → Represents s.old m → IsRead io.now by.p.0 by.regs.a
+        (user_bytes (cells_at m by.p.0) by.regs.x count) result s.new.buffer.items }
     ensures count { IfSome result (λ all. all ≡ count) }
     ensures same { IsSame s.old s.new }
 {
-    if count == 0 || !is_on_pipe(io, p, number) {
-        return read_all(s, p, at, count);
+    if count == 0 || !is_on_pipe(io, by.p, by.regs.a) {
+        return read_all(s, by.p, by.regs.x, count);
     }
-    if !s.is_named(p, at, count) {
+    if !s.is_named(by.p, by.regs.x, count) {
         return None;
     }
-    read_window(s, p, at, moved_before(io, p), count);
+    read_window(s, by, moved_before(io, by.p), count);
     Some(count)
 }
 
@@ -81,30 +75,30 @@ fn read_all(s: &mut ProcState, p: Pid, at: u16, count: u16) -> Option<u16>
     }
 }
 
-/// Of `count` bytes reads those that one attempt may put into a pipe, after the bytes that earlier
-/// attempts moved, each to its place in the buffer.
-fn read_window(s: &mut ProcState, p: Pid, at: u16, moved: u16, count: u16)
-    requires process { p.0 < 33 }
-    requires fits { FitsIn (cells_of s.old.memory p.0) at count }
+/// Of the `count` bytes at X reads those that one attempt may put into a pipe, after the bytes that
+/// earlier attempts moved, each to its place in the buffer.
+fn read_window(s: &mut ProcState, by: Requester, moved: u16, count: u16)
+    requires process { by.p.0 < 33 }
+    requires fits { FitsIn (cells_of s.old.memory by.p.0) by.regs.x count }
     requires left { moved < count }
     ensures window { (m : Processes) → Represents s.old m
-        → HasWindow (cells_at m p.0) at moved count s.new.buffer.items }
+        → HasWindow (cells_at m by.p.0) by.regs.x moved count s.new.buffer.items }
     ensures same { IsSame s.old s.new }
 {
-    load_window(&mut s.memory, p, at, moved, count, &mut s.buffer);
+    load_window(&mut s.memory, by, moved, count, &mut s.buffer);
 }
 
 /// As `read_window`, but into a given buffer.
-fn load_window(memory: &mut Memory, p: Pid, at: u16, moved: u16, count: u16, into: &mut [u8])
-    requires process { p.0 < 33 }
-    requires fits { FitsIn (cells_of memory.old p.0) at count }
+fn load_window(memory: &mut Memory, by: Requester, moved: u16, count: u16, into: &mut [u8])
+    requires process { by.p.0 < 33 }
+    requires fits { FitsIn (cells_of memory.old by.p.0) by.regs.x count }
     requires left { moved < count }
     requires room { count ≤ length into.old }
-    ensures window { HasWindow (cells_of memory.old p.0) at moved count into.new }
+    ensures window { HasWindow (cells_of memory.old by.p.0) by.regs.x moved count into.new }
     ensures room { length into.new ≡ length into.old }
     ensures same { IsSameMemory memory.old memory.new }
 {
     let few = PIPE_BYTES.min((count - moved) as usize);
     let start = moved as usize;
-    memory.load(p, at + moved, &mut into[start..start + few]);
+    memory.load(by.p, by.regs.x + moved, &mut into[start..start + few]);
 }

@@ -4,13 +4,13 @@ ghost use Rattle.std.specs.Prelude.{◌≡◌, ◌≢◌, ◌<◌, ◌≤◌, �
 ghost use Rattle.os9_base.specs.declared.registers.Regs.{Regs};
 ghost use Rattle.io_model.specs.Pipe.{IsPipe, moved_count};
 ghost use Rattle.io_rules.specs.Alone.{is_alone};
-ghost use Rattle.io_rules.specs.Pipes.{writes_pipe, writes_rest, write_end, moved_end};
+ghost use Rattle.io_rules.specs.Pipes.{writes_pipe, write_end, moved_end};
 ghost use Rattle.io_rules.specs.Step.{leaves};
 ghost use Rattle.io_state.specs.Sound.{MayWait};
 ghost use Rattle.io_rules.specs.declared.io_call.Direction.TheVariants as Direction;
 ghost use Rattle.device_io.specs.Leaving.{ReadsNoTerminal, Settles};
 
-use crate::pipe_ends::{finish, keep, moved_on, refuse};
+use crate::ends::{finish, keep, moved_on, refuse};
 use io_model::pending::PendingCall;
 use io_model::pipe::PipeAns;
 use io_rules::io_call::Direction;
@@ -27,7 +27,13 @@ use os9_base::registers::Pid;
 ///
 /// E$Write exactly if a byte is left, and no other process outside the same wait holds the path.
 /// The moved bytes stay in the pipe.
-pub fn write_pipe(io: &mut IoState, p: Pid, pipe: u8, call: PendingCall, bytes: &[u8]) -> CallEnd
+pub(crate) fn write_pipe(
+    io: &mut IoState,
+    p: Pid,
+    pipe: u8,
+    call: PendingCall,
+    bytes: &[u8],
+) -> CallEnd
     requires process { p.0 < 33 }
     requires pipe { IsPipe io.old.pipes pipe }
     requires all { length bytes.now ≡ call.count }
@@ -37,27 +43,7 @@ pub fn write_pipe(io: &mut IoState, p: Pid, pipe: u8, call: PendingCall, bytes: 
         (is_alone io.old p.0 call.path.0 Direction.Writing) bytes.now regs) regs p.0 result io.new }
 {
     let alone = io.is_alone(p, call.path, Direction::Writing);
-    write_rest(io, p, pipe, alone, call, &bytes[call.moved as usize..])
-}
-
-/// An attempt to write the remaining bytes of a call.
-fn write_rest(
-    io: &mut IoState,
-    p: Pid,
-    pipe: u8,
-    alone: bool,
-    call: PendingCall,
-    rest: &[u8],
-) -> CallEnd
-    requires process { p.0 < 33 }
-    requires pipe { IsPipe io.old.pipes pipe }
-    requires left { call.moved + length rest.now ≡ call.count }
-    requires may { MayWait io.old.paths p.0 call }
-    requires no_read { ReadsNoTerminal io.old p.0 }
-    ensures { (regs : Regs) → Settles (writes_rest io.old pipe call alone rest.now regs) regs p.0
-        result io.new }
-{
-    let moved = io.write_pipe(pipe, alone, rest);
+    let moved = io.write_pipe(pipe, alone, &bytes[call.moved as usize..]);
     settle(io, p, alone, call, moved)
 }
 

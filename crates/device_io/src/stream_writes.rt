@@ -1,7 +1,6 @@
 //! I$Write, I$WritLn and F$PErr (System Programmer's Manual, I$Write, I$WritLn and F$PErr).
 
-ghost use Rattle.std.specs.Prelude.{◌≡◌, ℕ, ◌<◌, IfSome, None, option_map, take, vec_len};
-ghost use Rattle.proc_rules.specs.Records.{IsLiving};
+ghost use Rattle.std.specs.Prelude.{◌≡◌, ℕ, IfSome, None, option_map, take, vec_len};
 ghost use Rattle.proc_rules.specs.Processes.{Processes};
 ghost use Rattle.io_rules.specs.Attempts.{caller_of};
 ghost use Rattle.io_rules.specs.Io.{pending_at};
@@ -9,19 +8,21 @@ ghost use Rattle.io_rules.specs.Write as model;
 ghost use Rattle.io_rules.specs.Write.{line_bytes};
 ghost use Rattle.io_rules.specs.declared.io_call.IoCall.TheVariants as Call;
 ghost use Rattle.proc_state.specs.Tie.{IsSame, Represents};
+ghost use Rattle.io_state.specs.Context.{InCall, KeepsDrives};
 ghost use Rattle.device_io.specs.Moving.{MayAttempt};
 ghost use Rattle.device_io.specs.Reading.{IsRead};
 ghost use Rattle.device_io.specs.Streams.{streams};
 ghost use Rattle.device_io.specs.Trying.{AttemptsFrom, WantsMemoryFrom};
 
+use crate::ends::{refuse, tell};
 use crate::moving::read_moving;
-use crate::sending::{WriteKind, send};
-use crate::stream_ends::{refuse, tell};
+use crate::sending::{WriteKind, Written, send};
 use device_table::devices::Devices;
+use io_state::requester::Requester;
 use io_state::state::IoState;
 use os9_base::call::CallEnd;
 use os9_base::errors::E_BPADDR;
-use os9_base::registers::{Pid, Regs};
+use os9_base::registers::Regs;
 use os9_outer::terminal::CharDriver;
 use proc_state::state::ProcState;
 
@@ -35,24 +36,22 @@ use proc_state::state::ProcState;
 /// the number names no path, else E$BMode exactly if the path may not be written; then E$Write if a
 /// terminal failed, or if the pipe is full and no other process outside the same wait holds its
 /// path. Bytes that are out stay out, and the registers do not change.
-pub fn i_write(s: &mut ProcState, io: &mut IoState, devices: &mut Devices, p: Pid) -> CallEnd
-    requires lives { IsLiving s.old.table p.0 }
-    requires may { MayAttempt Call.Write s.old io.old p.0 (vec_len devices.old.terms) }
-    ensures call { (drives : ℕ) → AttemptsFrom Call.Write drives p.0 result s.old s.new
+pub fn i_write(s: &mut ProcState, io: &mut IoState, devices: &mut Devices, by: Requester) -> CallEnd
+    requires calls { InCall by s.old }
+    requires may { MayAttempt Call.Write s.old io.old by.p.0 (vec_len devices.old.terms) }
+    ensures call { (drives : ℕ) → AttemptsFrom Call.Write drives by.p.0 result s.old s.new
         (streams CharDriver-box io.old devices.old) (streams CharDriver-box io.new devices.new) }
-    ensures memory { (drives : ℕ) → WantsMemoryFrom Call.Write drives p.0 result s.old
+    ensures memory { (drives : ℕ) → WantsMemoryFrom Call.Write drives by.p.0 result s.old
         (streams CharDriver-box io.old devices.old) (streams CharDriver-box io.new devices.new) }
-    ensures lives { IsLiving s.new.table p.0 }
-    ensures drives { devices.new.drives ≡ devices.old.drives }
-    ensures count { vec_len devices.new.terms ≡ vec_len devices.old.terms }
+    ensures kept { KeepsDrives by s.new devices.old devices.new }
 {
-    let regs = s.table.regs(p);
-    match read_moving(s, io, p, regs.a, regs.x, regs.y) {
-        None => refuse(io, p, E_BPADDR),
+    match read_moving(s, io, by, by.regs.y) {
+        None => refuse(io, by.p, E_BPADDR),
         Some(y) => {
+            let kind = WriteKind::Bytes;
             let bytes = &s.buffer[..y as usize];
-            let end = send(io, devices, p, regs, WriteKind::Bytes, bytes);
-            tell(s, p, end, regs);
+            let end = send(io, devices, by, &Written { kind, bytes });
+            tell(s, by.p, end, by.regs);
             end
         }
     }
@@ -69,24 +68,27 @@ pub fn i_write(s: &mut ProcState, io: &mut IoState, devices: &mut Devices, p: Pi
 /// if the number names no path, else E$BMode exactly if the path may not be written; then E$Write
 /// if a terminal failed, or if the pipe is full and no other process outside the same wait holds
 /// its path. Bytes that are out stay out, and the registers do not change.
-pub fn i_writln(s: &mut ProcState, io: &mut IoState, devices: &mut Devices, p: Pid) -> CallEnd
-    requires lives { IsLiving s.old.table p.0 }
-    requires may { MayAttempt Call.WritLn s.old io.old p.0 (vec_len devices.old.terms) }
-    ensures call { (drives : ℕ) → AttemptsFrom Call.WritLn drives p.0 result s.old s.new
+pub fn i_writln(
+    s: &mut ProcState,
+    io: &mut IoState,
+    devices: &mut Devices,
+    by: Requester,
+) -> CallEnd
+    requires calls { InCall by s.old }
+    requires may { MayAttempt Call.WritLn s.old io.old by.p.0 (vec_len devices.old.terms) }
+    ensures call { (drives : ℕ) → AttemptsFrom Call.WritLn drives by.p.0 result s.old s.new
         (streams CharDriver-box io.old devices.old) (streams CharDriver-box io.new devices.new) }
-    ensures memory { (drives : ℕ) → WantsMemoryFrom Call.WritLn drives p.0 result s.old
+    ensures memory { (drives : ℕ) → WantsMemoryFrom Call.WritLn drives by.p.0 result s.old
         (streams CharDriver-box io.old devices.old) (streams CharDriver-box io.new devices.new) }
-    ensures lives { IsLiving s.new.table p.0 }
-    ensures drives { devices.new.drives ≡ devices.old.drives }
-    ensures count { vec_len devices.new.terms ≡ vec_len devices.old.terms }
+    ensures kept { KeepsDrives by s.new devices.old devices.new }
 {
-    let regs = s.table.regs(p);
-    match read_line_now(s, io, p, regs) {
-        None => refuse(io, p, E_BPADDR),
+    match read_line_now(s, io, by) {
+        None => refuse(io, by.p, E_BPADDR),
         Some(y) => {
-            let line = &s.buffer[..y as usize];
-            let end = send(io, devices, p, regs, WriteKind::Line, line);
-            tell(s, p, end, Regs { y, ..regs });
+            let kind = WriteKind::Line;
+            let bytes = &s.buffer[..y as usize];
+            let end = send(io, devices, by, &Written { kind, bytes });
+            tell(s, by.p, end, Regs { y, ..by.regs });
             end
         }
     }
@@ -100,45 +102,42 @@ pub fn i_writln(s: &mut ProcState, io: &mut IoState, devices: &mut Devices, p: P
 /// E$BPNum exactly if standard error names no path, else E$BMode exactly if it may not be written;
 /// then E$Write if a terminal failed, or if the pipe is full and no other process outside the same
 /// wait holds its path. Bytes that are out stay out.
-pub fn f_perr(s: &mut ProcState, io: &mut IoState, devices: &mut Devices, p: Pid) -> CallEnd
-    requires lives { IsLiving s.old.table p.0 }
-    requires may { MayAttempt Call.PErr s.old io.old p.0 (vec_len devices.old.terms) }
-    ensures call { (drives : ℕ) → AttemptsFrom Call.PErr drives p.0 result s.old s.new
+pub fn f_perr(s: &mut ProcState, io: &mut IoState, devices: &mut Devices, by: Requester) -> CallEnd
+    requires calls { InCall by s.old }
+    requires may { MayAttempt Call.PErr s.old io.old by.p.0 (vec_len devices.old.terms) }
+    ensures call { (drives : ℕ) → AttemptsFrom Call.PErr drives by.p.0 result s.old s.new
         (streams CharDriver-box io.old devices.old) (streams CharDriver-box io.new devices.new) }
-    ensures memory { (drives : ℕ) → WantsMemoryFrom Call.PErr drives p.0 result s.old
+    ensures memory { (drives : ℕ) → WantsMemoryFrom Call.PErr drives by.p.0 result s.old
         (streams CharDriver-box io.old devices.old) (streams CharDriver-box io.new devices.new) }
-    ensures lives { IsLiving s.new.table p.0 }
-    ensures drives { devices.new.drives ≡ devices.old.drives }
-    ensures count { vec_len devices.new.terms ≡ vec_len devices.old.terms }
+    ensures kept { KeepsDrives by s.new devices.old devices.new }
 {
-    let regs = s.table.regs(p);
-    let line = error_line(regs.b);
-    let end = send(io, devices, p, regs, WriteKind::ErrorLine, &line);
-    tell(s, p, end, regs);
+    let kind = WriteKind::ErrorLine;
+    let bytes = &error_line(by.regs.b);
+    let end = send(io, devices, by, &Written { kind, bytes });
+    tell(s, by.p, end, by.regs);
     end
 }
 
 /// Reads the line that an I$WritLn moves into the front of the buffer, and returns its length. A
 /// later attempt moves the number of bytes that the first one found, and on a pipe reads only the
 /// bytes that it may move. None if one of them is in no named slot or past `FFFF`.
-fn read_line_now(s: &mut ProcState, io: &IoState, p: Pid, regs: Regs) -> Option<u16>
-    requires { p.0 < 33 }
-    ensures line { (m : Processes) → Represents s.old m → regs ≡ (caller_of m p.0).regs
-        → IsRead io.now p.0 regs.a (line_bytes (caller_of m p.0) (pending_at io.now p.0)) result
-        s.new.buffer.items }
-    ensures first { (m : Processes) → Represents s.old m → regs ≡ (caller_of m p.0).regs
-        → pending_at io.now p.0 ≡ None → line_bytes (caller_of m p.0) None
+fn read_line_now(s: &mut ProcState, io: &IoState, by: Requester) -> Option<u16>
+    requires { InCall by s.old }
+    ensures line { (m : Processes) → Represents s.old m → IsRead io.now by.p.0 by.regs.a
+        (line_bytes (caller_of m by.p.0) (pending_at io.now by.p.0)) result s.new.buffer.items }
+    ensures first { (m : Processes) → Represents s.old m → pending_at io.now by.p.0 ≡ None
+        → line_bytes (caller_of m by.p.0) None
         ≡ option_map (λ count. take count s.new.buffer.items) result }
     ensures kept { IfSome result
-        (λ count. IfSome (pending_at io.now p.0) (λ pending. pending.count ≡ count)) }
+        (λ count. IfSome (pending_at io.now by.p.0) (λ pending. pending.count ≡ count)) }
     ensures same { IsSame s.old s.new }
 {
-    match io.pending(p) {
-        None => match s.read_line(p, regs.x, regs.y) {
+    match io.pending(by.p) {
+        None => match s.read_line(by.p, by.regs.x, by.regs.y) {
             None => None,
             Some(count) => Some(count as u16),
         },
-        Some(pending) => read_moving(s, io, p, regs.a, regs.x, pending.count),
+        Some(pending) => read_moving(s, io, by, pending.count),
     }
 }
 

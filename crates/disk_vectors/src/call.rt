@@ -50,12 +50,19 @@ impl Pattern {
     }
 }
 
+/// Bytes of a file: from which place on, and how many.
+#[derive(Clone, Copy, Debug, PartialEq, Eq)]
+pub(crate) struct Span {
+    pub(crate) at: u32,
+    pub(crate) count: u32,
+}
+
 /// A call on the file or directory to which a path leads.
 #[derive(Clone, Copy, Debug, PartialEq, Eq)]
 pub(crate) enum FileCall {
     Walk { user: u16, way: Way },
     May { user: u16, mode: u8 },
-    Read { at: u32, count: u32 },
+    Read(Span),
     Write { at: u32, pattern: Pattern },
     Size { size: u32 },
     Attr { attr: u8, user: u16 },
@@ -89,10 +96,10 @@ impl FileCall {
                 user: words.short()?,
                 mode: words.byte()?,
             },
-            "read" => FileCall::Read {
+            "read" => FileCall::Read(Span {
                 at: words.long()?,
                 count: words.long()?,
-            },
+            }),
             "write" => FileCall::Write {
                 at: words.long()?,
                 pattern: Pattern::parse(words.word()?)?,
@@ -157,12 +164,26 @@ impl NameCall {
     }
 }
 
+/// A call on a file, and the path that leads to it.
+#[derive(Debug, Drop)]
+pub(crate) struct CallOnFile {
+    pub(crate) path: Vec<Name>,
+    pub(crate) call: FileCall,
+}
+
+/// A call on a name, and the path that ends with it.
+#[derive(Debug, Drop)]
+pub(crate) struct CallOnName {
+    pub(crate) path: Vec<Name>,
+    pub(crate) call: NameCall,
+}
+
 /// A call on a mounted volume.
 #[derive(Debug, Drop)]
 pub(crate) enum Call {
     Free,
-    OnFile { path: Vec<Name>, call: FileCall },
-    OnName { path: Vec<Name>, call: NameCall },
+    OnFile(CallOnFile),
+    OnName(CallOnName),
 }
 
 impl Call {
@@ -176,11 +197,11 @@ impl Call {
         }
         let path = words.path(alloc)?;
         let call = match FileCall::parse(name, &mut words)? {
-            Some(call) => Call::OnFile { path, call },
-            None => Call::OnName {
+            Some(call) => Call::OnFile(CallOnFile { path, call }),
+            None => Call::OnName(CallOnName {
                 path,
                 call: NameCall::parse(name, &mut words)?,
-            },
+            }),
         };
         words.end()?;
         Ok(call)

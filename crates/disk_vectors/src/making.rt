@@ -4,18 +4,17 @@ ghost use Rattle.std.specs.Int.{bit_at};
 ghost use Rattle.std.specs.Prelude.{◌≡◌, ◌==◌, ◌<◌, OnOk};
 
 use crate::answer::{Done, Undone};
-use crate::call::{Call, FileCall, NameCall};
+use crate::call::{Call, CallOnFile, CallOnName, FileCall, NameCall, Span};
 use crate::row::NumberedCall;
 use module_format::crc24;
 use os9_base::errors::{E_BPNAM, E_FNA};
-use os9_base::name::Name;
 use os9_base::registers::TimePacket;
 use os9_outer::drive::BlockDriver;
 use rbf_access::Volume;
-use rbf_entries::{create, delete, make_dir, set_attr, set_fd_attr};
+use rbf_entries::{NewAttributes, NewFile, create, delete, make_dir, set_attr, set_fd_attr};
 use rbf_sector::Fd;
-use rbf_walk::{may, walk};
-use rbf_write::{set_size, write_at};
+use rbf_walk::{Searcher, may, walk};
+use rbf_write::{NewBytes, set_size, write_at};
 use std::alloc::Global;
 
 // The greatest attributes of a file that is not a directory.
@@ -33,8 +32,8 @@ pub(crate) fn make_call(
 {
     match &numbered.call {
         Call::Free => Ok(Done::Free(volume.free_count())),
-        Call::OnFile { path, call } => call_file(alloc, volume, d, path, *call, numbered.time()),
-        Call::OnName { path, call } => call_name(volume, d, path, *call, numbered.time()),
+        Call::OnFile(made) => call_file(alloc, volume, d, made, numbered.time()),
+        Call::OnName(made) => call_name(volume, d, made, numbered.time()),
     }
 }
 
@@ -43,28 +42,33 @@ fn call_file(
     alloc: Global,
     volume: &mut Volume,
     d: &mut dyn BlockDriver,
-    path: &[Name],
-    call: FileCall,
+    made: &CallOnFile,
     now: TimePacket,
 ) -> Result<Done, Undone>
     requires mounted { IsMounted volume.old (media d.old) }
     ensures mounted { IsMounted volume.new (media d.new) }
 {
     let root = volume.root();
-    let fd = walk(
-        volume,
-        d,
-        root,
-        path,
-        call.walker(),
-        call.way().is_execute(),
-    )?;
-    match call {
+    let by = Searcher {
+        user: made.call.walker(),
+        execute: made.call.way().is_execute(),
+    };
+    let fd = walk(volume, d, root, &made.path, by)?;
+    match made.call {
         FileCall::Walk { .. } => Ok(Done::Walked(volume.fd(d, fd)?)),
         FileCall::May { user, mode } => Ok(Done::Permitted(may(&volume.fd(d, fd)?, user, mode))),
-        FileCall::Read { at, count } => read_file(alloc, volume, d, fd, at, count),
+        FileCall::Read(span) => read_file(alloc, volume, d, fd, span),
         FileCall::Attr { attr, user } => {
-            set_attr(volume, d, fd, attr, user, now)?;
+            set_attr(
+                volume,
+                d,
+                fd,
+                NewAttributes {
+                    attr,
+                    user,
+                    date: now,
+                },
+            )?;
             Ok(Done::Plainly)
         }
         FileCall::FdAttr { attr } => {
@@ -74,7 +78,12 @@ fn call_file(
         FileCall::Write { at, pattern } => {
             let bytes = pattern.bytes(alloc)?;
             see_data_file(volume, d, fd)?;
-            write_at(volume, d, fd, at, &bytes, now)?;
+            let write = NewBytes {
+                at,
+                bytes: &bytes,
+                now,
+            };
+            write_at(volume, d, fd, write)?;
             Ok(Done::Plainly)
         }
         FileCall::Size { size } => {
@@ -85,21 +94,20 @@ fn call_file(
     }
 }
 
-// Reads a file into a buffer of `room` bytes.
+// Reads bytes of a file.
 fn read_file(
     alloc: Global,
     volume: &mut Volume,
     d: &mut dyn BlockDriver,
     fd: u32,
-    at: u32,
-    room: u32,
+    span: Span,
 ) -> Result<Done, Undone>
     requires mounted { IsMounted volume.old (media d.old) }
     requires file { HasFile (media d.old) fd }
     ensures mounted { IsMounted volume.new (media d.new) }
 {
-    let mut buffer = vec![in alloc; 0u8; room as usize]?;
-    let count = volume.read_at(d, fd, at, &mut buffer)?;
+    let mut buffer = vec![in alloc; 0u8; span.count as usize]?;
+    let count = volume.read_at(d, fd, span.at, &mut buffer)?;
     buffer.truncate(count as usize);
     Ok(Done::Read {
         count,
@@ -131,32 +139,54 @@ fn is_directory(file: &Fd) -> bool
 fn call_name(
     volume: &mut Volume,
     d: &mut dyn BlockDriver,
-    path: &[Name],
-    call: NameCall,
+    made: &CallOnName,
     now: TimePacket,
 ) -> Result<Done, Undone>
     requires mounted { IsMounted volume.old (media d.old) }
     ensures mounted { IsMounted volume.new (media d.new) }
 {
-    let Some((name, names)) = path.split_last() else {
+    let Some((name, names)) = made.path.split_last() else {
         return Err(Undone::Refused(E_BPNAM));
     };
     let root = volume.root();
-    let dir = walk(volume, d, root, names, call.user(), call.way().is_execute())?;
+    let call = made.call;
+    let by = Searcher {
+        user: call.user(),
+        execute: call.way().is_execute(),
+    };
+    let dir = walk(volume, d, root, names, by)?;
     match call {
         NameCall::Create { attr, .. } if attr > MOST_FILE_ATTRIBUTES => {
             Err(Undone::Refused(E_FNA))
         }
         NameCall::Create { attr, user, way } => {
-            create(volume, d, dir, name, attr, user, way.is_execute(), now)?;
+            let file = NewFile {
+                name: *name,
+                attr,
+                date: now,
+            };
+            let by = Searcher {
+                user,
+                execute: way.is_execute(),
+            };
+            create(volume, d, dir, &file, by)?;
             Ok(Done::Plainly)
         }
         NameCall::MakeDir { attr, user } => {
-            make_dir(volume, d, dir, name, attr, user, now)?;
+            let file = NewFile {
+                name: *name,
+                attr,
+                date: now,
+            };
+            make_dir(volume, d, dir, &file, user)?;
             Ok(Done::Plainly)
         }
         NameCall::Delete { user, way } => {
-            delete(volume, d, dir, name, user, way.is_execute())?;
+            let by = Searcher {
+                user,
+                execute: way.is_execute(),
+            };
+            delete(volume, d, dir, name, by)?;
             Ok(Done::Plainly)
         }
     }

@@ -23,27 +23,17 @@ pub(crate) struct Outcome {
 /// Runs the calls of a row on a copy of its image. The driver call of this number fails in the
 /// swept call.
 pub(crate) fn run_row(alloc: Global, row: &Row, failing: u64) -> Result<Outcome, AllocError> {
-    let mut text = String::from_str(alloc, "outcome\n")?;
     let mut mounting = RamDrive::new(row.swept.mount_plan(alloc, failing)?);
-    let mut before = RamDrive::new(Vec::new(alloc));
     let mut swept = RamDrive::new(row.swept.call_plan(alloc, failing)?);
-    let mut after = RamDrive::new(Vec::new(alloc));
+    let mut others = RamDrive::new(Vec::new(alloc));
     let _ = mounting.insert(row.image.to_vec(alloc)?);
-    call_row(
-        alloc,
-        row,
-        &mut mounting,
-        &mut before,
-        &mut swept,
-        &mut after,
-        &mut text,
-    )?;
+    let mut text = call_row(alloc, row, &mut mounting, &mut swept, &mut others)?;
     let calls = match row.swept {
         Swept::Nothing => 0,
         Swept::Mount(_) => mounting.calls(),
         Swept::Call(..) => swept.calls(),
     };
-    if let Some(image) = after.eject() {
+    if let Some(image) = others.eject() {
         write_state(alloc, &image, &mut text)?;
     }
     Ok(Outcome {
@@ -93,45 +83,46 @@ fn mount(alloc: Global, image: &[u8], d: &mut dyn BlockDriver) -> Result<Volume,
 // Moves the image of a drive to another one.
 fn move_image(from: &mut dyn BlockDriver, to: &mut dyn BlockDriver)
     requires { media to.old ≡ None }
-    ensures { media to.new ≡ media from.old }
+    ensures there { media to.new ≡ media from.old }
+    ensures gone { media from.new ≡ None }
 {
     if let Some(image) = from.eject() {
         let _ = to.insert(image);
     }
 }
 
-// Mounts the image of a row and makes its calls: those before the swept one, that one, and those
-// after it. Each part has a drive of its own, and the image is left in the last.
+// Mounts the image of a row, makes its calls, and returns the lines that say how each ended. The
+// mount and the swept call have drives of their own; the image is left in that of the others.
 fn call_row(
     alloc: Global,
     row: &Row,
     mounting: &mut dyn BlockDriver,
-    before: &mut dyn BlockDriver,
     swept: &mut dyn BlockDriver,
-    after: &mut dyn BlockDriver,
-    text: &mut String,
-) -> Result<(), AllocError>
+    others: &mut dyn BlockDriver,
+) -> Result<String, AllocError>
     requires image { media mounting.old ≡ Some row.now.image.items }
-    requires before { media before.old ≡ None }
     requires swept { media swept.old ≡ None }
-    requires after { media after.old ≡ None }
+    requires others { media others.old ≡ None }
 {
+    let mut text = String::from_str(alloc, "outcome\n")?;
     let mut volume = match mount(alloc, &row.image, mounting) {
         Ok(volume) => volume,
         Err(NotMounted::OutOfMemory) => return Err(AllocError),
         Err(cause) => {
-            move_image(mounting, after);
-            return writeln!(text, "1 {cause}");
+            move_image(mounting, others);
+            writeln!(text, "1 {cause}")?;
+            return Ok(text);
         }
     };
     writeln!(text, "1 ok")?;
     let parts = row.parts();
-    move_image(mounting, before);
-    make_calls(alloc, &mut volume, before, parts.before, text)?;
-    move_image(before, swept);
-    make_calls(alloc, &mut volume, swept, parts.swept, text)?;
-    move_image(swept, after);
-    make_calls(alloc, &mut volume, after, parts.after, text)
+    move_image(mounting, others);
+    make_calls(alloc, &mut volume, others, parts.before, &mut text)?;
+    move_image(others, swept);
+    make_calls(alloc, &mut volume, swept, parts.swept, &mut text)?;
+    move_image(swept, others);
+    make_calls(alloc, &mut volume, others, parts.after, &mut text)?;
+    Ok(text)
 }
 
 // Makes calls in their order, and writes a line for each.

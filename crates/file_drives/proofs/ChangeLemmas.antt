@@ -33,13 +33,11 @@ use Rattle.rbf_write.specs.Sizes.{Sizing, AnswersSize, IsTidyEnd, giving_up, siz
 use Rattle.file_rules.specs.Change.{writes, sizes}
 use Rattle.file_drives.proofs.FreeLemmas.{chosen-free, some-cluster}
 use Rattle.file_drives.proofs.IdentLemmas.{made-anyway}
-use Rattle.file_drives.proofs.SlotLemmas.{mounted-as, mounted-left}
+use Rattle.file_drives.proofs.SlotLemmas.{LeavesMounted, mounted-left}
 use Rattle.file_drives.specs.Calls.{marks_made, sizing_calls, writing_calls}
 use Rattle.file_drives.specs.Changed.{Asked, ChangeIsMade, file_answer, is_refused}
 use Rattle.file_drives.specs.Drives.{DriveView}
 use Rattle.file_drives.specs.Mounted.{IsMountedAs}
-use Rattle.file_drives.specs.SlotCalls.{SizesOn, WritesOn}
-use Rattle.file_drives.specs.Slots.{LeavesMounted}
 
 -- a file of a volume is as its media shows it
 pub shown-once : (media : Option (List ℕ)) (v w : DiskVolume) (n : ℕ) (file new : DiskFile) → Represents media v → Represents media w → v.files n ≡ Some file → w.files n ≡ Some new → file ≡ new
@@ -57,7 +55,7 @@ changed-there change v w n it = ap (λ (u : DiskVolume). u.files n) it.volume �
     put-there files n file = ap (λ t. if t then file else files n) (eq-eqb n n refl)
 
 -- a refusal makes one call at most
-refusal_counts : (most : ℕ) (before after : DriveCounts) → after.calls ≤ before.calls + 1 → MovesCounts None most before after → MovesCounts None 1 before after
+pub refusal_counts : (most : ℕ) (before after : DriveCounts) → after.calls ≤ before.calls + 1 → MovesCounts None most before after → MovesCounts None 1 before after
 refusal_counts most before after few counts = record {
   calls_made = few;
   never_falls = counts.never_falls;
@@ -110,21 +108,21 @@ write-stays n at bytes v file there some = record {
     or_left_is true h = refl
     or_left_is false h = h
 
-module _ (slot : Option Volume) (volume new : Volume) (before after : DriveView) (n at : ℕ) (bytes : List ℕ) (now : TimePacket) (is : slot ≡ Some volume) (mounted : IsMounted new after.media) where
+module _ (new : Volume) (before after : DriveView) (n at : ℕ) (bytes : List ℕ) (now : TimePacket) (mounted : IsMounted new after.media) where
   abbrev asks : ℕ → Asked
   asks user = record { change = writes n at bytes; user = user; now = now }
 
   stayed_on : (v : DiskVolume) → after.media ≡ before.media → Represents before.media v → IsMountedAs new after.media v
   stayed_on v same on = mounted-left new after.media v mounted (record { image = on.image; is = same ∙ on.is; vol = on.vol })
 
-  leaves : (user : ℕ) (result : Result (Unit {0}) FileFault) → OnVolumeFile before.media n
+  pub write-leaves : (user : ℕ) (result : Result (Unit {0}) FileFault) → OnVolumeFile before.media n
       (λ v file. AnswersWrite v file (record { number = n; at = at; bytes = bytes; now = now }) before.media
       after.media result) → OnErr result (IsRefusal result → after.counts.calls ≤ before.counts.calls + 1)
       → OnMarked before.media after.media n result (λ v file marks. MovesCounts (file_fault result)
       (write_calls v file marks at (length bytes)) before.counts after.counts) → (v : DiskVolume) (file : DiskFile)
       → Represents before.media v → v.files n ≡ Some file → LeavesMounted (asks user) (file_answer result)
-      (writing_calls n at (length bytes) result v file) v file before (Some new) after
-  leaves user (Ok done) answer few counts v file on there =
+      (writing_calls n at (length bytes) result v file) v file before new after
+  write-leaves user (Ok done) answer few counts v file on there =
       let it = answer v file on there in
       let here : it.volume.files n ≡ Some it.writes.new = changed-there _ v it.volume n it.writes in
       let made : ChangeIsMade (asks user) v file it.volume 0 =
@@ -148,7 +146,7 @@ module _ (slot : Option Volume) (volume new : Volume) (before after : DriveView)
         refused = λ h. absurd (made-anyway (asks user) v file it.volume 0 made h);
         disk = (Ok done, refl, it);
       }
-  leaves user (Err (Device number)) answer few counts v file on there = by (answer v file on there)
+  write-leaves user (Err (Device number)) answer few counts v file on there = by (answer v file on there)
     where
       moved : MovesCounts (Some number) (write_calls v file (map_sectors (shape v)) at (length bytes)) before.counts after.counts
       moved = counts v file on there (map_sectors (shape v)) refl
@@ -165,7 +163,7 @@ module _ (slot : Option Volume) (volume new : Volume) (before after : DriveView)
 
       by : WriteIsEnded v (record { number = n; at = at; bytes = bytes; now = now }) before.media after.media
           → LeavesMounted (asks user) (Err (File (Device number))) (writing_calls n at (length bytes)
-          (Err (Device number)) v file) v file before (Some new) after
+          (Err (Device number)) v file) v file before new after
       by (unchanged some same) = record {
         left = v;
         answers = record { may_be = write-stays n at bytes v file there some; refused = λ _. refl };
@@ -185,7 +183,7 @@ module _ (slot : Option Volume) (volume new : Volume) (before after : DriveView)
         ];
         disk = (Err (Device number), refl, answer v file on there);
       }
-  leaves user (Err NoCluster) answer few counts v file on there =
+  write-leaves user (Err NoCluster) answer few counts v file on there =
       let it = answer v file on there in
       record {
         left = v;
@@ -195,7 +193,7 @@ module _ (slot : Option Volume) (volume new : Volume) (before after : DriveView)
         refused = λ _. it.media_kept;
         disk = (Err NoCluster, refl, it);
       }
-  leaves user (Err TooManyRuns) answer few counts v file on there =
+  write-leaves user (Err TooManyRuns) answer few counts v file on there =
       let it = answer v file on there in
       record {
         left = v;
@@ -211,27 +209,9 @@ module _ (slot : Option Volume) (volume new : Volume) (before after : DriveView)
         disk = (Err TooManyRuns, refl, it);
       }
 
-  pub writes-on : (result : Result (Unit {0}) FileFault) → OnVolumeFile before.media n (λ v file. AnswersWrite v file
-      (record { number = n; at = at; bytes = bytes; now = now }) before.media after.media result)
-      → OnErr result (IsRefusal result → after.counts.calls ≤ before.counts.calls + 1) → OnMarked before.media
-      after.media n result (λ v file marks. MovesCounts (file_fault result) (write_calls v file marks at
-      (length bytes)) before.counts after.counts) → WritesOn n at bytes now result slot before (Some new) after
-  writes-on result answer few counts = record {
-    changed = record {
-      leaves = λ asked v file asks_for agrees there.
-          subst (λ ch. LeavesMounted (record { change = ch; user = asked.user; now = asked.now }) (file_answer result)
-          (writing_calls n at (length bytes) result v file) v file before (Some new) after)
-          (sym asks_for.change_is)
-          (subst (λ t. LeavesMounted (record { change = writes n at bytes; user = asked.user; now = t })
-          (file_answer result) (writing_calls n at (length bytes) result v file) v file before (Some new) after)
-          (sym asks_for.now_is)
-          (leaves asked.user result answer few counts v file (mounted-as slot volume before v is agrees).on there));
-    };
-  }
-
 -- ---- a change of size
 
-module _ (slot : Option Volume) (volume new : Volume) (before after : DriveView) (n size : ℕ) (now : TimePacket) (is : slot ≡ Some volume) (mounted : IsMounted new after.media) where
+module _ (new : Volume) (before after : DriveView) (n size : ℕ) (now : TimePacket) (mounted : IsMounted new after.media) where
   abbrev sizing : Sizing
   sizing = record { number = n; size = size; now = now }
 
@@ -258,14 +238,14 @@ module _ (slot : Option Volume) (volume new : Volume) (before after : DriveView)
       (le-ltb (free_total v) (clusters_needed (cluster_size v) file.segments size) (none-for-shorter before.media
       v n file size on there (subst (λ (f : DiskFile). size < length f.contents) same it.shorter))) full)
 
-  size_leaves : (user : ℕ) (result : Result (Unit {0}) FileFault) → OnVolumeFile before.media n
+  pub size-leaves : (user : ℕ) (result : Result (Unit {0}) FileFault) → OnVolumeFile before.media n
       (λ v file. AnswersSize v file sizing before.media after.media result) → OnErr result (IsNone (file_fault result)
       → after.counts.calls ≤ before.counts.calls + 1) → OnMarked before.media after.media n result
       (λ v file marks. MovesCounts (file_fault result) (size_calls v file marks sizing) before.counts after.counts)
       → (v : DiskVolume) (file : DiskFile) → Represents before.media v → v.files n ≡ Some file
       → LeavesMounted (asks_size user) (file_answer result) (sizing_calls sizing result v file) v file before
-      (Some new) after
-  size_leaves user (Ok done) answer few counts v file on there =
+      new after
+  size-leaves user (Ok done) answer few counts v file on there =
       let it = answer v file on there in
       let here : it.volume.files n ≡ Some it.sets.new = changed-there _ v it.volume n it.sets in
       let made : ChangeIsMade (asks_size user) v file it.volume 0 =
@@ -289,7 +269,7 @@ module _ (slot : Option Volume) (volume new : Volume) (before after : DriveView)
         refused = λ h. absurd (made-anyway (asks_size user) v file it.volume 0 made h);
         disk = (Ok done, refl, it);
       }
-  size_leaves user (Err (Device number)) answer few counts v file on there =
+  size-leaves user (Err (Device number)) answer few counts v file on there =
       let it = answer v file on there in
       record {
         left = it.volume;
@@ -305,7 +285,7 @@ module _ (slot : Option Volume) (volume new : Volume) (before after : DriveView)
         ];
         disk = (Err (Device number), refl, it);
       }
-  size_leaves user (Err NoCluster) answer few counts v file on there =
+  size-leaves user (Err NoCluster) answer few counts v file on there =
       let it = answer v file on there in
       record {
         left = v;
@@ -315,7 +295,7 @@ module _ (slot : Option Volume) (volume new : Volume) (before after : DriveView)
         refused = λ _. it.media_kept;
         disk = (Err NoCluster, refl, it);
       }
-  size_leaves user (Err TooManyRuns) answer few counts v file on there =
+  size-leaves user (Err TooManyRuns) answer few counts v file on there =
       let it = answer v file on there in
       record {
         left = v;
@@ -330,20 +310,3 @@ module _ (slot : Option Volume) (volume new : Volume) (before after : DriveView)
         refused = λ _. it.media_kept;
         disk = (Err TooManyRuns, refl, it);
       }
-
-  pub sizes-on : (result : Result (Unit {0}) FileFault) → OnVolumeFile before.media n (λ v file. AnswersSize v file
-      sizing before.media after.media result) → OnErr result (IsNone (file_fault result) → after.counts.calls ≤
-      before.counts.calls + 1) → OnMarked before.media after.media n result (λ v file marks. MovesCounts
-      (file_fault result) (size_calls v file marks sizing) before.counts after.counts) → SizesOn n size now result
-      slot before (Some new) after
-  sizes-on result answer few counts = record {
-    changed = record {
-      leaves = λ asked v file asks_for agrees there.
-          subst (λ ch. LeavesMounted (record { change = ch; user = asked.user; now = asked.now }) (file_answer result)
-          (sizing_calls sizing result v file) v file before (Some new) after) (sym asks_for.change_is)
-          (subst (λ t. LeavesMounted (record { change = sizes n size; user = asked.user; now = t })
-          (file_answer result) (sizing_calls sizing result v file) v file before (Some new) after)
-          (sym asks_for.now_is)
-          (size_leaves asked.user result answer few counts v file (mounted-as slot volume before v is agrees).on there));
-    };
-  }

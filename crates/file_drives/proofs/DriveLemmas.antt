@@ -3,11 +3,30 @@
 use Rattle.std.proofs.Common.{◌≡◌, ◌≢◌, ℕ, ◌<◌, ◌≤◌, ◌∙◌, Option, Some, None, option_map, List, map, length, get_or, set, slice_get, slice_set, refl, ap, sym, subst}
 use Rattle.std.proofs.lemmas.List.{map-set, length-set, length-map, get_or-map, get_or-set_same, get_or-set_other, set-get_or}
 use Rattle.std.proofs.lemmas.Option.{slice_get-map, slice_get_read, slice_get_within, get_or_from_slice_get}
+use Rattle.std.specs.declared.alloc.Global.{Global}
+use Rattle.std.specs.declared.dyn_box.DynBox.{DynBox}
 use Rattle.os9_base.specs.Count.{Rose}
 use Rattle.os9_outer.specs.Drive.{drive_error}
 use Rattle.file_rules.specs.Files.{NoneFailed, OneFailed, drive_at, new_drive}
 use Rattle.rbf_access.specs.Drive.{MovesCounts}
 use Rattle.file_drives.specs.Drives.{DriveView, ChangesOneDrive, OneDriveMoves, drive_state, drive_states, media_at, media_of, unused_drive}
+
+-- a box with another driver
+abbrev pub with_driver : {Table : Type 0} {Driver : Table → Type 0} → DynBox Table Global Driver
+    → (table : Table) × Driver table → DynBox Table Global Driver
+with_driver box driver = record { ptr = box.ptr; vtable = driver.0; alloc = box.alloc; value = driver.1 }
+
+-- the box with the driver that it has lent is the one of the list
+pub lent-is : {Table : Type 0} {Driver : Table → Type 0} (boxes : List (DynBox Table Global Driver)) (n : ℕ)
+    {box : DynBox Table Global Driver} {lent : (table : Table) × Driver table} → box ≡ get_or boxes n box
+    → lent ≡ (box.vtable, box.value) → with_driver box lent ≡ get_or boxes n (with_driver box lent)
+lent-is boxes n {box} {lent} box_is lent_is = subst (λ b. b ≡ get_or boxes n b) (sym (ap (λ d. with_driver box d) lent_is)) box_is
+
+-- what the lists tell of a driver
+pub drive-here : {Driver : Type 0} (view : Driver → DriveView) (drivers : List Driver) (n : ℕ) (driver : Driver)
+    → n < length drivers → driver ≡ get_or drivers n driver → slice_get (map view drivers) n ≡ Some (view driver)
+drive-here view drivers n driver inside here =
+    slice_get-map view drivers n ∙ ap (option_map view) (slice_get_read drivers (length drivers) n driver refl inside here)
 
 pub changes-one : {Driver : Type 0} (view : Driver → DriveView) (change : DriveView → DriveView → Type 0)
     (drivers : List Driver) (n : ℕ) (old new : Driver) → n < length drivers → old ≡ get_or drivers n old
@@ -15,7 +34,7 @@ pub changes-one : {Driver : Type 0} (view : Driver → DriveView) (change : Driv
 changes-one view change drivers n old new inside here changed = (
   view old,
   view new,
-  slice_get-map view drivers n ∙ ap (option_map view) (slice_get_read drivers (length drivers) n old refl inside here),
+  drive-here view drivers n old inside here,
   map-set view drivers n new,
   changed,
 )

@@ -31,13 +31,11 @@ use Rattle.rbf_entries.specs.declared.place.NewPlace.{NewPlace}
 use Rattle.file_rules.specs.Change.{creates, makes_directory}
 use Rattle.file_rules.specs.MakDir.{new_directory_size}
 use Rattle.file_drives.proofs.IdentLemmas.{made-anyway}
-use Rattle.file_drives.proofs.SlotLemmas.{mounted-as, mounted-left}
+use Rattle.file_drives.proofs.SlotLemmas.{LeavesMounted, mounted-left}
 use Rattle.file_drives.specs.Calls.{directory_calls, making_calls}
 use Rattle.file_drives.specs.Changed.{Asked, ChangeIsMade, has_no_segment, new_file_needs}
 use Rattle.file_drives.specs.Drives.{DriveView}
 use Rattle.file_drives.specs.Mounted.{IsMountedAs}
-use Rattle.file_drives.specs.SlotCalls.{CreatesOn, MakesDirectoryOn}
-use Rattle.file_drives.specs.Slots.{LeavesMounted}
 
 -- ---- why a new entry is refused
 
@@ -96,8 +94,8 @@ not-refused true long a b h = absurd (cc a)
 not-refused false true a b h = absurd (cc b)
 not-refused false false a b h = absurd (cc h)
 
-module _ (slot : Option Volume) (volume new : Volume) (before after : DriveView) (found : NewPlace) (name : List ℕ)
-    (attributes : ℕ) (now : TimePacket) (is : slot ≡ Some volume) (mounted : IsMounted new after.media) where
+module _ (new : Volume) (before after : DriveView) (found : NewPlace) (name : List ℕ)
+    (attributes : ℕ) (now : TimePacket) (mounted : IsMounted new after.media) where
   on-left : (w : DiskVolume) → Represents after.media w → IsMountedAs new after.media w
   on-left w on = mounted-left new after.media w mounted on
 
@@ -107,15 +105,15 @@ module _ (slot : Option Volume) (volume new : Volume) (before after : DriveView)
   -- ---- a file
 
   abbrev creation : Asked
-  creation = record { change = creates found.dir.number name attributes; user = found.user; now = now }
+  creation = record { change = creates found.dir.number name attributes; user = found.by.user; now = now }
 
   abbrev file_asked : Entering
-  file_asked = request found.dir.number name attributes found.user found.execute now
+  file_asked = request found.dir.number name attributes found.by.user found.by.execute now
 
   create_leaves : (result : Result ℕ FileFault) (v : DiskVolume) (dir : DiskFile) → Represents before.media v
       → AnswersEntering v dir file_asked before.media after.media (widened result) → MovesCounts (file_fault result)
       (entering_calls v dir 2 (widened result)) before.counts after.counts → LeavesMounted creation (widened result)
-      (λ left. entering_calls v dir 2 (widened result)) v dir before (Some new) after
+      (λ left. entering_calls v dir 2 (widened result)) v dir before new after
   create_leaves (Ok n) v dir on it counts =
       let room = has_room v dir file_asked 0 refl it.allowed in
       let made : ChangeIsMade creation v dir it.after n = record { allowed = refl; enough = room.0; list = room.1; makes = it.enters } in
@@ -125,20 +123,20 @@ module _ (slot : Option Volume) (volume new : Volume) (before after : DriveView)
         on = on-left it.after (record { image = it.now; is = it.is; vol = it.vol });
         counts = counts;
         refused = λ h. absurd (made-anyway creation v dir it.after n made h);
-        disk = (found.execute, it);
+        disk = (found.by.execute, it);
       }
   create_leaves (Err (Device number)) v dir on it counts = by it.1
     where
       by : EnteringStops v dir file_asked before.media after.media → LeavesMounted creation
           (Err (File (Device number))) (λ left. entering_calls v dir 2 (Err (File (Device number)))) v dir before
-          (Some new) after
+          new after
       by (unchanged same) = record {
         left = v;
         answers = record { may_be = ends.before refl; refused = λ _. refl };
         on = stayed-on v same on;
         counts = counts;
         refused = λ _. same;
-        disk = (found.execute, it);
+        disk = (found.by.execute, it);
       }
       by (took some) = record {
         left = some.left;
@@ -152,7 +150,7 @@ module _ (slot : Option Volume) (volume new : Volume) (before after : DriveView)
           | inl never ↦ absurd never
           | inr full ↦ let room = has_room v dir file_asked 0 refl some.allowed in absurd (not-refused _ _ room.0 room.1 full)
         ];
-        disk = (found.execute, it);
+        disk = (found.by.execute, it);
       }
   create_leaves (Err NoCluster) v dir on it counts = record {
     left = v;
@@ -160,7 +158,7 @@ module _ (slot : Option Volume) (volume new : Volume) (before after : DriveView)
     on = stayed-on v it.media_kept on;
     counts = counts;
     refused = λ _. it.media_kept;
-    disk = (found.execute, it);
+    disk = (found.by.execute, it);
   }
   create_leaves (Err TooManyRuns) v dir on it counts =
       let long = is_long v dir file_asked 0 refl it.because in
@@ -170,30 +168,30 @@ module _ (slot : Option Volume) (volume new : Volume) (before after : DriveView)
         on = stayed-on v it.media_kept on;
         counts = counts;
         refused = λ _. it.media_kept;
-        disk = (found.execute, it);
+        disk = (found.by.execute, it);
       }
 
-  pub creates-on : (result : Result ℕ FileFault) → OnVolumeFile before.media found.dir.number
-      (λ v dir. AnswersEntering v dir file_asked before.media after.media (widened result))
+  -- the directory is the one of this number
+  pub creates-at : (n : ℕ) → found.dir.number ≡ n → (result : Result ℕ FileFault) → OnVolumeFile before.media
+      found.dir.number (λ v dir. AnswersEntering v dir file_asked before.media after.media (widened result))
       → OnVolumeFile before.media found.dir.number (λ v dir. MovesCounts (file_fault result)
-      (entering_calls v dir 2 (widened result)) before.counts after.counts) → CreatesOn found name attributes now
-      result slot before (Some new) after
-  creates-on result answer counts = record {
-    changed = record {
-      leaves = λ asked v dir is_asked agrees there.
-          let on = (mounted-as slot volume before v is agrees).on in
-          subst (λ a. LeavesMounted a (widened result) (λ left. entering_calls v dir 2 (widened result)) v dir before (Some new) after) (sym is_asked)
-          (create_leaves result v dir on (answer v dir on there) (counts v dir on there));
-    };
-  }
+      (entering_calls v dir 2 (widened result)) before.counts after.counts) → (v : DiskVolume) (dir : DiskFile)
+      → Represents before.media v → v.files n ≡ Some dir → LeavesMounted
+      (record { change = creates n name attributes; user = found.by.user; now = now }) (widened result)
+      (λ left. entering_calls v dir 2 (widened result)) v dir before new after
+  creates-at n at result answer counts v dir on there =
+      let found_there = subst (λ m. v.files m ≡ Some dir) (sym at) there in
+      subst (λ m. LeavesMounted (record { change = creates m name attributes; user = found.by.user; now = now })
+      (widened result) (λ left. entering_calls v dir 2 (widened result)) v dir before new after) at
+      (create_leaves result v dir on (answer v dir on found_there) (counts v dir on found_there))
 
   -- ---- a directory
 
   abbrev making : Asked
-  making = record { change = makes_directory found.dir.number name attributes; user = found.user; now = now }
+  making = record { change = makes_directory found.dir.number name attributes; user = found.by.user; now = now }
 
   abbrev folder_asked : Entering
-  folder_asked = folder_request found.dir.number name attributes found.user now
+  folder_asked = folder_request found.dir.number name attributes found.by.user now
 
   folder_size : length (folder_asked.plan 0).contents ≡ new_directory_size
   folder_size = listing_size 0 found.dir.number
@@ -210,7 +208,7 @@ module _ (slot : Option Volume) (volume new : Volume) (before after : DriveView)
   make_leaves : (result : Result ℕ FileFault) (v : DiskVolume) (dir : DiskFile) → Represents before.media v
       → AnswersEntering v dir folder_asked before.media after.media (widened result) → MovesCounts (file_fault result)
       (entering_calls v dir (folder_calls v after.media result) (widened result)) before.counts after.counts
-      → LeavesMounted making (widened result) (making_calls (widened result) v dir) v dir before (Some new) after
+      → LeavesMounted making (widened result) (making_calls (widened result) v dir) v dir before new after
   make_leaves (Ok n) v dir on it counts =
       let room = has_room v dir folder_asked new_directory_size folder_size it.allowed in
       let here : Represents after.media it.after = record { image = it.now; is = it.is; vol = it.vol } in
@@ -230,7 +228,7 @@ module _ (slot : Option Volume) (volume new : Volume) (before after : DriveView)
       put-there files n file = ap (λ t. if t then file else files n) (eq-eqb n n refl)
   make_leaves (Err (Device number)) v dir on it counts = by it.1
     where
-      by : EnteringStops v dir folder_asked before.media after.media → LeavesMounted making (Err (File (Device number))) (making_calls (Err (File (Device number))) v dir) v dir before (Some new) after
+      by : EnteringStops v dir folder_asked before.media after.media → LeavesMounted making (Err (File (Device number))) (making_calls (Err (File (Device number))) v dir) v dir before new after
       by (unchanged same) = record {
         left = v;
         answers = record { may_be = ends.before refl; refused = λ _. refl };
@@ -272,16 +270,15 @@ module _ (slot : Option Volume) (volume new : Volume) (before after : DriveView)
         disk = it;
       }
 
-  pub makes-on : (result : Result ℕ FileFault) → OnVolumeFile before.media found.dir.number
-      (λ v dir. AnswersEntering v dir folder_asked before.media after.media (widened result))
+  pub makes-at : (n : ℕ) → found.dir.number ≡ n → (result : Result ℕ FileFault) → OnVolumeFile before.media
+      found.dir.number (λ v dir. AnswersEntering v dir folder_asked before.media after.media (widened result))
       → OnVolumeFile before.media found.dir.number (λ v dir. MovesCounts (file_fault result)
       (entering_calls v dir (folder_calls v after.media result) (widened result)) before.counts after.counts)
-      → MakesDirectoryOn found name attributes now result slot before (Some new) after
-  makes-on result answer counts = record {
-    changed = record {
-      leaves = λ asked v dir is_asked agrees there.
-          let on = (mounted-as slot volume before v is agrees).on in
-          subst (λ a. LeavesMounted a (widened result) (making_calls (widened result) v dir) v dir before (Some new) after) (sym is_asked)
-          (make_leaves result v dir on (answer v dir on there) (counts v dir on there));
-    };
-  }
+      → (v : DiskVolume) (dir : DiskFile) → Represents before.media v → v.files n ≡ Some dir → LeavesMounted
+      (record { change = makes_directory n name attributes; user = found.by.user; now = now }) (widened result)
+      (making_calls (widened result) v dir) v dir before new after
+  makes-at n at result answer counts v dir on there =
+      let found_there = subst (λ m. v.files m ≡ Some dir) (sym at) there in
+      subst (λ m. LeavesMounted (record { change = makes_directory m name attributes; user = found.by.user; now = now })
+      (widened result) (making_calls (widened result) v dir) v dir before new after) at
+      (make_leaves result v dir on (answer v dir on found_there) (counts v dir on found_there))

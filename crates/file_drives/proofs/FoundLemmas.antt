@@ -1,16 +1,11 @@
 -- A place that was found in a directory, on the drive of that directory.
-use Rattle.std.proofs.Common.{◌≡◌, ℕ, ◌∙◌, Option, Some, List, slice_get, sym, subst}
+use Rattle.std.proofs.Common.{◌≡◌, ℕ, ◌∙◌, Some, List, slice_get, sym, subst}
 use Rattle.std.proofs.lemmas.Option.{same_Some}
-use Rattle.rbf_access.specs.declared.volume.Volume.{Volume}
 use Rattle.rbf_entries.specs.Places.{IsPlaceFor}
 use Rattle.rbf_entries.specs.declared.place.NewPlace.{NewPlace}
 use Rattle.lock_model.specs.declared.place.FilePlace.{FilePlace}
 use Rattle.file_drives.specs.Drives.{DriveView}
 use Rattle.file_drives.specs.Entries.{IsPlaceAt}
-use Rattle.file_drives.specs.Slots.{HasFileOn}
-
-pub file-found : (slot : Option Volume) (view : DriveView) (n number : ℕ) → number ≡ n → HasFileOn slot view n → HasFileOn slot view number
-file-found slot view n number same has = subst (λ m. HasFileOn slot view m) (sym same) has
 
 pub place-here : (views : List DriveView) (view : DriveView) (dir : FilePlace) (name : List ℕ) (found : NewPlace)
     → IsPlaceAt views dir name found → slice_get views dir.drive ≡ Some view → IsPlaceFor view.media name found

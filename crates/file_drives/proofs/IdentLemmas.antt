@@ -1,6 +1,6 @@
 -- A change of a volume keeps the length of its media, and its first sector. And a change that is made was not to be
 -- refused.
-use Rattle.std.proofs.Common.{◌≡◌, ◌⊎◌, ℕ, ◌+◌, ◌-◌, ◌*◌, ◌≤◌, ◌∙◌, Bool, true, false, not, ◌||◌, Option, Some, None, option_map, List, length, Result, Ok, Err, refl, ap, sym, inl, inr, arith}
+use Rattle.std.proofs.Common.{◌≡◌, ◌⊎◌, ℕ, ◌+◌, ◌-◌, ◌*◌, ◌≤◌, ◌∙◌, Bool, true, false, not, ◌||◌, Option, Some, option_map, List, length, Result, Ok, Err, refl, ap, sym, inl, inr, arith}
 use Rattle.std.proofs.lemmas.List.{length-drop}
 use Rattle.os9_base.specs.declared.registers.TimePacket.{TimePacket}
 use Rattle.os9_outer.specs.Drive.{sector_at}
@@ -13,13 +13,11 @@ use Rattle.rbf_change.specs.Faults.{DeletionEnds, MayLose, NewFileEnds, SizeEnds
 use Rattle.rbf_change.specs.NewFiles.{Plan, directory_plan, file_plan}
 use Rattle.rbf_access.specs.Mounted.{Represents}
 use Rattle.rbf_access.specs.declared.faults.FileFault.TheVariants.{Device, NoCluster, TooManyRuns}
-use Rattle.rbf_access.specs.declared.volume.Volume.{Volume}
 use Rattle.rbf_walk.specs.declared.error.DirError.{DirError}
 use Rattle.rbf_walk.specs.declared.error.DirError.TheVariants.{NotAllowed, BadPath, NotFound, Exists, File}
 use Rattle.file_rules.specs.Change.{Change, writes, sizes, sets_attributes, creates, makes_directory, deletes, Makes, MayLeave}
 use Rattle.file_drives.specs.Changed.{AnswersChange, Asked, ChangeIsMade, IsRefused, has_full_list, is_allowed, is_full_for, is_refused}
-use Rattle.file_drives.specs.Drives.{DriveView, KeepsIdent}
-use Rattle.file_drives.specs.Mounted.{AgreesOnDrive}
+use Rattle.file_drives.specs.Drives.{KeepsIdent}
 
 -- ---- what a change leaves of a volume's first sector and of the bytes behind it
 
@@ -107,12 +105,10 @@ ident-kept v left before after was is same = record {
 }
 
 pub ident-left : (asked : Asked) (v : DiskVolume) (file : DiskFile) (left : DiskVolume) (answer : Result ℕ DirError)
-    (kept new : Option Volume) (before after : DriveView) → AgreesOnDrive kept before (Some v) → AgreesOnDrive new
-    after (Some left) → AnswersChange asked v file left answer → KeepsIdent before.media after.media
-ident-left asked v file left answer None new before after was is it = absurd was
-ident-left asked v file left answer (Some one) None before after was is it = absurd is
-ident-left asked v file left answer (Some one) (Some other) before after was is it =
-    ident-kept v left before.media after.media was.on is.on (of-answer asked v file left answer it)
+    (before after : Option (List ℕ)) → Represents before v → Represents after left
+    → AnswersChange asked v file left answer → KeepsIdent before after
+ident-left asked v file left answer before after was is it =
+    ident-kept v left before after was is (of-answer asked v file left answer it)
 
 -- ---- a change that is made was not to be refused
 

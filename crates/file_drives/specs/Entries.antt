@@ -20,8 +20,8 @@ pub record IsPlaceAt (views : List DriveView) (dir : FilePlace) (name : List ℕ
 pub record IsPlaceOn (views : List DriveView) (dir : FilePlace) (name : List ℕ) (user : ℕ) (execute : Bool)
     (found : NewPlace) : Type 0 where
   pub at : IsPlaceAt views dir name found
-  pub user_is : found.user ≡ user
-  pub execute_is : found.execute ≡ execute
+  pub user_is : found.by.user ≡ user
+  pub execute_is : found.by.execute ≡ execute
 
 -- the entry of a directory with a name, if it may be made free
 pub record IsDeletableOn (views : List DriveView) (dir : FilePlace) (name : List ℕ) (found : Deletable) : Type 0 where

@@ -4,5 +4,3 @@ pub mod Changed
 pub mod Drives
 pub mod Entries
 pub mod Mounted
-pub mod SlotCalls
-pub mod Slots

@@ -19,11 +19,6 @@ ghost use Rattle.file_drives.specs.Drives.{DriveView, drives_seen, ChangesOneDri
 ghost use Rattle.file_drives.specs.Entries.{IsDeletableOn, IsDeletionOn, IsPlaceAt, IsPlaceOn, MayBeDeletedOn};
 ghost use Rattle.file_drives.specs.Mounted.{AgreesOnDrive, AreMounted, ArrivesOn, HasDataFileAt, HasFileAt, MountsAs, OnDisks, ReadsFile, ReadsToMount, kept_at, mounted_at, number_arrived};
 
-use crate::changing::{set_attr_in_box, set_size_in_box, write_in_box};
-use crate::entries::{
-    create_in_box, delete_in_box, find_deletable_in_box, find_place_in_box, make_dir_in_box,
-};
-use crate::reading::{fd_in_box, mount_in_box, read_in_box, size_in_box, walk_in_box};
 use device_table::devices::Devices;
 use lock_model::place::FilePlace;
 use os9_base::call::OutOfMemory;
@@ -31,9 +26,13 @@ use os9_base::name::Name;
 use os9_base::registers::TimePacket;
 use os9_outer::drive::BlockDriver;
 use rbf_access::{FileFault, VolFault, Volume};
-use rbf_entries::{Deletable, NewPlace};
+use rbf_entries::{
+    Deletable, NewAttributes, NewFile, NewPlace, create_at, delete_at, find_deletable, find_place,
+    make_dir_at, set_attr,
+};
 use rbf_sector::Fd;
-use rbf_walk::DirError;
+use rbf_walk::{DirError, Searcher, walk};
+use rbf_write::{NewBytes, set_size, write_at};
 use std::alloc::Global;
 use std::marker::Model;
 
@@ -91,11 +90,13 @@ impl Disks {
             (drives_seen BlockDriver-box devices.new) }
         ensures terms_kept { devices.new.terms ≡ devices.old.terms }
     {
-        mount_in_box(
-            alloc,
-            &mut self.volumes[n as usize],
-            &mut devices.drives[n as usize],
-        )
+        match Volume::mount(alloc, &mut *devices.drives[n as usize]) {
+            Ok(volume) => {
+                self.volumes[n as usize] = Some(volume);
+                Ok(())
+            }
+            Err(fault) => Err(fault),
+        }
     }
 
     /// The root directory of the volume that is mounted on drive `n`; None if none is mounted.
@@ -125,11 +126,11 @@ impl Disks {
             self.new (drives_seen BlockDriver-box devices.new) }
         ensures terms_kept { devices.new.terms ≡ devices.old.terms }
     {
-        fd_in_box(
-            &mut self.volumes[place.drive as usize],
-            &mut devices.drives[place.drive as usize],
-            place.number,
-        )
+        let drive = place.drive as usize;
+        match &mut self.volumes[drive] {
+            Some(volume) => volume.fd(&mut *devices.drives[drive], place.number),
+            None => unreachable!(),
+        }
     }
 
     /// The size of a file, in bytes.
@@ -147,11 +148,11 @@ impl Disks {
             self.new (drives_seen BlockDriver-box devices.new) }
         ensures terms_kept { devices.new.terms ≡ devices.old.terms }
     {
-        size_in_box(
-            &mut self.volumes[place.drive as usize],
-            &mut devices.drives[place.drive as usize],
-            place.number,
-        )
+        let drive = place.drive as usize;
+        match &mut self.volumes[drive] {
+            Some(volume) => volume.size(&mut *devices.drives[drive], place.number),
+            None => unreachable!(),
+        }
     }
 
     /// Reads bytes of a file from `at` on into `into`, until `into` is full or the file ends, and
@@ -177,13 +178,11 @@ impl Disks {
             self.new (drives_seen BlockDriver-box devices.new) }
         ensures terms_kept { devices.new.terms ≡ devices.old.terms }
     {
-        read_in_box(
-            &mut self.volumes[place.drive as usize],
-            &mut devices.drives[place.drive as usize],
-            place.number,
-            at,
-            into,
-        )
+        let drive = place.drive as usize;
+        match &mut self.volumes[drive] {
+            Some(volume) => volume.read_at(&mut *devices.drives[drive], place.number, at, into),
+            None => unreachable!(),
+        }
     }
 
     /// Goes from a directory to its file with a name, for a user. The directory must let the user
@@ -198,34 +197,38 @@ impl Disks {
         devices: &mut Devices,
         place: FilePlace,
         name: &Name,
-        user: u16,
-        execute: bool,
+        by: Searcher,
     ) -> Result<FilePlace, DirError>
         requires file { HasFileAt self.old (drives_seen BlockDriver-box devices.old) place }
         ensures walked { OnDisks self.old (drives_seen BlockDriver-box devices.old) place
-            (λ v file. AnswersWalk (step (Some file) user execute name.now)
+            (λ v file. AnswersWalk (step (Some file) by.user by.execute name.now)
             (number_arrived result)) }
         ensures file { IfOk result (ArrivesOn place.drive self.new
             (drives_seen BlockDriver-box devices.new)) }
         ensures drive { ReadsFile place (directory_fault result)
-            (λ v file. step_calls (Some file) user execute name.now)
+            (λ v file. step_calls (Some file) by.user by.execute name.now)
             self.old (drives_seen BlockDriver-box devices.old)
             self.new (drives_seen BlockDriver-box devices.new) }
         ensures terms_kept { devices.new.terms ≡ devices.old.terms }
     {
-        let arrived = walk_in_box(
-            &mut self.volumes[place.drive as usize],
-            &mut devices.drives[place.drive as usize],
-            place.number,
-            name,
-            user,
-            execute,
-        );
-        placed(place.drive, arrived)
+        let drive = place.drive as usize;
+        match &mut self.volumes[drive] {
+            Some(volume) => placed(
+                place.drive,
+                walk(
+                    volume,
+                    &mut *devices.drives[drive],
+                    place.number,
+                    &[*name],
+                    by,
+                ),
+            ),
+            None => unreachable!(),
+        }
     }
 
-    /// Writes bytes to a file that is not a directory, from `at` on. If `at` is past the end, zeros
-    /// fill the file between its end and `at`. A write that changes the size sets the date. A write
+    /// Writes bytes to a file that is not a directory, from a place on. If the place is past the
+    /// end, zeros fill the file between its end and the place. A write that changes the size sets the date. A write
     /// of no bytes changes nothing and does not call the drive (OS-9 System Programmer's Manual,
     /// I$Write).
     ///
@@ -239,26 +242,22 @@ impl Disks {
         &mut self,
         devices: &mut Devices,
         place: FilePlace,
-        at: u32,
-        from: &[u8],
-        now: TimePacket,
+        write: NewBytes<'_>,
     ) -> Result<(), FileFault>
         requires file { HasDataFileAt self.old (drives_seen BlockDriver-box devices.old) place }
         ensures changed { (user : ℕ) → ChangesVolume place
-            (record { change = writes place.number at from.now; user = user; now = now })
-            (file_answer result) (writing_calls place.number at (length from.now) result)
+            (asking (writes place.number write.entry.at write.entry.bytes.now) user write.entry.now)
+            (file_answer result)
+            (writing_calls place.number write.entry.at (length write.entry.bytes.now) result)
             self.old (drives_seen BlockDriver-box devices.old)
             self.new (drives_seen BlockDriver-box devices.new) }
         ensures terms_kept { devices.new.terms ≡ devices.old.terms }
     {
-        write_in_box(
-            &mut self.volumes[place.drive as usize],
-            &mut devices.drives[place.drive as usize],
-            place.number,
-            at,
-            from,
-            now,
-        )
+        let drive = place.drive as usize;
+        match &mut self.volumes[drive] {
+            Some(volume) => write_at(volume, &mut *devices.drives[drive], place.number, write),
+            None => unreachable!(),
+        }
     }
 
     /// Gives a file that is not a directory a size, in bytes. A longer file gains the clusters that
@@ -288,13 +287,11 @@ impl Disks {
             self.new (drives_seen BlockDriver-box devices.new) }
         ensures terms_kept { devices.new.terms ≡ devices.old.terms }
     {
-        set_size_in_box(
-            &mut self.volumes[place.drive as usize],
-            &mut devices.drives[place.drive as usize],
-            place.number,
-            size,
-            now,
-        )
+        let drive = place.drive as usize;
+        match &mut self.volumes[drive] {
+            Some(volume) => set_size(volume, &mut *devices.drives[drive], place.number, size, now),
+            None => unreachable!(),
+        }
     }
 
     /// Gives a file or directory other attributes, for a user (SS.Attr, this project's own
@@ -309,26 +306,21 @@ impl Disks {
         &mut self,
         devices: &mut Devices,
         place: FilePlace,
-        attr: u8,
-        user: u16,
-        now: TimePacket,
+        asked: NewAttributes,
     ) -> Result<(), DirError>
         requires file { HasFileAt self.old (drives_seen BlockDriver-box devices.old) place }
         ensures changed { ChangesVolume place
-            (record { change = sets_attributes place.number attr; user = user; now = now })
-            (numbered result) (λ v file left. attribute_calls file user)
+            (asking (sets_attributes place.number asked.attr) asked.user asked.date)
+            (numbered result) (λ v file left. attribute_calls file asked.user)
             self.old (drives_seen BlockDriver-box devices.old)
             self.new (drives_seen BlockDriver-box devices.new) }
         ensures terms_kept { devices.new.terms ≡ devices.old.terms }
     {
-        set_attr_in_box(
-            &mut self.volumes[place.drive as usize],
-            &mut devices.drives[place.drive as usize],
-            place.number,
-            attr,
-            user,
-            now,
-        )
+        let drive = place.drive as usize;
+        match &mut self.volumes[drive] {
+            Some(volume) => set_attr(volume, &mut *devices.drives[drive], place.number, asked),
+            None => unreachable!(),
+        }
     }
 
     /// The place in a directory for a new entry with a name, for a user: the first free one, or the
@@ -344,28 +336,24 @@ impl Disks {
         devices: &mut Devices,
         dir: FilePlace,
         name: &Name,
-        user: u16,
-        execute: bool,
+        by: Searcher,
     ) -> Result<NewPlace, DirError>
         requires file { HasFileAt self.old (drives_seen BlockDriver-box devices.old) dir }
         ensures answer { OnDisks self.old (drives_seen BlockDriver-box devices.old) dir
-            (λ v file. AnswersPlace file name.now user execute (place_found result)) }
+            (λ v file. AnswersPlace file name.now by.user by.execute (place_found result)) }
         ensures found { IfOk result (IsPlaceOn (drives_seen BlockDriver-box devices.new)
-            dir name.now user execute) }
+            dir name.now by.user by.execute) }
         ensures drive { ReadsFile dir (directory_fault result)
-            (λ v file. place_calls file name.now user execute)
+            (λ v file. place_calls file name.now by.user by.execute)
             self.old (drives_seen BlockDriver-box devices.old)
             self.new (drives_seen BlockDriver-box devices.new) }
         ensures terms_kept { devices.new.terms ≡ devices.old.terms }
     {
-        find_place_in_box(
-            &mut self.volumes[dir.drive as usize],
-            &mut devices.drives[dir.drive as usize],
-            dir.number,
-            name,
-            user,
-            execute,
-        )
+        let drive = dir.drive as usize;
+        match &mut self.volumes[drive] {
+            Some(volume) => find_place(volume, &mut *devices.drives[drive], dir.number, name, by),
+            None => unreachable!(),
+        }
     }
 
     /// The entry of a directory with a name, if a user may delete it: an entry of a file, not of a
@@ -381,29 +369,31 @@ impl Disks {
         devices: &mut Devices,
         dir: FilePlace,
         name: &Name,
-        user: u16,
-        execute: bool,
+        by: Searcher,
     ) -> Result<Deletable, DirError>
         requires file { HasFileAt self.old (drives_seen BlockDriver-box devices.old) dir }
         ensures answer { OnDisks self.old (drives_seen BlockDriver-box devices.old) dir
-            (λ v file. AnswersWalk (deletion_end v.files file name.now user execute)
+            (λ v file. AnswersWalk (deletion_end v.files file name.now by.user by.execute)
             (descriptor_found result)) }
         ensures found { IfOk result (IsDeletableOn (drives_seen BlockDriver-box devices.new)
             dir name.now) }
         ensures drive { ReadsFile dir (directory_fault result)
-            (λ v file. deletion_calls file name.now user execute)
+            (λ v file. deletion_calls file name.now by.user by.execute)
             self.old (drives_seen BlockDriver-box devices.old)
             self.new (drives_seen BlockDriver-box devices.new) }
         ensures terms_kept { devices.new.terms ≡ devices.old.terms }
     {
-        find_deletable_in_box(
-            &mut self.volumes[dir.drive as usize],
-            &mut devices.drives[dir.drive as usize],
-            dir.number,
-            name,
-            user,
-            execute,
-        )
+        let drive = dir.drive as usize;
+        match &mut self.volumes[drive] {
+            Some(volume) => find_deletable(
+                volume,
+                &mut *devices.drives[drive],
+                dir.number,
+                name,
+                by,
+            ),
+            None => unreachable!(),
+        }
     }
 
     /// Creates a file without contents, with a name that is not yet in the directory, at the place
@@ -421,29 +411,25 @@ impl Disks {
         devices: &mut Devices,
         dir: FilePlace,
         found: &NewPlace,
-        name: &Name,
-        attr: u8,
-        now: TimePacket,
+        file: &NewFile,
     ) -> Result<u32, FileFault>
         requires file { HasFileAt self.old (drives_seen BlockDriver-box devices.old) dir }
         requires place { IsPlaceAt (drives_seen BlockDriver-box devices.old)
-            dir name.now found.now }
-        requires attributes { attr < 128 }
+            dir file.now.name found.now }
+        requires attributes { file.now.attr < 128 }
         ensures changed { ChangesVolume dir
-            (asking (creates dir.number name.now attr) found.now.user now)
-            (widened result) (λ v file left. entering_calls v file 2 (widened result))
+            (asking (creates dir.number file.now.name file.now.attr)
+            found.now.by.user file.now.date)
+            (widened result) (λ v folder left. entering_calls v folder 2 (widened result))
             self.old (drives_seen BlockDriver-box devices.old)
             self.new (drives_seen BlockDriver-box devices.new) }
         ensures terms_kept { devices.new.terms ≡ devices.old.terms }
     {
-        create_in_box(
-            &mut self.volumes[dir.drive as usize],
-            &mut devices.drives[dir.drive as usize],
-            found,
-            name,
-            attr,
-            now,
-        )
+        let drive = dir.drive as usize;
+        match &mut self.volumes[drive] {
+            Some(volume) => create_at(volume, &mut *devices.drives[drive], found, file),
+            None => unreachable!(),
+        }
     }
 
     /// Makes a directory with a name that is not yet in its parent, at the place that
@@ -458,29 +444,25 @@ impl Disks {
         devices: &mut Devices,
         dir: FilePlace,
         found: &NewPlace,
-        name: &Name,
-        attr: u8,
-        now: TimePacket,
+        file: &NewFile,
     ) -> Result<u32, FileFault>
         requires file { HasFileAt self.old (drives_seen BlockDriver-box devices.old) dir }
         requires place { IsPlaceAt (drives_seen BlockDriver-box devices.old)
-            dir name.now found.now }
-        requires reading { found.now.execute ≡ false }
+            dir file.now.name found.now }
+        requires reading { found.now.by.execute ≡ false }
         ensures changed { ChangesVolume dir
-            (asking (makes_directory dir.number name.now attr) found.now.user now)
+            (asking (makes_directory dir.number file.now.name file.now.attr)
+            found.now.by.user file.now.date)
             (widened result) (making_calls (widened result))
             self.old (drives_seen BlockDriver-box devices.old)
             self.new (drives_seen BlockDriver-box devices.new) }
         ensures terms_kept { devices.new.terms ≡ devices.old.terms }
     {
-        make_dir_in_box(
-            &mut self.volumes[dir.drive as usize],
-            &mut devices.drives[dir.drive as usize],
-            found,
-            name,
-            attr,
-            now,
-        )
+        let drive = dir.drive as usize;
+        match &mut self.volumes[drive] {
+            Some(volume) => make_dir_at(volume, &mut *devices.drives[drive], found, file),
+            None => unreachable!(),
+        }
     }
 
     /// Deletes the file whose entry [`Disks::find_deletable`] has found (OS-9 Technical Reference,
@@ -506,11 +488,11 @@ impl Disks {
             self.new (drives_seen BlockDriver-box devices.new) }
         ensures terms_kept { devices.new.terms ≡ devices.old.terms }
     {
-        delete_in_box(
-            &mut self.volumes[dir.drive as usize],
-            &mut devices.drives[dir.drive as usize],
-            found,
-        )
+        let drive = dir.drive as usize;
+        match &mut self.volumes[drive] {
+            Some(volume) => delete_at(volume, &mut *devices.drives[drive], found),
+            None => unreachable!(),
+        }
     }
 }
 

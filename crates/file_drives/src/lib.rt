@@ -4,7 +4,4 @@
 #![tactic(auto)]
 
 pub mod changes;
-mod changing;
 pub mod disks;
-mod entries;
-mod reading;

@@ -62,8 +62,8 @@ module _ (state : FileState) (views : List DriveView) (files : Files) (p : ℕ) 
       }
 
   -- where the number is in A
-  pub known-a : (s : ProcState) (m : Processes) → Represents s m → IsOpened state p (record_at s.table p).regs.a opened → IsKnown files p (regs_at m p).a opened
-  known-a s m tied is = known (regs_at m p).a (subst (λ (r : Regs). IsOpened state p r.a opened) (regs-tied s m p tied) is)
+  pub known-a : (s : ProcState) (m : Processes) (regs : Regs) → regs ≡ (record_at s.table p).regs → Represents s m → IsOpened state p regs.a opened → IsKnown files p (regs_at m p).a opened
+  known-a s m regs same tied is = known (regs_at m p).a (subst (λ (r : Regs). IsOpened state p r.a opened) (same ∙ regs-tied s m p tied) is)
 
 -- ---- registers
 

@@ -9,7 +9,7 @@ use Rattle.io_model.specs.declared.path.Desc.{Desc}
 use Rattle.io_rules.specs.Io.{Io, with_call, with_paths}
 use Rattle.proc_state.specs.declared.state.ProcState.{ProcState}
 use Rattle.file_state.specs.declared.state.OpenFile.{OpenFile}
-use Rattle.file_io.specs.Ending.{GivesBytes, IsDone, with_bytes}
+use Rattle.file_io.specs.Ending.{IsDone, with_bytes}
 use Rattle.file_io.specs.Opened.{IsPathOf, moved_to}
 
 module _ (io between : Io) (p : ℕ) (opened : OpenFile) (same : between ≡ with_call io p None) (path : IsPathOf io opened) where
@@ -26,24 +26,15 @@ module _ (io between : Io) (p : ℕ) (opened : OpenFile) (same : between ≡ wit
       subst (λ (it : Io). IfSome (desc_of it.paths opened.path.0) (λ desc. new ≡ with_paths it (with_desc it.paths opened.path.0 (Some (record desc { at = at }))))) same fact in
       subst (λ (o : Option Desc). IfSome o (λ desc. new ≡ with_paths (with_call io p None) (with_desc io.paths opened.path.0 (Some (record desc { at = at }))))) path.desc here
 
--- a process is given these bytes, which are so many
-module _ (bytes given : List ℕ) (n : ℕ) (regs : Regs) (opened : OpenFile) (m : Processes) (p : ℕ) (io : Io) (end : CallEnd) (processes : ProcState) (new : Io) where
-  abbrev Gives : List ℕ → ℕ → Type 0
-  Gives b k = IsDone (with_bytes m p regs.x b) p (record regs { y = k }) (moved_to io opened (opened.desc.at + k)) end processes new
-
-  pub gives-of : bytes ≡ given → length given ≡ n → Gives bytes n → GivesBytes given regs opened m p io end processes new
-  gives-of same long it = subst (λ (b : List ℕ). Gives b (length given)) same (subst (λ (k : ℕ). Gives bytes k) (sym long) it)
-
--- the same from a place on, with these registers
-pub done-as : (bytes given : List ℕ) (n start : ℕ) (regs other : Regs) (opened : OpenFile) (m : Processes) (p : ℕ) (io : Io)
-    (end : CallEnd) (processes : ProcState) (new : Io) → bytes ≡ given → length given ≡ n → regs ≡ other
+-- a process is given these bytes, which are so many, and the position of its path is behind them
+pub gives-of : (bytes given : List ℕ) (n start : ℕ) (regs : Regs) (opened : OpenFile) (m : Processes) (p : ℕ) (io : Io) (end : CallEnd)
+    (processes : ProcState) (new : Io) → bytes ≡ given → length given ≡ n
     → IsDone (with_bytes m p regs.x bytes) p (record regs { y = n }) (moved_to io opened (start + n)) end processes new
-    → IsDone (with_bytes m p other.x given) p (record other { y = length given })
+    → IsDone (with_bytes m p regs.x given) p (record regs { y = length given })
     (moved_to io opened (start + length given)) end processes new
-done-as bytes given n start regs other opened m p io end processes new same long regs_are it =
-    subst (λ (r : Regs). IsDone (with_bytes m p r.x given) p (record r { y = length given }) (moved_to io opened (start + length given)) end processes new) regs_are
-    (subst (λ (b : List ℕ). IsDone (with_bytes m p regs.x b) p (record regs { y = length given }) (moved_to io opened (start + length given)) end processes new) same
-    (subst (λ (k : ℕ). IsDone (with_bytes m p regs.x bytes) p (record regs { y = k }) (moved_to io opened (start + k)) end processes new) (sym long) it))
+gives-of bytes given n start regs opened m p io end processes new same long it =
+    subst (λ (b : List ℕ). IsDone (with_bytes m p regs.x b) p (record regs { y = length given }) (moved_to io opened (start + length given)) end processes new) same
+    (subst (λ (k : ℕ). IsDone (with_bytes m p regs.x bytes) p (record regs { y = k }) (moved_to io opened (start + k)) end processes new) (sym long) it)
 
 -- what holds of a result that is no error
 pub on-ok : {T E : Type 0} {P : Type 0} (r : Result T E) → is_err r ≡ false → OnOk r P → P

@@ -1,20 +1,23 @@
 -- What a read of the file of a path comes to, by what was answered to it.
-use Rattle.std.proofs.Common.{◌≡◌, ◌≢◌, ◌∙◌, ℕ, ◌+◌, ◌-◌, ◌<◌, ◌≤◌, ◌^◌, min, nat_le, Bool, true, false, Option, Some, None, IsSome, OnErr, IfOk, Result, Ok, Err, List, ◌++◌, length, take, drop, take-take, append_assoc, ⊎_elim, inl, inr, sym, ap, refl, subst, arith, le-leb, leb-true, length-take, length-drop}
+use Rattle.std.proofs.Common.{◌≡◌, ◌≢◌, ◌∙◌, ◌==◌, not, is_none, is_some, ℕ, ◌+◌, ◌-◌, ◌<◌, ◌≤◌, ◌^◌, min, nat_le, Bool, true, false, Option, Some, None, IsSome, OnErr, IfOk, Result, Ok, Err, List, ◌++◌, length, take, drop, take-take, append_assoc, ⊎_elim, inl, inr, sym, ap, refl, subst, arith, le-leb, leb-true, length-take, length-drop}
 use Rattle.std.specs.Prelude.{if◌then◌else◌}
-use Rattle.std.proofs.lemmas.Bool.{cases_lt, false≢true}
+use Rattle.std.proofs.lemmas.Bool.{cases_lt, false≢true, ne_eqb}
 use Rattle.std.proofs.lemmas.List.{length-take-le, take_at}
 use Rattle.os9_base.specs.Cells.{Cells}
 use Rattle.os9_base.specs.declared.call.CallEnd.{CallEnd}
-use Rattle.os9_base.specs.declared.errors.TheConstants.{E_EOF}
+use Rattle.os9_base.specs.declared.errors.TheConstants.{E_BMODE, E_BPADDR, E_EOF}
 use Rattle.os9_base.specs.declared.registers.Regs.{Regs}
 use Rattle.os9_base.specs.declared.registers.TimePacket.{TimePacket}
 use Rattle.os9_outer.specs.TerminalState.{TerminalState}
-use Rattle.proc_rules.specs.Processes.{Processes, regs_at}
+use Rattle.proc_rules.specs.Processes.{Processes, cells_at, regs_at}
+use Rattle.proc_rules.specs.UserBytes.{user_bytes}
 use Rattle.io_model.specs.declared.terminal.ReadKind.{ReadKind}
 use Rattle.io_rules.specs.Io.{Io, with_call}
+use Rattle.io_rules.specs.Modes.{can_read}
 use Rattle.proc_state.specs.declared.state.ProcState.{ProcState}
-use Rattle.rbf_access.specs.Faults.{file_fault}
+use Rattle.rbf_access.specs.Faults.{file_error, file_fault}
 use Rattle.rbf_access.specs.declared.faults.FileFault.{FileFault}
+use Rattle.rbf_access.specs.declared.volume.Volume.{Volume}
 use Rattle.rbf_access.specs.declared.faults.FileFault.TheVariants.{Device, NoCluster, TooManyRuns}
 use Rattle.rbf_access.specs.Reading.{IsRead, filled_buffer, read_calls}
 use Rattle.rbf_change.specs.Contents.{bytes_from}
@@ -24,16 +27,17 @@ use Rattle.lock_model.specs.History.{got}
 use Rattle.lock_model.specs.Records.{Records, holding, with_waiting}
 use Rattle.lock_model.specs.declared.lock.Held.{Held}
 use Rattle.file_drives.specs.Drives.{DriveView, drive_states}
-use Rattle.file_drives.specs.Mounted.{AreMounted}
+use Rattle.file_drives.specs.Mounted.{AreMounted, ReadsFile}
 use Rattle.file_rules.specs.Attempts.{asker_of}
 use Rattle.file_rules.specs.Files.{Asker, DriveState, Files, volume_at, with_drives, with_io, with_volume}
 use Rattle.file_rules.specs.Files as rules
 use Rattle.file_rules.specs.Locking.{is_for_update, position_of, request_now}
 use Rattle.file_rules.specs.Read.{answers_bytes, bytes_at, lock_by, read_claim, reads_freely, reads_locked}
-use Rattle.file_rules.specs.Step.{FileEffect, FileStep, MayBeLeft, comes, deed_of, leaves_so, reaches, refuses, refuses_so, with_drives_after}
+use Rattle.file_rules.specs.Step.{FileEffect, FileStep, MayBeLeft, comes, deed_of, done, leaves_so, reaches, refused, refuses, refuses_so, with_drives_after}
+use Rattle.file_state.proofs.CountLemmas.{called-more, called-read}
 use Rattle.file_state.proofs.EndLemmas.{breaks, goes-well}
 use Rattle.file_state.proofs.KeepLemmas.{MayKeepAll, keeps-read}
-use Rattle.file_state.proofs.ReachedLemmas.{same-volume}
+use Rattle.file_state.proofs.ReachedLemmas.{file-there, has-read, same-volume}
 use Rattle.file_state.proofs.RequestLemmas.{forgotten-again, lacks-none, reached-fails, stands-beside}
 use Rattle.file_state.proofs.StateLemmas.{stands-with_io}
 use Rattle.file_state.specs.Counted.{CalledAtMost}
@@ -43,11 +47,11 @@ use Rattle.file_state.specs.Reached.{HasRead}
 use Rattle.file_state.specs.Tie.{StandsFor}
 use Rattle.file_state.specs.declared.state.FileState.{FileState}
 use Rattle.file_state.specs.declared.state.OpenFile.{OpenFile}
-use Rattle.file_io.proofs.TryingLemmas.{deed-goes, deed-refused}
+use Rattle.file_io.proofs.TryingLemmas.{deed-goes, deed-refused, ends-if-false, ends-refuses-false, ends-refuses-true, ends-same, none-of, some-of}
 use Rattle.file_io.specs.Ending.{EndsFound, GivesBytes, GivesLocked, IsRefused}
 use Rattle.file_io.specs.Opened.{found_on, moved_to}
 use Rattle.file_io.specs.Calls.{reading_attempt_calls}
-use Rattle.file_io.specs.Reading.{EndsRead, HasRoom, IsLoaded, holds_bytes, part_of, read_file, read_granted}
+use Rattle.file_io.specs.Reading.{HasRoom, IsLoaded, holds_bytes, part_of, read_file, read_granted, read_named, read_opened}
 
 pub not-le : (a b : ℕ) → b < a → nat_le a b ≡ false
 not-le a b less = by (nat_le a b) refl
@@ -66,19 +70,16 @@ room-stays cells other regs later lock cells_are regs_are room =
     subst (λ (c : Cells). HasRoom c later lock) (sym cells_are) (subst (λ (r : Regs). HasRoom cells r lock) (sym regs_are) room)
 
 -- what was loaded is no more than was asked for
-pub loaded-few : (file : DiskFile) (at most : ℕ) (buffer : List ℕ) (loaded : Result ℕ FileFault) → IfOk loaded (IsLoaded file at most buffer) → IfOk loaded (λ count. count ≤ most)
-loaded-few file at most buffer (Ok count) it = omega (arith, it.count_is, count-from file.contents at most)
-loaded-few file at most buffer (Err fault) it = tt
+pub loaded-few : (file : DiskFile) (at most : ℕ) (buffer : List ℕ) (count : ℕ) → IsLoaded file at most buffer count → count ≤ most
+loaded-few file at most buffer count it = omega (arith, it.count_is, count-from file.contents at most)
 
 -- and 32 bits count its end
-pub loaded-fits : (file : DiskFile) (at most : ℕ) (buffer : List ℕ) (loaded : Result ℕ FileFault)
-    → IfOk loaded (IsLoaded file at most buffer) → at < 2 ^ 32 → length file.contents < 2 ^ 32
-    → IfOk loaded (λ count. at + count < 2 ^ 32)
-loaded-fits file at most buffer (Ok count) it low size = ⊎_elim
+pub loaded-fits : (file : DiskFile) (at most : ℕ) (buffer : List ℕ) (count : ℕ) → IsLoaded file at most buffer count → at < 2 ^ 32
+    → length file.contents < 2 ^ 32 → at + count < 2 ^ 32
+loaded-fits file at most buffer count it low size = ⊎_elim
     (λ inside. omega (arith, it.count_is, count-from file.contents at most, inside, size))
     (λ past. omega (arith, it.count_is, count-from file.contents at most, past, low))
     (cases_lt at (length file.contents))
-loaded-fits file at most buffer (Err fault) it low size = tt
 
 -- bytes that were read into the front of a buffer
 pub loaded-of : (file : DiskFile) (at most : ℕ) (before new rest : List ℕ) (count : ℕ) → length before ≡ most → IsRead file at before new count → IsLoaded file at most (new ++ rest) count
@@ -129,6 +130,15 @@ module _ (kind : ReadKind) (asker : Asker) (files : Files) (found : rules.OpenFi
   calls-by update is = ap (λ (u : Bool). (if u then 1 else 0) + read_calls found.file (begins u) asker.caller.regs.y) is
 
 -- ---- a read without a lock
+
+-- a read with this result, and with this buffer after it
+abbrev pub EndsRead : Result ℕ FileFault → ReadKind → List ℕ → Regs → OpenFile → Processes → ℕ → Io → CallEnd
+    → ProcState
+    → Io → Type 0
+EndsRead (Ok count) kind buffer regs opened m p io end processes new =
+    EndsFound (take count buffer) (part_of kind (take count buffer)) regs opened m p io end processes new
+EndsRead (Err fault) kind buffer regs opened m p io end processes new =
+    IsRefused (file_error fault) m p io end processes new
 
 module _ (kind : ReadKind) (m : Processes) (files : Files) (v : DiskVolume) (file : DiskFile) (now : TimePacket) (p : ℕ)
     (opened : OpenFile) (end : CallEnd) (processes : ProcState) (mid : FileState) (new : Io)
@@ -235,6 +245,89 @@ module _ (kind : ReadKind) (m : Processes) (files : Files) (v : DiskVolume) (fil
   read-ends (Err (Device number)) buffer read device it ends = broken number read ends
   read-ends (Err NoCluster) buffer read device it ends = absurd (false≢true device)
   read-ends (Err TooManyRuns) buffer read device it ends = absurd (false≢true device)
+
+-- what was loaded is read as the step says
+pub read-behind : (kind : ReadKind) (m : Processes) (was : Files) (v : DiskVolume) (file : DiskFile) (now : TimePacket) (p : ℕ)
+    (opened : OpenFile) (end : CallEnd) (processes : ProcState) (old : FileState) (disks : List (Option Volume))
+    (new : FileState) (before after : List DriveView) (terms : List TerminalState) (regs : Regs)
+    (loaded : Result ℕ FileFault) (buffer : List ℕ) → is_for_update opened.desc.mode ≡ false
+    → new ≡ record old { disks = disks; io = new.io } → regs ≡ regs_at m p → StandsFor old before was
+    → volume_at was opened.place.drive ≡ Some v → v.files opened.place.number ≡ Some file → regs.y ≢ 0
+    → IfOk loaded (IsLoaded file opened.desc.at regs.y buffer) → OnErr loaded (IsSome (file_fault loaded))
+    → ReadsFile opened.place (file_fault loaded) (λ v file. read_calls file opened.desc.at regs.y) old.disks before disks after
+    → EndsRead loaded kind buffer regs opened m p old.io end processes new.io
+    → EndsOrLacks (read_file kind (asker_of m p now) was (found_on opened v file))
+    (reading_attempt_calls (asker_of m p now) was (found_on opened v file)) m was now p end processes new before after terms
+read-behind kind m was v file now p opened end processes old disks new before after terms regs loaded buffer free rest same stands is there some ok device drive ends =
+    let at = opened.desc.at in
+    let asker = asker_of m p now in
+    let found = found_on opened v file in
+    let mid : FileState = record old { disks = disks } in
+    let calls = λ (v : DiskVolume) (file : DiskFile). read_calls file at regs.y in
+    let most = reading_attempt_calls asker was found in
+    let called = called-read old mid before after was opened.place v file (file_fault loaded) calls stands is there drive in
+    subst (λ (files : FileState). EndsOrLacks (read_file kind asker was found) most m was now p end processes files before after terms) (sym rest)
+    (ends-same m was now p end processes (record mid { io = new.io }) after terms (step-by kind asker was found false) (read_file kind asker was found) (read-by kind asker was found false free)
+    (lacks-none (step-by kind asker was found false) most m was now p end processes (record mid { io = new.io }) before after terms
+    (read-ends kind m was v file now p opened end processes mid new.io before after terms most
+    (called-more (read_calls file at regs.y) most before after (omega (arith, calls-by kind asker was found false free, ap (λ (r : Regs). read_calls file at r.y) same)) called) is
+    (subst (λ (r : Regs). r.y ≢ 0) same some) loaded buffer
+    (has-read old mid before after was opened.place file (file_fault loaded) calls stands (file-there was opened.place v file is there) refl refl refl drive) device
+    (subst (λ (r : Regs). IfOk loaded (IsLoaded file at r.y buffer)) same ok)
+    (subst (λ (r : Regs). EndsRead loaded kind buffer r opened m p old.io end processes new.io) same ends))))
+
+-- ---- the tests of a read
+
+-- the buffer is in named slots, or it is not
+module _ (m : Processes) (p : ℕ) (regs : Regs) (named : Bool) (same : regs ≡ regs_at m p) (is : named ≡ is_some (user_bytes (cells_at m p) regs.x regs.y)) where
+  abbrev Lacks : Regs → Bool
+  Lacks r = is_none (user_bytes (cells_at m p) r.x r.y)
+
+  pub buffer-there : named ≡ true → is_none (user_bytes (cells_at m p) (regs_at m p).x (regs_at m p).y) ≡ false
+  buffer-there there = subst (λ (r : Regs). Lacks r ≡ false) same (some-of (user_bytes (cells_at m p) regs.x regs.y) named is there)
+
+  pub buffer-lacks : named ≡ false → is_none (user_bytes (cells_at m p) (regs_at m p).x (regs_at m p).y) ≡ true
+  buffer-lacks lacks = subst (λ (r : Regs). Lacks r ≡ true) same (none-of (user_bytes (cells_at m p) regs.x regs.y) named is lacks)
+
+module _ (kind : ReadKind) (m : Processes) (was : Files) (now : TimePacket) (p : ℕ) (opened : OpenFile) (v : DiskVolume)
+    (file : DiskFile) (end : CallEnd) (processes : ProcState) (new : FileState) (most : ℕ) (before after : List DriveView)
+    (terms : List TerminalState) where
+  abbrev Comes : FileStep → Type 0
+  Comes step = EndsOrLacks step most m was now p end processes new before after terms
+
+  abbrev lacks : Bool
+  lacks = is_none (user_bytes (cells_at m p) (regs_at m p).x (regs_at m p).y)
+
+  abbrev named_step : FileStep
+  named_step = read_named kind (asker_of m p now) was (found_on opened v file)
+
+  abbrev some_step : FileStep
+  some_step = read_file kind (asker_of m p now) was (found_on opened v file)
+
+  -- the buffer is not there
+  pub where-lacks : lacks ≡ true → Comes (refused E_BPADDR) → Comes (read_opened kind (asker_of m p now) was (found_on opened v file))
+  unfolding read_opened
+  where-lacks is ends = ends-refuses-true m was now p end processes new after terms lacks E_BPADDR named_step is ends
+
+  -- it is
+  pub where-named : lacks ≡ false → Comes named_step → Comes (read_opened kind (asker_of m p now) was (found_on opened v file))
+  unfolding read_opened
+  where-named is ends = ends-refuses-false m was now p end processes new after terms lacks E_BPADDR named_step is ends
+
+  -- and the path may be read
+  pub where-readable : lacks ≡ false → can_read opened.desc.mode ≡ true → Comes (if (regs_at m p).y == 0 then done (regs_at m p) was else some_step)
+      → Comes (read_opened kind (asker_of m p now) was (found_on opened v file))
+  unfolding read_named
+  where-readable is may ends =
+      where-named is (ends-refuses-false m was now p end processes new after terms (not (can_read opened.desc.mode)) E_BMODE
+      (if (regs_at m p).y == 0 then done (regs_at m p) was else some_step) (ap not may) ends)
+
+  -- and there is a byte to move
+  pub where-some : lacks ≡ false → can_read opened.desc.mode ≡ true → (regs_at m p).y ≢ 0 → Comes some_step
+      → Comes (read_opened kind (asker_of m p now) was (found_on opened v file))
+  where-some is may some ends =
+      where-readable is may
+      (ends-if-false m was now p end processes new after terms ((regs_at m p).y == 0) (done (regs_at m p) was) some_step (ne_eqb (regs_at m p).y 0 some) ends)
 
 -- ---- a read under a lock that was granted
 

@@ -8,7 +8,7 @@ use Rattle.os9_base.specs.declared.errors.TheConstants.{E_FULL, E_SLF}
 use Rattle.os9_base.specs.declared.registers.Regs.{Regs}
 use Rattle.os9_base.specs.declared.registers.TimePacket.{TimePacket}
 use Rattle.os9_outer.specs.TerminalState.{TerminalState}
-use Rattle.proc_rules.specs.Processes.{Processes}
+use Rattle.proc_rules.specs.Processes.{Processes, user_at}
 use Rattle.io_rules.specs.Io.{Io, with_call}
 use Rattle.io_rules.specs.Step.{answers}
 use Rattle.lock_model.specs.History.{put}
@@ -26,7 +26,7 @@ use Rattle.rbf_model.specs.Volume.{DiskVolume}
 use Rattle.rbf_model.specs.Writes.{put_file}
 use Rattle.file_drives.proofs.MountedLemmas.{mounted-below}
 use Rattle.file_drives.specs.Calls.{writing_calls}
-use Rattle.file_drives.specs.Changed.{IsRefused as IsNotMade, LeavesVolume, file_answer, is_refused}
+use Rattle.file_drives.specs.Changed.{ChangesVolume, IsRefused as IsNotMade, LeavesVolume, file_answer, is_refused}
 use Rattle.file_drives.specs.Drives.{DriveView, drive_states}
 use Rattle.file_drives.specs.Mounted.{AreMounted, mounted_at}
 use Rattle.file_rules.specs.Attempts.{asker_of}
@@ -35,12 +35,12 @@ use Rattle.file_rules.specs.Files.{Asker, DriveState, Files, volume_at, with_dri
 use Rattle.file_rules.specs.Files as rules
 use Rattle.file_rules.specs.Step.{FileEffect, FileStep, MayBeLeft, VolumeChange, changes, comes, deed_of, leaves, reaches, refuses, refuses_so, with_drives_after, with_volume_after}
 use Rattle.file_rules.specs.Write.{writes_bytes}
-use Rattle.file_state.proofs.CountLemmas.{called-more}
+use Rattle.file_state.proofs.CountLemmas.{called-more, has-changed-in}
 use Rattle.file_state.proofs.EndLemmas.{asked_of, breaks, goes-well, is-made, is-too-long}
 use Rattle.file_state.proofs.KeepLemmas.{error-keeps, keeps-broken, keeps-made, keeps-refused, keeps-unentered}
 use Rattle.file_state.proofs.ReachedLemmas.{same-volume}
-use Rattle.file_state.proofs.RequestLemmas.{forgotten-again, lacks-none, stands-beside}
-use Rattle.file_state.specs.Attempt.{without_request}
+use Rattle.file_state.proofs.RequestLemmas.{forgotten-again, lacks-none, stands-beside, stands-restored}
+use Rattle.file_state.specs.Attempt.{unrequested, without_request}
 use Rattle.file_state.specs.Counted.{CalledAtMost, HasChangedIn}
 use Rattle.file_state.specs.Ends.{Ends, EndsOrLacks}
 use Rattle.file_state.specs.Media.{KeepsDrives}
@@ -291,11 +291,35 @@ module _ (lock : Held) (m : Processes) (files : Files) (v : DiskVolume) (file : 
     drives = keeps-all E_SLF (Err TooManyRuns) it (inl tt) ends.end_is;
   })
 
-  pub write-ends : (result : Result (Unit {0}) FileFault) → Changed result → EndsWrite result lock bytes regs opened m
+  write-ends : (result : Result (Unit {0}) FileFault) → Changed result → EndsWrite result lock bytes regs opened m
       p mid end processes new → EndsOrLacks (write_granted lock bytes regs asker files found)
       (granted_write_calls lock count asker files found) m files now p end processes new before after terms
   unfolding write_granted
   write-ends result it ends = write-by result it ends
+
+-- what was written is written as the step says
+pub write-behind : (lock : Held) (m : Processes) (was : Files) (v : DiskVolume) (file : DiskFile) (now : TimePacket) (p : ℕ)
+    (opened : OpenFile) (sent bytes : List ℕ) (regs : Regs) (end : CallEnd) (processes : ProcState) (old : FileState)
+    (disks : List (Option Volume)) (new : FileState) (before after : List DriveView) (terms : List TerminalState)
+    (count : ℕ) (result : Result (Unit {0}) FileFault) → sent ≡ bytes → length bytes ≡ count
+    → StandsFor old before (unrequested p was) → volume_at was opened.place.drive ≡ Some v
+    → v.files opened.place.number ≡ Some file
+    → ChangesVolume opened.place (record { change = writes opened.place.number lock.range.start sent; user = user_at m p; now = now })
+    (file_answer result) (writing_calls opened.place.number lock.range.start (length sent) result) old.disks before disks after
+    → EndsWrite result lock bytes regs opened m p (record old { disks = disks }) end processes new
+    → EndsOrLacks (write_granted lock bytes regs (asker_of m p now) was (found_on opened v file))
+    (granted_write_calls lock count (asker_of m p now) was (found_on opened v file)) m was now p end processes new before
+    after terms
+write-behind lock m was v file now p opened sent bytes regs end processes old disks new before after terms count result same long stands is there made ends =
+    let place = opened.place in
+    let at = lock.range.start in
+    let mid : FileState = record old { disks = disks } in
+    let restored : FileState = record mid { records = was.records } in
+    write-ends lock m was v file now p opened bytes regs end processes mid new before after terms is there stands.drives (sym stands.records) count long result
+    (changed-same place.number at sent bytes (user_at m p) now result v file place.drive was restored before after same
+    (has-changed-in (record old { records = was.records }) restored before after was place v file
+    (record { change = writes place.number at sent; user = user_at m p; now = now }) (file_answer result)
+    (writing_calls place.number at (length sent) result) (stands-restored p old before was stands) is there refl refl refl made)) ends
 
 -- ---- other registers and bytes
 

@@ -1,10 +1,8 @@
 -- Reads of a file, by the part that they take of the bytes that are there.
-use Rattle.std.specs.Prelude.{◌≡◌, ◌≢◌, ℕ, true, IfSome, is_none, List, length, take, Result, Ok, Err}
+use Rattle.std.specs.Prelude.{◌≡◌, ◌≢◌, ℕ, true, IfSome, is_none, List, length, take}
 use Rattle.os9_base.specs.Cells.{Cells, FitsIn}
-use Rattle.os9_base.specs.declared.call.CallEnd.{CallEnd}
 use Rattle.os9_base.specs.declared.errors.TheConstants.{E_BPADDR}
 use Rattle.os9_base.specs.declared.registers.Regs.{Regs}
-use Rattle.proc_rules.specs.Processes.{Processes}
 use Rattle.proc_rules.specs.UserBytes.{user_bytes}
 use Rattle.io_model.specs.declared.terminal.ReadKind.{ReadKind}
 use Rattle.io_rules.specs.Io.{Io}
@@ -13,9 +11,6 @@ use Rattle.lock_model.specs.Locks.{Locks, request_of}
 use Rattle.lock_model.specs.Records.{holding}
 use Rattle.lock_model.specs.declared.lock.Held.{Held}
 use Rattle.io_rules.specs.Modes.{can_read}
-use Rattle.proc_state.specs.declared.state.ProcState.{ProcState}
-use Rattle.rbf_access.specs.Faults.{file_error}
-use Rattle.rbf_access.specs.declared.faults.FileFault.{FileFault}
 use Rattle.rbf_change.specs.Contents.{bytes_from}
 use Rattle.rbf_model.specs.File.{DiskFile}
 use Rattle.file_rules.specs.Locking.{is_for_update}
@@ -27,7 +22,6 @@ use Rattle.file_rules.specs.Read.{answers_bytes, bytes_at, lock_by, reads_file}
 use Rattle.file_rules.specs.Step.{FileEffect, FileStep, comes, leaves_so, reaches, refuses}
 use Rattle.file_state.specs.Asking.{MayAsk}
 use Rattle.file_state.specs.declared.state.OpenFile.{OpenFile}
-use Rattle.file_io.specs.Ending.{EndsFound, IsRefused}
 
 -- the bytes of a file from a place on, at most `most`, are at the front of a buffer, and this is their count
 pub record IsLoaded (file : DiskFile) (at most : ℕ) (buffer : List ℕ) (count : ℕ) : Type 0 where
@@ -82,12 +76,3 @@ unfoldable pub read_opened : ReadKind → Asker → Files → rules.OpenFile →
 read_opened kind asker files opened =
     refuses (is_none (user_bytes asker.caller.cells asker.caller.regs.x asker.caller.regs.y)) E_BPADDR
     (read_named kind asker files opened)
-
--- a read with this result, and with this buffer after it
-abbrev pub EndsRead : Result ℕ FileFault → ReadKind → List ℕ → Regs → OpenFile → Processes → ℕ → Io → CallEnd
-    → ProcState
-    → Io → Type 0
-EndsRead (Ok count) kind buffer regs opened m p io end processes new =
-    EndsFound (take count buffer) (part_of kind (take count buffer)) regs opened m p io end processes new
-EndsRead (Err fault) kind buffer regs opened m p io end processes new =
-    IsRefused (file_error fault) m p io end processes new

@@ -1,13 +1,16 @@
 //! The ends of calls.
 
-ghost use Rattle.std.specs.Prelude.{◌≡◌, ◌<◌, None, Some};
+ghost use Rattle.std.specs.Prelude.{◌≡◌, ◌<◌, None};
+ghost use Rattle.file_state.specs.Context.{InFileCall};
 ghost use Rattle.proc_rules.specs.Processes.{Processes, with_regs_of};
 ghost use Rattle.file_io.specs.Opened.{IsPathOf, ReadsNoTerminal, moved_to};
 ghost use Rattle.io_rules.specs.Io.{with_call};
 ghost use Rattle.proc_rules.specs.Records.{IsLiving};
 ghost use Rattle.proc_state.specs.Tie.{Represents};
 
+use file_state::machine::Machine;
 use file_state::state::OpenFile;
+use io_state::requester::Requester;
 use io_state::state::IoState;
 use os9_base::call::CallEnd;
 use os9_base::registers::{Pid, Regs};
@@ -42,23 +45,23 @@ pub(crate) fn answer(s: &mut ProcState, io: &mut IoState, p: Pid, regs: Regs) ->
 /// Ends the call as done, with these registers of its process and this position of its path.
 /// Nothing is kept of the call.
 pub(crate) fn answer_at(
-    s: &mut ProcState,
-    io: &mut IoState,
-    p: Pid,
+    machine: &mut Machine,
+    by: Requester,
     regs: Regs,
     opened: &OpenFile,
     at: u32,
 ) -> CallEnd
-    requires lives { IsLiving s.old.table p.0 }
-    requires no_read { ReadsNoTerminal io.old p.0 }
-    requires path { IsPathOf io.old opened.now }
+    requires calls { InFileCall by machine.old }
+    requires path { IsPathOf machine.old.files.io opened.now }
     ensures end { result ≡ CallEnd.Done }
-    ensures tied { (m : Processes) → Represents s.old m
-        → Represents s.new (with_regs_of m p.0 regs) }
-    ensures io { io.new ≡ with_call (moved_to io.old opened.now at) p.0 None }
-    ensures lives { IsLiving s.new.table p.0 }
+    ensures tied { (m : Processes) → Represents machine.old.processes m
+        → Represents machine.new.processes (with_regs_of m by.p.0 regs) }
+    ensures io { machine.new.files.io
+        ≡ with_call (moved_to machine.old.files.io opened.now at) by.p.0 None }
+    ensures rest { machine.new.files ≡ record machine.old.files { io = machine.new.files.io } }
+    ensures lives { IsLiving machine.new.processes.table by.p.0 }
 {
-    let end = answer(s, io, p, regs);
-    io.set_position(opened.path, at);
+    let end = answer(&mut machine.processes, &mut machine.files.io, by.p, regs);
+    machine.files.io.set_position(opened.path, at);
     end
 }

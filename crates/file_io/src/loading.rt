@@ -1,6 +1,6 @@
 //! Bytes of files in the buffer, on their way to the memory of a process.
 
-ghost use Rattle.std.specs.Prelude.{◌≡◌, ℕ, ◌<◌, ◌≤◌, IfOk, IfSome, IsSome, OnErr, length, take};
+ghost use Rattle.std.specs.Prelude.{◌≡◌, ◌+◌, ◌<◌, ◌≤◌, ◌^◌, IfOk, IfSome, IsSome, OnErr, length, take};
 ghost use Rattle.proc_rules.specs.Processes.{Processes, with_memory};
 ghost use Rattle.file_io.specs.Reading.{IsLoaded, part_of};
 ghost use Rattle.file_drives.specs.Drives.{drives_seen};
@@ -24,8 +24,16 @@ use os9_outer::drive::BlockDriver;
 use proc_state::state::ProcState;
 use rbf_access::FileFault;
 
-/// Reads at most `most` bytes of a file, from `at` on, into the front of the buffer, and returns
-/// their number: 0 at or past the end of the file.
+/// A part of a file: at most `most` bytes, from `at` on.
+#[derive(Clone, Copy, Debug, PartialEq, Eq)]
+pub(crate) struct FilePart {
+    pub place: FilePlace,
+    pub at: u32,
+    pub most: u16,
+}
+
+/// Reads a part of a file into the front of the buffer, and returns the number of its bytes: 0 at or
+/// past the end of the file.
 ///
 /// # Errors
 ///
@@ -34,44 +42,50 @@ pub(crate) fn load(
     s: &mut ProcState,
     disks: &mut Disks,
     devices: &mut Devices,
-    place: FilePlace,
-    at: u32,
-    most: u16,
+    part: FilePart,
 ) -> Result<u16, FileFault>
-    requires file { HasFileAt disks.old (drives_seen BlockDriver-box devices.old) place }
-    ensures ok { OnDisks disks.old (drives_seen BlockDriver-box devices.old) place
-        (λ v file. IfOk result (IsLoaded file at most s.new.buffer.items)) }
+    requires file { HasFileAt disks.old (drives_seen BlockDriver-box devices.old) part.place }
+    ensures ok { OnDisks disks.old (drives_seen BlockDriver-box devices.old) part.place
+        (λ v file. IfOk result (IsLoaded file part.at part.most s.new.buffer.items)) }
+    ensures few { IfOk result (λ count. count ≤ part.most) }
+    ensures fits { IfOk result (λ count. part.at + count < 2 ^ 32) }
     ensures device { OnErr result (IsSome (file_fault result)) }
-    ensures drive { ReadsFile place (file_fault result) (λ v file. read_calls file at most)
+    ensures drive { ReadsFile part.place (file_fault result)
+        (λ v file. read_calls file part.at part.most)
         disks.old (drives_seen BlockDriver-box devices.old)
         disks.new (drives_seen BlockDriver-box devices.new) }
     ensures same { IsSame s.old s.new }
     ensures terms_kept { devices.new.terms ≡ devices.old.terms }
 {
-    load_front(disks, devices, place, at, most, &mut s.buffer)
+    load_front(disks, devices, part, &mut s.buffer)
 }
 
 /// The same into the front of the given buffer.
 fn load_front(
     disks: &mut Disks,
     devices: &mut Devices,
-    place: FilePlace,
-    at: u32,
-    most: u16,
+    part: FilePart,
     into: &mut [u8],
 ) -> Result<u16, FileFault>
-    requires file { HasFileAt disks.old (drives_seen BlockDriver-box devices.old) place }
-    requires room { most ≤ length into.old }
-    ensures ok { OnDisks disks.old (drives_seen BlockDriver-box devices.old) place
-        (λ v file. IfOk result (IsLoaded file at most into.new)) }
+    requires file { HasFileAt disks.old (drives_seen BlockDriver-box devices.old) part.place }
+    requires room { part.most ≤ length into.old }
+    ensures ok { OnDisks disks.old (drives_seen BlockDriver-box devices.old) part.place (λ v file.
+        IfOk result (IsLoaded file part.at part.most into.new)) }
+    ensures few { IfOk result (λ count. count ≤ part.most) }
+    ensures fits { IfOk result (λ count. part.at + count < 2 ^ 32) }
     ensures device { OnErr result (IsSome (file_fault result)) }
-    ensures drive { ReadsFile place (file_fault result) (λ v file. read_calls file at most)
-        disks.old (drives_seen BlockDriver-box devices.old)
-        disks.new (drives_seen BlockDriver-box devices.new) }
+    ensures drive { ReadsFile part.place (file_fault result) (λ v file. read_calls file part.at
+        part.most) disks.old (drives_seen BlockDriver-box devices.old) disks.new (drives_seen
+        BlockDriver-box devices.new) }
     ensures room { length into.new ≡ length into.old }
     ensures terms_kept { devices.new.terms ≡ devices.old.terms }
 {
-    match disks.read_at(devices, place, at, &mut into[..most as usize]) {
+    match disks.read_at(
+        devices,
+        part.place,
+        part.at,
+        &mut into[..part.most as usize],
+    ) {
         Ok(count) => Ok(count as u16),
         Err(fault) => Err(fault),
     }

@@ -1,6 +1,7 @@
 //! I$Seek (System Programmer's Manual, I$Seek).
 
-ghost use Rattle.std.specs.Prelude.{◌≡◌, ℕ, List};
+ghost use Rattle.file_state.specs.Context.{InFileCall, beside};
+ghost use Rattle.std.specs.Prelude.{◌≡◌, List};
 ghost use Rattle.proc_rules.specs.Processes.{Processes};
 ghost use Rattle.file_io.specs.Calls.{i_seek_calls};
 ghost use Rattle.file_io.specs.Opened.{IsOpened, ReadsNoTerminal};
@@ -13,11 +14,13 @@ ghost use Rattle.io_rules.specs.Attempts.{caller_of};
 ghost use Rattle.os9_base.specs.declared.registers.TimePacket.{TimePacket};
 ghost use Rattle.os9_outer.specs.TerminalState.{TerminalState};
 ghost use Rattle.device_paths.specs.Quiet.{Ends};
-ghost use Rattle.proc_rules.specs.Records.{IsLiving, record_at};
+ghost use Rattle.proc_rules.specs.Records.{IsLiving};
 ghost use Rattle.proc_state.specs.Tie.{Represents};
 
 use crate::ends::{answer, answer_at, refuse};
-use file_state::state::{FileState, OpenFile};
+use file_state::machine::Machine;
+use file_state::state::OpenFile;
+use io_state::requester::Requester;
 use io_state::state::IoState;
 use os9_base::call::CallEnd;
 use os9_base::errors::E_BPNUM;
@@ -27,18 +30,15 @@ use proc_state::state::ProcState;
 /// I$Seek on a file or a directory, on the path that the number in A names (System Programmer's
 /// Manual, I$Seek): sets the position of the path, which may be past the end. Takes the position in
 /// X, its high half, and U. It reaches no drive and is never refused.
-pub fn seek(s: &mut ProcState, files: &mut FileState, p: Pid, opened: &OpenFile) -> CallEnd
-    requires lives { IsLiving s.old.table p.0 }
-    requires no_read { ReadsNoTerminal files.old.io p.0 }
-    requires opened { IsOpened files.old p.0 (record_at s.old.table p.0).regs.a opened.now }
+pub fn seek(machine: &mut Machine, by: Requester, opened: &OpenFile) -> CallEnd
+    requires calls { InFileCall by machine.old }
+    requires opened { IsOpened machine.old.files by.p.0 by.regs.a opened.now }
     ensures call { (now : TimePacket) (views : List DriveView) (terms : List TerminalState)
-        → AttemptsWithin i_seek_calls Call.Seek now p.0 result terms terms
-        (record { processes = s.old; files = files.old; views = views })
-        (record { processes = s.new; files = files.new; views = views }) }
-    ensures lives { IsLiving s.new.table p.0 }
+        → AttemptsWithin i_seek_calls Call.Seek now by.p.0 result terms terms
+        (beside machine.old views) (beside machine.new views) }
+    ensures lives { IsLiving machine.new.processes.table by.p.0 }
 {
-    let regs = s.table.regs(p);
-    answer_at(s, &mut files.io, p, regs, opened, long_of(regs))
+    answer_at(machine, by, by.regs, opened, long_of(by.regs))
 }
 
 /// The number in X, its high half, and U.

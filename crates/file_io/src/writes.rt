@@ -1,11 +1,13 @@
 //! I$Write, I$WritLn and F$PErr (System Programmer's Manual, I$Write, I$WritLn and F$PErr).
 
-ghost use Rattle.std.specs.Prelude.{◌≡◌, ◌≢◌, ℕ, ◌+◌, ◌<◌, ◌≤◌, ◌^◌, false, IfSome, IsOk, List, Ok, Some, length, option_map, take};
+ghost use Rattle.io_state.specs.Context.{InCall, KeepsTerminals};
+ghost use Rattle.file_state.specs.Context.{InFileCall, seen};
+ghost use Rattle.std.specs.Prelude.{◌≡◌, ◌≢◌, ◌+◌, ◌<◌, ◌≤◌, ◌^◌, false, IfSome, List, Ok, Some, length, option_map, take};
 ghost use Rattle.proc_rules.specs.Processes.{Processes, cells_at};
 ghost use Rattle.proc_rules.specs.UserBytes.{user_bytes};
 ghost use Rattle.file_io.specs.Calls.{f_perr_calls, granted_write_calls, i_writln_calls, i_write_calls, writing_attempt_calls};
 ghost use Rattle.file_io.specs.Ending.{EndsWrite};
-ghost use Rattle.file_io.specs.Opened.{IsOpened, IsPathOf, MayBeWritten, ReadsNoTerminal};
+ghost use Rattle.file_io.specs.Opened.{IsOpened, IsPathOf, MayBeWritten};
 ghost use Rattle.file_io.specs.Sending.{IsSending, MayWrite};
 ghost use Rattle.file_io.specs.Trying.{Tries, TriesGranted};
 ghost use Rattle.file_io.specs.Writing.{line_of, write_file as write_file_model, write_granted as write_granted_model, write_opened as write_opened_model};
@@ -14,18 +16,16 @@ ghost use Rattle.file_drives.specs.Mounted.{HasDataFileAt};
 ghost use Rattle.file_rules.specs.declared.path_call.PathCall.TheVariants as Call;
 ghost use Rattle.file_rules.specs.Locking.{call_of};
 ghost use Rattle.file_state.specs.Asking.{IsGranted, KeepsRequest, MayAsk, TriesAgain};
-ghost use Rattle.file_state.specs.Attempt.{standing};
 ghost use Rattle.file_state.specs.Lacks.{TriesWithin};
 ghost use Rattle.file_state.specs.Tie.{IsSound};
 ghost use Rattle.io_rules.specs.Io.{pending_at};
-ghost use Rattle.io_rules.specs.Modes.{can_write as can_write_model};
 ghost use Rattle.io_rules.specs.Write.{error_line as error_line_model};
 ghost use Rattle.io_rules.specs.declared.io_call.IoCall.TheVariants as Device;
 ghost use Rattle.io_rules.specs.declared.modes.TheConstants.{STANDARD_ERROR};
 ghost use Rattle.lock_model.specs.Conflict.{conflicts};
 ghost use Rattle.lock_model.specs.Locks.{request_of};
 ghost use Rattle.os9_outer.specs.TerminalState.{TerminalState};
-ghost use Rattle.proc_rules.specs.Records.{IsLiving, record_at};
+ghost use Rattle.proc_rules.specs.Records.{IsLiving};
 ghost use Rattle.proc_state.specs.Tie.{IsSame, Represents};
 
 use crate::ends::{answer, answer_at, refuse};
@@ -33,15 +33,17 @@ use crate::modes::can_write;
 use device_table::devices::Devices;
 use file_rules::claim::Claim;
 use file_state::asking::range_of;
+use file_state::machine::Machine;
 use file_state::state::{FileState, OpenFile};
+use io_state::requester::Requester;
 use lock_model::lock::{Held, Request};
 use os9_base::call::CallEnd;
 use os9_base::calls::{F_PERR, I_WRITE, I_WRITLN};
 use os9_base::errors::{E_BMODE, E_BPADDR};
-use os9_base::registers::{Pid, Regs, TimePacket};
+use os9_base::registers::{Pid, Regs};
 use os9_outer::drive::BlockDriver;
 use proc_state::state::ProcState;
-use rbf_access::FileFault;
+use rbf_write::NewBytes;
 
 /// The number of bytes in the line of an error.
 const ERROR_LINE_BYTES: u16 = 11;
@@ -61,34 +63,31 @@ const ERROR_LINE_BYTES: u16 = 11;
 /// cluster. `NoMemory` is returned only if the history had no room for the entry of a write that is
 /// done.
 pub fn write(
-    s: &mut ProcState,
-    files: &mut FileState,
+    machine: &mut Machine,
     devices: &mut Devices,
-    p: Pid,
+    by: Requester,
     opened: &OpenFile,
-    now: TimePacket,
 ) -> CallEnd
-    requires lives { IsLiving s.old.table p.0 }
-    requires again { TriesAgain Device.Write (record_at s.old.table p.0).regs files.old p.0 }
-    requires sound { IsSound files.old (drives_seen BlockDriver-box devices.old) }
-    requires opened { IsOpened files.old p.0 (record_at s.old.table p.0).regs.a opened.now }
+    requires calls { InCall by machine.old.processes }
+    requires again { TriesAgain Device.Write by.regs machine.old.files by.p.0 }
+    requires sound { IsSound machine.old.files (drives_seen BlockDriver-box devices.old) }
+    requires opened { IsOpened machine.old.files by.p.0 by.regs.a opened.now }
     ensures call { (terms : List TerminalState)
-        → TriesWithin i_write_calls Call.Write now p.0 result terms terms
-        (standing BlockDriver-box s.old files.old devices.old)
-        (standing BlockDriver-box s.new files.new devices.new) }
-    ensures lives { IsLiving s.new.table p.0 }
-    ensures terms_kept { devices.new.terms ≡ devices.old.terms }
+        → TriesWithin i_write_calls Call.Write by.now by.p.0 result terms terms
+        (seen BlockDriver-box machine.old devices.old)
+        (seen BlockDriver-box machine.new devices.new) }
+    ensures kept { KeepsTerminals by machine.new.processes devices.old devices.new }
 {
-    let regs = s.table.regs(p);
-    if !s.read_bytes(p, regs.x, regs.y) {
-        return refuse(&mut files.io, p, E_BPADDR);
+    let regs = by.regs;
+    if !machine.processes.read_bytes(by.p, regs.x, regs.y) {
+        return refuse(&mut machine.files.io, by.p, E_BPADDR);
     }
     let sent = Sending {
         code: I_WRITE,
         count: regs.y,
         done: regs,
     };
-    send(s, files, devices, p, opened, sent, now)
+    send(machine, devices, by, opened, sent)
 }
 
 /// I$WritLn to a file on the path that the number in A names, at this time (System Programmer's
@@ -99,34 +98,31 @@ pub fn write(
 ///
 /// As [`write`]; only the bytes of the line have to be in named slots.
 pub fn write_line(
-    s: &mut ProcState,
-    files: &mut FileState,
+    machine: &mut Machine,
     devices: &mut Devices,
-    p: Pid,
+    by: Requester,
     opened: &OpenFile,
-    now: TimePacket,
 ) -> CallEnd
-    requires lives { IsLiving s.old.table p.0 }
-    requires again { TriesAgain Device.WritLn (record_at s.old.table p.0).regs files.old p.0 }
-    requires sound { IsSound files.old (drives_seen BlockDriver-box devices.old) }
-    requires opened { IsOpened files.old p.0 (record_at s.old.table p.0).regs.a opened.now }
+    requires calls { InCall by machine.old.processes }
+    requires again { TriesAgain Device.WritLn by.regs machine.old.files by.p.0 }
+    requires sound { IsSound machine.old.files (drives_seen BlockDriver-box devices.old) }
+    requires opened { IsOpened machine.old.files by.p.0 by.regs.a opened.now }
     ensures call { (terms : List TerminalState)
-        → TriesWithin i_writln_calls Call.WritLn now p.0 result terms terms
-        (standing BlockDriver-box s.old files.old devices.old)
-        (standing BlockDriver-box s.new files.new devices.new) }
-    ensures lives { IsLiving s.new.table p.0 }
-    ensures terms_kept { devices.new.terms ≡ devices.old.terms }
+        → TriesWithin i_writln_calls Call.WritLn by.now by.p.0 result terms terms
+        (seen BlockDriver-box machine.old devices.old)
+        (seen BlockDriver-box machine.new devices.new) }
+    ensures kept { KeepsTerminals by machine.new.processes devices.old devices.new }
 {
-    let regs = s.table.regs(p);
-    match line_count(s, files, p, regs) {
-        None => refuse(&mut files.io, p, E_BPADDR),
+    let regs = by.regs;
+    match line_count(&mut machine.processes, &machine.files, by.p, regs) {
+        None => refuse(&mut machine.files.io, by.p, E_BPADDR),
         Some(count) => {
             let sent = Sending {
                 code: I_WRITLN,
                 count,
                 done: Regs { y: count, ..regs },
             };
-            send(s, files, devices, p, opened, sent, now)
+            send(machine, devices, by, opened, sent)
         }
     }
 }
@@ -184,35 +180,32 @@ fn pending_count(
 ///
 /// E$BMode exactly if the path may not be written. Else as [`write`].
 pub fn write_error(
-    s: &mut ProcState,
-    files: &mut FileState,
+    machine: &mut Machine,
     devices: &mut Devices,
-    p: Pid,
+    by: Requester,
     opened: &OpenFile,
-    now: TimePacket,
 ) -> CallEnd
-    requires lives { IsLiving s.old.table p.0 }
-    requires again { TriesAgain Device.PErr (record_at s.old.table p.0).regs files.old p.0 }
-    requires sound { IsSound files.old (drives_seen BlockDriver-box devices.old) }
-    requires opened { IsOpened files.old p.0 STANDARD_ERROR opened.now }
+    requires calls { InCall by machine.old.processes }
+    requires again { TriesAgain Device.PErr by.regs machine.old.files by.p.0 }
+    requires sound { IsSound machine.old.files (drives_seen BlockDriver-box devices.old) }
+    requires opened { IsOpened machine.old.files by.p.0 STANDARD_ERROR opened.now }
     ensures call { (terms : List TerminalState)
-        → TriesWithin f_perr_calls Call.PErr now p.0 result terms terms
-        (standing BlockDriver-box s.old files.old devices.old)
-        (standing BlockDriver-box s.new files.new devices.new) }
-    ensures lives { IsLiving s.new.table p.0 }
-    ensures terms_kept { devices.new.terms ≡ devices.old.terms }
+        → TriesWithin f_perr_calls Call.PErr by.now by.p.0 result terms terms
+        (seen BlockDriver-box machine.old devices.old)
+        (seen BlockDriver-box machine.new devices.new) }
+    ensures kept { KeepsTerminals by machine.new.processes devices.old devices.new }
 {
-    let regs = s.table.regs(p);
     if !can_write(opened.desc.mode) {
-        return refuse(&mut files.io, p, E_BMODE);
+        return refuse(&mut machine.files.io, by.p, E_BMODE);
     }
-    put_error_line(s, regs.b);
+    let regs = by.regs;
+    put_error_line(&mut machine.processes, regs.b);
     let sent = Sending {
         code: F_PERR,
         count: ERROR_LINE_BYTES,
         done: regs,
     };
-    write_file(s, files, devices, p, opened, sent, now)
+    write_file(machine, devices, by, opened, sent)
 }
 
 /// A write of the bytes at the front of the buffer: the code of its call, their count, and the
@@ -226,159 +219,146 @@ struct Sending {
 
 /// An attempt to write bytes at the front of the buffer.
 fn send(
-    s: &mut ProcState,
-    files: &mut FileState,
+    machine: &mut Machine,
     devices: &mut Devices,
-    p: Pid,
+    by: Requester,
     opened: &OpenFile,
     sent: Sending,
-    now: TimePacket,
 ) -> CallEnd
-    requires lives { IsLiving s.old.table p.0 }
-    requires no_read { ReadsNoTerminal files.old.io p.0 }
-    requires file { MayBeWritten opened.now files.old.disks
+    requires calls { InFileCall by machine.old }
+    requires file { MayBeWritten opened.now machine.old.files.disks
         (drives_seen BlockDriver-box devices.old) }
-    requires may { MayWrite files.old.io files.old.records.locks p.0 opened.now
-        (record_at s.old.table p.0).regs sent }
-    ensures call { Tries (write_opened_model sent.code (take sent.count s.old.buffer.items))
-        (writing_attempt_calls sent.count) opened.now now p.0 result
-        (standing BlockDriver-box s.old files.old devices.old)
-        (standing BlockDriver-box s.new files.new devices.new) }
-    ensures lives { IsLiving s.new.table p.0 }
-    ensures terms_kept { devices.new.terms ≡ devices.old.terms }
+    requires may { MayWrite machine.old.files.io machine.old.files.records.locks by.p.0 opened.now
+        by.regs sent }
+    ensures call { Tries (write_opened_model sent.code
+        (take sent.count machine.old.processes.buffer.items))
+        (writing_attempt_calls sent.count) opened.now by.now by.p.0 result
+        (seen BlockDriver-box machine.old devices.old)
+        (seen BlockDriver-box machine.new devices.new) }
+    ensures kept { KeepsTerminals by machine.new.processes devices.old devices.new }
 {
     if !can_write(opened.desc.mode) {
-        return refuse(&mut files.io, p, E_BMODE);
+        return refuse(&mut machine.files.io, by.p, E_BMODE);
     }
-    let regs = s.table.regs(p);
+    let regs = by.regs;
     if regs.y == 0 {
-        return answer(s, &mut files.io, p, regs);
+        return answer(&mut machine.processes, &mut machine.files.io, by.p, regs);
     }
-    write_file(s, files, devices, p, opened, sent, now)
+    write_file(machine, devices, by, opened, sent)
 }
 
 /// An attempt to write bytes at the front of the buffer, on a path that may be written: it requests
 /// the range that it writes.
 fn write_file(
-    s: &mut ProcState,
-    files: &mut FileState,
+    machine: &mut Machine,
     devices: &mut Devices,
-    p: Pid,
+    by: Requester,
     opened: &OpenFile,
     sent: Sending,
-    now: TimePacket,
 ) -> CallEnd
-    requires lives { IsLiving s.old.table p.0 }
-    requires no_read { ReadsNoTerminal files.old.io p.0 }
-    requires asks { MayAsk files.old.io files.old.records.locks p.0 opened.now }
+    requires calls { InFileCall by machine.old }
+    requires asks { MayAsk machine.old.files.io machine.old.files.records.locks by.p.0 opened.now }
     requires sends { IsSending sent }
-    requires file { HasDataFileAt files.old.disks
+    requires file { HasDataFileAt machine.old.files.disks
         (drives_seen BlockDriver-box devices.old) opened.now.place }
-    ensures call { Tries (write_file_model sent.code (take sent.count s.old.buffer.items) sent.done)
-        (writing_attempt_calls sent.count) opened.now now p.0 result
-        (standing BlockDriver-box s.old files.old devices.old)
-        (standing BlockDriver-box s.new files.new devices.new) }
-    ensures lives { IsLiving s.new.table p.0 }
-    ensures terms_kept { devices.new.terms ≡ devices.old.terms }
+    ensures call { Tries (write_file_model sent.code
+        (take sent.count machine.old.processes.buffer.items) sent.done)
+        (writing_attempt_calls sent.count) opened.now by.now by.p.0 result
+        (seen BlockDriver-box machine.old devices.old)
+        (seen BlockDriver-box machine.new devices.new) }
+    ensures kept { KeepsTerminals by machine.new.processes devices.old devices.new }
 {
-    let size = match files.disks.size(devices, opened.place) {
+    let size = match machine.files.disks.size(devices, opened.place) {
         Ok(size) => size,
-        Err(fault) => return refuse(&mut files.io, p, fault.number()),
+        Err(fault) => return refuse(&mut machine.files.io, by.p, fault.number()),
     };
     let claim = Claim {
         code: sent.code,
         count: sent.count,
         range: range_of(size, opened.desc.at, u32::from(sent.count)),
     };
-    let request = files.request_now(p, opened, claim, s.tick);
-    if let Some(end) = files.ask(p, request, s.tick) {
+    let tick = machine.processes.tick;
+    let request = machine.files.request_now(by.p, opened, claim, tick);
+    if let Some(end) = machine.files.ask(by.p, request, tick) {
         return end;
     }
-    write_granted(s, files, devices, p, opened, sent, request.lock, now)
+    let writing = LockedWrite {
+        count: sent.count,
+        done: sent.done,
+        lock: request.lock,
+    };
+    write_granted(machine, devices, by, opened, writing)
+}
+
+/// A write of the bytes at the front of the buffer under the lock that it was granted: their count,
+/// and the registers that it answers.
+#[derive(Clone, Copy, Debug, PartialEq, Eq)]
+struct LockedWrite {
+    count: u16,
+    done: Regs,
+    lock: Held,
 }
 
 /// A write at the start of the lock that it was granted. The path then holds no lock.
 fn write_granted(
-    s: &mut ProcState,
-    files: &mut FileState,
+    machine: &mut Machine,
     devices: &mut Devices,
-    p: Pid,
+    by: Requester,
     opened: &OpenFile,
-    sent: Sending,
-    lock: Held,
-    now: TimePacket,
+    writing: LockedWrite,
 ) -> CallEnd
-    requires lives { IsLiving s.old.table p.0 }
-    requires no_read { ReadsNoTerminal files.old.io p.0 }
-    requires path { IsPathOf files.old.io opened.now }
-    requires file { HasDataFileAt files.old.disks
+    requires calls { InFileCall by machine.old }
+    requires path { IsPathOf machine.old.files.io opened.now }
+    requires file { HasDataFileAt machine.old.files.disks
         (drives_seen BlockDriver-box devices.old) opened.now.place }
-    requires granted { IsGranted files.old.records.locks lock }
-    ensures call { TriesGranted (write_granted_model lock (take sent.count s.old.buffer.items)
-        sent.done) (granted_write_calls lock sent.count) opened.now now p.0 result
-        (standing BlockDriver-box s.old files.old devices.old)
-        (standing BlockDriver-box s.new files.new devices.new) }
-    ensures lives { IsLiving s.new.table p.0 }
-    ensures terms_kept { devices.new.terms ≡ devices.old.terms }
+    requires granted { IsGranted machine.old.files.records.locks writing.lock }
+    ensures call { TriesGranted (write_granted_model writing.lock
+        (take writing.count machine.old.processes.buffer.items) writing.done)
+        (granted_write_calls writing.lock writing.count) opened.now by.now by.p.0 result
+        (seen BlockDriver-box machine.old devices.old)
+        (seen BlockDriver-box machine.new devices.new) }
+    ensures kept { KeepsTerminals by machine.new.processes devices.old devices.new }
 {
-    let bytes = &s.buffer[..sent.count as usize];
-    let written = files
-        .disks
-        .write_at(devices, opened.place, lock.range.start, bytes, now);
-    end_write(s, files, p, opened, sent, lock, written)
-}
-
-/// A write of the bytes at the front of the buffer ends by what was answered to it.
-fn end_write(
-    s: &mut ProcState,
-    files: &mut FileState,
-    p: Pid,
-    opened: &OpenFile,
-    sent: Sending,
-    lock: Held,
-    written: Result<(), FileFault>,
-) -> CallEnd
-    requires lives { IsLiving s.old.table p.0 }
-    requires no_read { ReadsNoTerminal files.old.io p.0 }
-    requires path { IsPathOf files.old.io opened.now }
-    requires free { conflicts files.old.records.locks lock ≡ false }
-    requires fits { IsOk written → lock.range.start + sent.count < 2 ^ 32 }
-    ensures call { (m : Processes) → Represents s.old m → EndsWrite written lock
-        (take sent.count s.old.buffer.items) sent.done opened.now m p.0 files.old result s.new
-        files.new }
-    ensures lives { IsLiving s.new.table p.0 }
-{
-    match written {
-        Ok(()) => enter_write(s, files, p, opened, sent, lock),
-        Err(fault) => refuse(&mut files.io, p, fault.number()),
+    let processes = &machine.processes;
+    let bytes = &processes.buffer[..writing.count as usize];
+    let write = NewBytes {
+        at: writing.lock.range.start,
+        bytes,
+        now: by.now,
+    };
+    let disks = &mut machine.files.disks;
+    match disks.write_at(devices, opened.place, write) {
+        Ok(()) => enter_write(machine, by, opened, writing),
+        Err(fault) => refuse(&mut machine.files.io, by.p, fault.number()),
     }
 }
 
 /// Enters a write of the bytes at the front of the buffer in the history, and answers it.
 fn enter_write(
-    s: &mut ProcState,
-    files: &mut FileState,
-    p: Pid,
+    machine: &mut Machine,
+    by: Requester,
     opened: &OpenFile,
-    sent: Sending,
-    lock: Held,
+    writing: LockedWrite,
 ) -> CallEnd
-    requires lives { IsLiving s.old.table p.0 }
-    requires no_read { ReadsNoTerminal files.old.io p.0 }
-    requires path { IsPathOf files.old.io opened.now }
-    requires free { conflicts files.old.records.locks lock ≡ false }
-    requires fits { lock.range.start + sent.count < 2 ^ 32 }
-    ensures call { (m : Processes) → Represents s.old m → EndsWrite (Ok tt) lock
-        (take sent.count s.old.buffer.items) sent.done opened.now m p.0 files.old result s.new
-        files.new }
-    ensures lives { IsLiving s.new.table p.0 }
+    requires calls { InFileCall by machine.old }
+    requires path { IsPathOf machine.old.files.io opened.now }
+    requires free { conflicts machine.old.files.records.locks writing.lock ≡ false }
+    requires fits { writing.lock.range.start + writing.count < 2 ^ 32 }
+    ensures call { (m : Processes) → Represents machine.old.processes m → EndsWrite (Ok tt)
+        writing.lock
+        (take writing.count machine.old.processes.buffer.items) writing.done opened.now m by.p.0
+        machine.old.files result machine.new.processes machine.new.files }
+    ensures lives { IsLiving machine.new.processes.table by.p.0 }
 {
-    let bytes = &s.buffer[..sent.count as usize];
-    if files.records.write(opened.path.0, lock, bytes).is_err() {
+    let LockedWrite { count, done, lock } = writing;
+    let processes = &machine.processes;
+    let bytes = &processes.buffer[..count as usize];
+    let records = &mut machine.files.records;
+    if records.write(opened.path.0, lock, bytes).is_err() {
         return CallEnd::NoMemory;
     }
-    let at = lock.range.start + u32::from(sent.count);
-    answer_at(s, &mut files.io, p, sent.done, opened, at)
+    let at = lock.range.start + u32::from(count);
+    answer_at(machine, by, done, opened, at)
 }
 
 /// Puts the line of the number of an error at the front of the buffer.

@@ -2,4 +2,4 @@ pub mod NameLemmas
 pub mod ReachLemmas
 pub mod VolumeLemmas
 pub mod WalkLemmas
-pub mod WayLemmas
+pub mod RouteLemmas

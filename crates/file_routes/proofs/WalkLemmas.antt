@@ -19,7 +19,7 @@ use Rattle.device_paths.specs.Standing.{IsFirstOf, IsFirstRead, NamesFrom, Names
 use Rattle.device_paths.specs.declared.named.Named.{Named}
 use Rattle.device_paths.proofs.StandingLemmas.{some-stand}
 use Rattle.file_routes.specs.declared.walk.LastName.{LastName}
-use Rattle.file_routes.specs.declared.walk.LastPlace.{LastPlace}
+use Rattle.file_routes.specs.declared.walk.NamePlace.{NamePlace}
 use Rattle.file_routes.specs.declared.walk.Stepped.{Stepped}
 use Rattle.file_routes.specs.declared.walk.Stepped.TheVariants.{Last, Onward}
 use Rattle.file_routes.specs.declared.walk.Walker.{Walker}
@@ -344,17 +344,17 @@ module _ (cells : Cells) (walker : Walker) (from at : FilePlace) (names : List (
     last = tt;
   }
 
-  pub walk-onward : (place : FilePlace) (later : ℕ) → Steps cells walker at walked_to.rest (Ok (Onward place later))
-      now views new after → IsWalkedTo cells walker from names place later disks before new after
-  walk-onward place later step =
-      walked-more walker from at disks before now views so_far step.name (Ok place) new after step.walks cells names next walked_to step.rest later step.are step.stand place refl
+  pub walk-onward : (onto : NamePlace) → Steps cells walker at walked_to.rest (Ok (Onward onto)) now views new after
+      → IsWalkedTo cells walker from names onto.directory onto.at disks before new after
+  walk-onward onto step =
+      walked-more walker from at disks before now views so_far step.name (Ok onto.directory) new after step.walks cells names next walked_to step.rest onto.at step.are step.stand onto.directory refl
 
-  pub there-onward : (place : FilePlace) (later : ℕ) → Steps cells walker at walked_to.rest (Ok (Onward place later)) now views new after → IsThere from place disks before new after
-  there-onward place later step = there-more walker from at disks before now views so_far step.name (Ok place) new after step.walks place refl
+  pub there-onward : (onto : NamePlace) → Steps cells walker at walked_to.rest (Ok (Onward onto)) now views new after → IsThere from onto.directory disks before new after
+  there-onward onto step = there-more walker from at disks before now views so_far step.name (Ok onto.directory) new after step.walks onto.directory refl
 
   pub walk-ended : Steps cells walker at walked_to.rest (Ok Last) now views new after → ReachesLast cells walker from names (Ok (record { directory = at; at = next })) disks before new after
   walk-ended step =
-      let result : Result LastPlace DirError = Ok (record { directory = at; at = next }) in
+      let result : Result NamePlace DirError = Ok (record { directory = at; at = next }) in
       subst (λ (disks_now : List (Option Volume)). ReachesLast cells walker from names result disks before disks_now after) (sym step.disks_kept)
       (subst (λ (views_now : List DriveView). ReachesLast cells walker from names result disks before now views_now) (sym step.drives_kept)
       (ends-there walker from at disks before now views so_far cells names next walked_to step.name step.one))

@@ -1,4 +1,4 @@
 pub mod Calls
 pub mod Reached
+pub mod Routes
 pub mod Walks
-pub mod Ways

@@ -11,7 +11,7 @@ use Rattle.file_drives.specs.Drives.{DriveView}
 use Rattle.file_drives.specs.Mounted.{ArrivesOn, OnDisks, ReadsFile, number_arrived}
 use Rattle.device_paths.specs.Standing.{NamesFrom, NamesStand}
 use Rattle.file_routes.specs.declared.walk.LastName.{LastName}
-use Rattle.file_routes.specs.declared.walk.LastPlace.{LastPlace}
+use Rattle.file_routes.specs.declared.walk.NamePlace.{NamePlace}
 use Rattle.file_routes.specs.declared.walk.Stepped.{Stepped}
 use Rattle.file_routes.specs.declared.walk.Stepped.TheVariants.{Last, Onward}
 use Rattle.file_routes.specs.declared.walk.Walker.{Walker}
@@ -68,13 +68,13 @@ pub record LastStands (cells : Cells) (names : List (List ℕ)) (at : ℕ) : Typ
   pub last : last_of names ≡ Some name
   pub stand : NamesStand cells at (name ∷ [])
 
-abbrev pub place_reached : Result LastPlace DirError → Result FilePlace DirError
+abbrev pub place_reached : Result NamePlace DirError → Result FilePlace DirError
 place_reached (Ok last) = Ok last.directory
 place_reached (Err error) = Err error
 
 -- along all names but the last, which is at the returned address
 pub record ReachesLast (cells : Cells) (walker : Walker) (from : FilePlace) (names : List (List ℕ))
-    (result : Result LastPlace DirError) (disks : List (Option Volume)) (before : List DriveView)
+    (result : Result NamePlace DirError) (disks : List (Option Volume)) (before : List DriveView)
     (new : List (Option Volume)) (after : List DriveView) : Type 0 where
   pub walks : Walks walker from (before_last names) (place_reached result) disks before new after
   pub last : IfOk result (λ last. LastStands cells names last.at)
@@ -101,18 +101,18 @@ pub record StepsBy (cells : Cells) (walker : Walker) (at : FilePlace) (names : L
 
 -- the step to a reached file, if the next name is at this address
 abbrev pub stepped_to : ℕ → Result FilePlace DirError → Result Stepped DirError
-stepped_to next (Ok place) = Ok (Onward place next)
+stepped_to next (Ok place) = Ok (Onward (record { directory = place; at = next }))
 stepped_to next (Err error) = Err error
 
 -- the next name is at a later address
 abbrev pub GoesUp : ℕ → Stepped → Type 0
 GoesUp at Last = ⊤
-GoesUp at (Onward place next) = (at < next) × (next < 65536)
+GoesUp at (Onward next) = (at < next.at) × (next.at < 65536)
 
 abbrev pub Steps : Cells → Walker → FilePlace → List (List ℕ) → Result Stepped DirError → List (Option Volume)
     → List DriveView → List (Option Volume) → List DriveView → Type 0
 Steps cells walker at names (Ok Last) disks before new after = StepsToLast names disks before new after
-Steps cells walker at names (Ok (Onward place next)) disks before new after =
-    StepsBy cells walker at names next (Ok place) disks before new after
+Steps cells walker at names (Ok (Onward next)) disks before new after =
+    StepsBy cells walker at names next.at (Ok next.directory) disks before new after
 Steps cells walker at names (Err error) disks before new after =
     (next : ℕ) × StepsBy cells walker at names next (Err error) disks before new after

@@ -1,6 +1,6 @@
 //! The path lists of calls of processes.
 
-ghost use Rattle.std.specs.Prelude.{◌≡◌, ◌<◌, ℕ, Bool, Ok, IfSome, Option, List, vec_len};
+ghost use Rattle.std.specs.Prelude.{◌≡◌, ◌<◌, ℕ, Bool, IfSome, Option, List, vec_len};
 ghost use Rattle.proc_rules.specs.Processes.{Processes, cells_at};
 ghost use Rattle.guest_memory.specs.Tie.{cells_of};
 ghost use Rattle.os9_base.specs.declared.registers.TimePacket.{TimePacket};
@@ -12,10 +12,10 @@ ghost use Rattle.file_drives.specs.Drives.{DriveView, drives_seen};
 ghost use Rattle.file_drives.specs.Mounted.{AreMounted, HasFileAt};
 ghost use Rattle.device_paths.specs.Standing.{NamesFrom, NamesStand};
 ghost use Rattle.file_routes.specs.Walks.{SomeFrom, SomeStand, Walks, WalksToLast};
-ghost use Rattle.file_routes.specs.Ways.{Asks, IsRouteFor, RouteHasNames, RouteStarts};
+ghost use Rattle.file_routes.specs.Routes.{Asks, IsRouteFor, RouteHasNames, RouteStarts};
 
-use crate::walk::{LastName, Walker, walk, walk_to_last};
-use crate::way::{Query, Route, find_route};
+use crate::route::{Query, Route, find_route};
+use crate::walk::{LastName, NamePlace, Start, Walker, walk, walk_to_last};
 use device_table::devices::Devices;
 use file_drives::disks::Disks;
 use lock_model::place::FilePlace;
@@ -50,7 +50,7 @@ pub fn call_route(
     find_route(&mut s.memory, disks, devices, query)
 }
 
-/// Goes from a directory along the names of the path list of a process's call.
+/// Goes from a start along the names of the path list of a process's call.
 ///
 /// # Errors
 ///
@@ -60,24 +60,24 @@ pub fn call_walk(
     disks: &mut Disks,
     devices: &mut Devices,
     walker: Walker,
-    from: FilePlace,
-    first: Option<u16>,
+    start: Start,
 ) -> Result<FilePlace, DirError>
     requires process { walker.process.0 < 33 }
-    requires names { SomeFrom (cells_of s.old.memory walker.process.0) first }
-    requires file { HasFileAt disks.old (drives_seen BlockDriver-box devices.old) from }
+    requires names { SomeFrom (cells_of s.old.memory walker.process.0) start.first }
+    requires file { HasFileAt disks.old (drives_seen BlockDriver-box devices.old) start.directory }
     ensures walks { (m : Processes) (names : List (List ℕ)) → Represents s.old m
-        → NamesFrom (cells_at m walker.process.0) first names → Walks walker from names result
+        → NamesFrom (cells_at m walker.process.0) start.first names
+        → Walks walker start.directory names result
         disks.old (drives_seen BlockDriver-box devices.old)
         disks.new (drives_seen BlockDriver-box devices.new) }
     ensures same { IsSame s.old s.new }
     ensures terms_kept { devices.new.terms ≡ devices.old.terms }
 {
-    walk(&mut s.memory, disks, devices, walker, from, first)
+    walk(&mut s.memory, disks, devices, walker, start)
 }
 
-/// Goes from a directory along all names of the path list of a process's call but the last. Returns
-/// the last name and the directory that is reached.
+/// Goes from the directory of the first name of the path list of a process's call along all names
+/// but the last. Returns the last name and the directory that is reached.
 ///
 /// # Errors
 ///
@@ -87,18 +87,18 @@ pub fn call_walk_to_last(
     disks: &mut Disks,
     devices: &mut Devices,
     walker: Walker,
-    from: FilePlace,
-    first: u16,
+    first: NamePlace,
 ) -> Result<LastName, DirError>
     requires process { walker.process.0 < 33 }
-    requires names { SomeStand (cells_of s.old.memory walker.process.0) first }
-    requires file { HasFileAt disks.old (drives_seen BlockDriver-box devices.old) from }
+    requires names { SomeStand (cells_of s.old.memory walker.process.0) first.at }
+    requires file { HasFileAt disks.old (drives_seen BlockDriver-box devices.old) first.directory }
     ensures walks { (m : Processes) (names : List (List ℕ)) → Represents s.old m
-        → NamesStand (cells_at m walker.process.0) first names
-        → WalksToLast walker from names result disks.old (drives_seen BlockDriver-box devices.old)
+        → NamesStand (cells_at m walker.process.0) first.at names
+        → WalksToLast walker first.directory names result
+        disks.old (drives_seen BlockDriver-box devices.old)
         disks.new (drives_seen BlockDriver-box devices.new) }
     ensures same { IsSame s.old s.new }
     ensures terms_kept { devices.new.terms ≡ devices.old.terms }
 {
-    walk_to_last(&mut s.memory, disks, devices, walker, from, first)
+    walk_to_last(&mut s.memory, disks, devices, walker, first)
 }

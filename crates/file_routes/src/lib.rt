@@ -2,5 +2,5 @@
 #![tactic(auto)]
 
 pub mod calls;
+pub mod route;
 pub mod walk;
-pub mod way;

@@ -15,7 +15,7 @@ use lock_model::place::FilePlace;
 use os9_base::name::Name;
 use os9_base::registers::Pid;
 use os9_outer::drive::BlockDriver;
-use rbf_walk::DirError;
+use rbf_walk::{DirError, Searcher};
 
 /// Who walks along a path list, and for what.
 #[derive(Clone, Copy, Debug, PartialEq, Eq)]
@@ -34,11 +34,19 @@ pub struct LastName {
     pub name: Name,
 }
 
-/// The address of the last name of a path list, and the directory in which it has to be looked up.
+/// The address of a name of a path list, and the directory in which it has to be looked up.
 #[derive(Clone, Copy, Debug)]
-pub struct LastPlace {
+pub struct NamePlace {
     pub directory: FilePlace,
     pub at: u16,
+}
+
+/// The directory in which a walk begins, and the address of the first name of its path list; None
+/// if there are no names.
+#[derive(Clone, Copy, Debug, PartialEq, Eq)]
+pub struct Start {
+    pub directory: FilePlace,
+    pub first: Option<u16>,
 }
 
 /// The result of one name of a path list.
@@ -46,14 +54,13 @@ pub struct LastPlace {
 pub enum Stepped {
     /// It is the last name, and has not been looked up.
     Last,
-    /// It names this file, and the next name is at this address.
-    Onward(FilePlace, u16),
+    /// It names the directory of the next name, which is here.
+    Onward(NamePlace),
 }
 
-/// Goes from a directory along the names of a path list, with the first name at `first`. Returns
-/// the file that is reached, or `from` itself if there are no names. Each searched directory must
-/// let the user read it, or execute it in search of a file to execute (OS-9 Technical Reference,
-/// I$Open).
+/// Goes from a start along the names of its path list. Returns the file that is reached, or the
+/// directory itself if there are no names. Each searched directory must let the user read it, or
+/// execute it in search of a file to execute (OS-9 Technical Reference, I$Open).
 ///
 /// # Errors
 ///
@@ -64,30 +71,34 @@ pub fn walk(
     disks: &mut Disks,
     devices: &mut Devices,
     walker: Walker,
-    from: FilePlace,
-    first: Option<u16>,
+    start: Start,
 ) -> Result<FilePlace, DirError>
     requires process { walker.process.0 < 33 }
-    requires names { SomeFrom (cells_of memory.old walker.process.0) first }
-    requires file { HasFileAt disks.old (drives_seen BlockDriver-box devices.old) from }
+    requires names { SomeFrom (cells_of memory.old walker.process.0) start.first }
+    requires file { HasFileAt disks.old (drives_seen BlockDriver-box devices.old) start.directory }
     ensures walks { (names : List (List ℕ))
-        → NamesFrom (cells_of memory.old walker.process.0) first names
-        → Walks walker from names result disks.old (drives_seen BlockDriver-box devices.old)
+        → NamesFrom (cells_of memory.old walker.process.0) start.first names
+        → Walks walker start.directory names result
+        disks.old (drives_seen BlockDriver-box devices.old)
         disks.new (drives_seen BlockDriver-box devices.new) }
     ensures same { IsSame memory.old memory.new }
     ensures terms_kept { devices.new.terms ≡ devices.old.terms }
 {
-    match first {
-        None => Ok(from),
-        Some(at) => match walk_to_last(memory, disks, devices, walker, from, at) {
-            Err(error) => Err(error),
-            Ok(last) => walk_by(disks, devices, walker, last.directory, &last.name),
-        },
+    let Some(at) = start.first else {
+        return Ok(start.directory);
+    };
+    let first = NamePlace {
+        directory: start.directory,
+        at,
+    };
+    match walk_to_last(memory, disks, devices, walker, first) {
+        Err(error) => Err(error),
+        Ok(last) => walk_by(disks, devices, walker, last.directory, &last.name),
     }
 }
 
-/// Goes from a directory along all names of a path list but the last, with the first name at
-/// `first`. Returns the directory that is reached and the last name.
+/// Goes from the directory of the first name of a path list along all names but the last. Returns
+/// the directory that is reached and the last name.
 ///
 /// # Errors
 ///
@@ -97,20 +108,20 @@ pub fn walk_to_last(
     disks: &mut Disks,
     devices: &mut Devices,
     walker: Walker,
-    from: FilePlace,
-    first: u16,
+    first: NamePlace,
 ) -> Result<LastName, DirError>
     requires process { walker.process.0 < 33 }
-    requires names { SomeStand (cells_of memory.old walker.process.0) first }
-    requires file { HasFileAt disks.old (drives_seen BlockDriver-box devices.old) from }
+    requires names { SomeStand (cells_of memory.old walker.process.0) first.at }
+    requires file { HasFileAt disks.old (drives_seen BlockDriver-box devices.old) first.directory }
     ensures walks { (names : List (List ℕ))
-        → NamesStand (cells_of memory.old walker.process.0) first names
-        → WalksToLast walker from names result disks.old (drives_seen BlockDriver-box devices.old)
+        → NamesStand (cells_of memory.old walker.process.0) first.at names
+        → WalksToLast walker first.directory names result
+        disks.old (drives_seen BlockDriver-box devices.old)
         disks.new (drives_seen BlockDriver-box devices.new) }
     ensures same { IsSame memory.old memory.new }
     ensures terms_kept { devices.new.terms ≡ devices.old.terms }
 {
-    match reach_last(memory, disks, devices, walker, from, first) {
+    match reach_last(memory, disks, devices, walker, first) {
         Err(error) => Err(error),
         Ok(last) => match read_name(memory, walker.process, last.at) {
             Err(_) => unreachable!(),
@@ -122,8 +133,8 @@ pub fn walk_to_last(
     }
 }
 
-/// Goes from a directory along all names of a path list but the last. Returns the directory that is
-/// reached and the address of the last name.
+/// Goes from the directory of the first name of a path list along all names but the last. Returns
+/// the place of the last name.
 ///
 /// # Errors
 ///
@@ -133,35 +144,30 @@ fn reach_last(
     disks: &mut Disks,
     devices: &mut Devices,
     walker: Walker,
-    from: FilePlace,
-    first: u16,
-) -> Result<LastPlace, DirError>
+    first: NamePlace,
+) -> Result<NamePlace, DirError>
     requires process { walker.process.0 < 33 }
-    requires names { SomeStand (cells_of memory.old walker.process.0) first }
-    requires file { HasFileAt disks.old (drives_seen BlockDriver-box devices.old) from }
+    requires names { SomeStand (cells_of memory.old walker.process.0) first.at }
+    requires file { HasFileAt disks.old (drives_seen BlockDriver-box devices.old) first.directory }
     ensures reaches { (names : List (List ℕ))
-        → NamesStand (cells_of memory.old walker.process.0) first names
-        → ReachesLast (cells_of memory.old walker.process.0) walker from names result
+        → NamesStand (cells_of memory.old walker.process.0) first.at names
+        → ReachesLast (cells_of memory.old walker.process.0) walker first.directory names result
         disks.old (drives_seen BlockDriver-box devices.old)
         disks.new (drives_seen BlockDriver-box devices.new) }
     ensures same { IsSame memory.old memory.new }
     ensures terms_kept { devices.new.terms ≡ devices.old.terms }
 {
-    let mut directory = from;
-    let mut at = first;
+    let mut place = first;
     'names: loop {
-        match step(memory, disks, devices, walker, directory, at) {
+        match step(memory, disks, devices, walker, place) {
             Err(error) => return Err(error),
-            Ok(Stepped::Last) => return Ok(LastPlace { directory, at }),
-            Ok(Stepped::Onward(place, next)) => {
-                directory = place;
-                at = next;
-            }
+            Ok(Stepped::Last) => return Ok(place),
+            Ok(Stepped::Onward(next)) => place = next,
         }
     }
 }
 
-/// Reads the name at an address, and goes from a directory by it if it is not the last.
+/// Reads the name at a place, and goes from its directory by it if it is not the last.
 ///
 /// # Errors
 ///
@@ -171,27 +177,26 @@ fn step(
     disks: &mut Disks,
     devices: &mut Devices,
     walker: Walker,
-    directory: FilePlace,
-    at: u16,
+    place: NamePlace,
 ) -> Result<Stepped, DirError>
     requires process { walker.process.0 < 33 }
-    requires names { SomeStand (cells_of memory.old walker.process.0) at }
-    requires file { HasFileAt disks.old (drives_seen BlockDriver-box devices.old) directory }
+    requires names { SomeStand (cells_of memory.old walker.process.0) place.at }
+    requires file { HasFileAt disks.old (drives_seen BlockDriver-box devices.old) place.directory }
     ensures steps { (names : List (List ℕ))
-        → NamesStand (cells_of memory.old walker.process.0) at names
-        → Steps (cells_of memory.old walker.process.0) walker directory names result
+        → NamesStand (cells_of memory.old walker.process.0) place.at names
+        → Steps (cells_of memory.old walker.process.0) walker place.directory names result
         disks.old (drives_seen BlockDriver-box devices.old)
         disks.new (drives_seen BlockDriver-box devices.new) }
-    ensures up { IfOk result (GoesUp at) }
+    ensures up { IfOk result (GoesUp place.at) }
     ensures same { IsSame memory.old memory.new }
     ensures terms_kept { devices.new.terms ≡ devices.old.terms }
 {
-    match read_name(memory, walker.process, at) {
+    match read_name(memory, walker.process, place.at) {
         Err(_) => unreachable!(),
         Ok(named) => match named.next {
             None => Ok(Stepped::Last),
             Some(next) => onward(
-                walk_by(disks, devices, walker, directory, &named.name),
+                walk_by(disks, devices, walker, place.directory, &named.name),
                 next,
             ),
         },
@@ -216,15 +221,23 @@ fn walk_by(
         disks.new (drives_seen BlockDriver-box devices.new) }
     ensures terms_kept { devices.new.terms ≡ devices.old.terms }
 {
-    disks.walk_to(devices, directory, name, walker.user, walker.execute)
+    let by = Searcher {
+        user: walker.user,
+        execute: walker.execute,
+    };
+    disks.walk_to(devices, directory, name, by)
 }
 
-/// The result of a name: the file at its end, if there is one, with the address of the next name.
+/// The result of a name: the file that it names, if there is one, with the address of the next
+/// name.
 fn onward(arrived: Result<FilePlace, DirError>, next: u16) -> Result<Stepped, DirError>
     ensures { result ≡ stepped_to next arrived }
 {
     match arrived {
         Err(error) => Err(error),
-        Ok(place) => Ok(Stepped::Onward(place, next)),
+        Ok(directory) => Ok(Stepped::Onward(NamePlace {
+            directory,
+            at: next,
+        })),
     }
 }

@@ -1,5 +1,6 @@
 pub mod Asking
 pub mod Attempt
+pub mod Context
 pub mod Counted
 pub mod Ends
 pub mod Lacks

@@ -2,4 +2,5 @@
 #![tactic(auto)]
 
 pub mod asking;
+pub mod machine;
 pub mod state;

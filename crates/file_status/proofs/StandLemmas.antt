@@ -1,7 +1,6 @@
 -- What the kernel's state stands for when a call on a file ends, and what the attempt came to.
 use Rattle.std.proofs.Common.{◌≡◌, ℕ, ◌∙◌, Bool, true, false, Option, Some, None, List, [], Result, Ok, Err, refl, ap, sym, subst, ◌⊎◌, inl, inr, arith}
 use Rattle.os9_base.specs.declared.call.CallEnd.{CallEnd}
-use Rattle.os9_base.specs.declared.errors.TheConstants.{E_SLF}
 use Rattle.os9_base.specs.declared.registers.Regs.{Regs}
 use Rattle.os9_base.specs.declared.registers.TimePacket.{TimePacket}
 use Rattle.os9_outer.specs.TerminalState.{TerminalState}
@@ -14,7 +13,7 @@ use Rattle.proc_state.specs.Tie.{Comes, Represents}
 use Rattle.proc_state.specs.declared.state.ProcState.{ProcState}
 use Rattle.rbf_model.specs.File.{DiskFile}
 use Rattle.rbf_model.specs.Volume.{DiskVolume}
-use Rattle.rbf_access.specs.declared.faults.FileFault.TheVariants.{Device, TooManyRuns}
+use Rattle.rbf_access.specs.declared.faults.FileFault.TheVariants.{Device}
 use Rattle.rbf_access.specs.declared.volume.Volume.{Volume}
 use Rattle.rbf_walk.specs.declared.error.DirError.{DirError}
 use Rattle.rbf_walk.specs.declared.error.DirError.TheVariants.{File}
@@ -22,10 +21,10 @@ use Rattle.file_rules.specs.Attempts.{asker_of, files_kept, io_effect}
 use Rattle.file_rules.specs.Change.{Change}
 use Rattle.file_rules.specs.Files.{Asker, DriveState, Files, NoneFailed, volume_at, with_drives, with_io, with_volume}
 use Rattle.file_rules.specs.Step.{FileEffect, FileStep, MayBeLeft, VolumeChange, reaches, comes, changes, leaves_so, leaves, stores, refuses, refuses_so, deed_of, with_drives_after, with_volume_after}
-use Rattle.file_drives.specs.Changed.{Asked, IsRefused, has_full_list, is_refused}
+use Rattle.file_drives.specs.Changed.{Asked, IsRefused, is_refused}
 use Rattle.file_drives.specs.Drives.{DriveView, drive_states}
 use Rattle.file_state.proofs.CountLemmas.{called-more, called-none}
-use Rattle.file_state.proofs.EndLemmas.{asked_of, breaks, breaks-nothing, goes-well, is-made, is-too-long}
+use Rattle.file_state.proofs.EndLemmas.{asked_of, breaks, breaks-nothing, goes-well, is-made}
 use Rattle.file_state.proofs.KeepLemmas.{MayKeepAll, error-keeps, keeps-broken, keeps-made, keeps-read, keeps-refused, keeps-same}
 use Rattle.file_state.proofs.ReachedLemmas.{same-volume}
 use Rattle.file_state.specs.Counted.{CalledAtMost, calls_of}
@@ -224,19 +223,6 @@ module _ (most : ℕ) (m : Processes) (files : Files) (now : TimePacket) (p : �
         stands = inl (left-same it.left same it.stands);
         calls = called;
         drives = keeps-all answer number it (inl refused) is_end;
-      }
-
-      -- a cluster found no place
-      pub change-too_long : test ≡ false → has_full_list change v file ≡ false → Changed (Err (File TooManyRuns))
-          → end ≡ CallEnd.Error E_SLF → Represents processes m → Ends step most m files now p end processes new before
-          after terms
-      change-too_long allowed list it is_end tied = record {
-        effect = with_drives_after (refuses_so E_SLF files) drives;
-        does = is-too-long step asker files deed v it.left file drives terms (goes-on allowed) is list it.answers it.moved;
-        comes = (is_end, tied);
-        stands = inl (left-same it.left it.answers.same it.stands);
-        calls = called;
-        drives = keeps-all (Err (File TooManyRuns)) E_SLF it (inl tt) is_end;
       }
 
       -- the drive failed in it

@@ -1,6 +1,7 @@
 //! The ends of calls on files.
 
 ghost use Rattle.std.specs.Prelude.{◌≡◌, ◌<◌, IfSome};
+ghost use Rattle.file_state.specs.Context.{InFileCall};
 ghost use Rattle.io_rules.specs.Io.{pending_at};
 ghost use Rattle.io_state.specs.Sound.{IsNoRead};
 ghost use Rattle.proc_rules.specs.Records.{IsLiving};
@@ -8,10 +9,11 @@ ghost use Rattle.proc_rules.specs.Processes.{Processes, with_regs_of};
 ghost use Rattle.proc_state.specs.Tie.{Represents};
 ghost use Rattle.file_status.specs.Status.{uncalled};
 
+use file_state::machine::Machine;
 use file_state::state::FileState;
+use io_state::requester::Requester;
 use os9_base::call::CallEnd;
 use os9_base::registers::{Pid, Regs};
-use proc_state::state::ProcState;
 
 /// Refuses the call with this number. Nothing is kept of the call.
 pub(crate) fn refuse(files: &mut FileState, p: Pid, number: u8) -> CallEnd
@@ -25,16 +27,15 @@ pub(crate) fn refuse(files: &mut FileState, p: Pid, number: u8) -> CallEnd
 }
 
 /// Ends the call as done, with these registers of its process. Nothing is kept of the call.
-pub(crate) fn answer(s: &mut ProcState, files: &mut FileState, p: Pid, regs: Regs) -> CallEnd
-    requires lives { IsLiving s.old.table p.0 }
-    requires no_read { IfSome (pending_at files.old.io p.0) (IsNoRead files.old.io) }
+pub(crate) fn answer(machine: &mut Machine, by: Requester, regs: Regs) -> CallEnd
+    requires { InFileCall by machine.old }
     ensures end { result ≡ CallEnd.Done }
-    ensures tied { (m : Processes) → Represents s.old m
-        → Represents s.new (with_regs_of m p.0 regs) }
-    ensures files { files.new ≡ uncalled files.old p.0 }
-    ensures lives { IsLiving s.new.table p.0 }
+    ensures tied { (m : Processes) → Represents machine.old.processes m
+        → Represents machine.new.processes (with_regs_of m by.p.0 regs) }
+    ensures files { machine.new.files ≡ uncalled machine.old.files by.p.0 }
+    ensures lives { IsLiving machine.new.processes.table by.p.0 }
 {
-    s.set_regs(p, regs);
-    files.io.keep(p, None);
+    machine.processes.set_regs(by.p, regs);
+    machine.files.io.keep(by.p, None);
     CallEnd::Done
 }

@@ -1,15 +1,15 @@
 //! I$SetStt of a file or a directory.
 
-ghost use Rattle.std.specs.Prelude.{◌≡◌, false, true, IfSome, List};
+ghost use Rattle.std.specs.Prelude.{◌≡◌, false, true, List};
+ghost use Rattle.io_state.specs.Context.{InCall, KeepsTerminals};
+ghost use Rattle.file_state.specs.Context.{InFileCall, beside, seen};
 ghost use Rattle.proc_rules.specs.Processes.{Processes, with_regs_of};
 ghost use Rattle.os9_base.specs.declared.registers.TimePacket.{TimePacket as Time};
 ghost use Rattle.os9_outer.specs.TerminalState.{TerminalState};
-ghost use Rattle.proc_rules.specs.Records.{IsLiving, record_at};
+ghost use Rattle.proc_rules.specs.Records.{IsLiving};
 ghost use Rattle.proc_state.specs.Tie.{Represents};
-ghost use Rattle.io_rules.specs.Io.{pending_at};
 ghost use Rattle.io_rules.specs.Modes.{can_write as can_write_model};
 ghost use Rattle.io_rules.specs.declared.io_call.IoCall.TheVariants as Device;
-ghost use Rattle.io_state.specs.Sound.{IsNoRead};
 ghost use Rattle.lock_model.specs.Conflict.{conflicts};
 ghost use Rattle.file_rules.specs.declared.path_call.PathCall.TheVariants as Call;
 ghost use Rattle.file_rules.specs.Locking.{is_for_update as is_for_update_model};
@@ -17,7 +17,6 @@ ghost use Rattle.file_rules.specs.Status.{range_locked as range_locked_model, se
 ghost use Rattle.file_drives.specs.Drives.{DriveView, drives_seen};
 ghost use Rattle.file_drives.specs.Mounted.{HasDataFileAt, HasFileAt};
 ghost use Rattle.file_state.specs.Asking.{IsGranted, MayAsk, TriesAgain};
-ghost use Rattle.file_state.specs.Attempt.{standing};
 ghost use Rattle.file_state.specs.Lacks.{TriesWithin};
 ghost use Rattle.file_state.specs.Opened.{IsPathOf};
 ghost use Rattle.file_state.specs.Tie.{IsSound};
@@ -29,15 +28,16 @@ use device_table::devices::Devices;
 use file_rules::claim::Claim;
 use file_rules::status::{SS_ATTR, SS_LOCK, SS_SIZE, SS_TICKS, WHOLE_FILE};
 use file_state::asking::range_of;
-use file_state::state::{FileState, OpenFile};
+use file_state::machine::Machine;
+use file_state::state::OpenFile;
 use io_rules::modes::{MODE_READ, MODE_WRITE};
+use io_state::requester::Requester;
 use lock_model::lock::{Held, Range};
 use os9_base::call::CallEnd;
 use os9_base::calls::I_SETSTT;
 use os9_base::errors::{E_BMODE, E_UNKSVC};
-use os9_base::registers::{Pid, Regs, TimePacket};
 use os9_outer::drive::BlockDriver;
-use proc_state::state::ProcState;
+use rbf_entries::NewAttributes;
 
 /// I$SetStt of a file or a directory, at a time (System Programmer's Manual, I$SetStt; the argument
 /// of SS.Attr is this project's own): sets the status of the path in A, by the code in B. SS.Size
@@ -57,57 +57,49 @@ use proc_state::state::ProcState;
 /// what a fault may leave. The drive is not called if the call is refused before it is reached.
 /// `NoMemory` is returned only if the history found no room for an entry.
 pub fn set_status(
-    s: &mut ProcState,
-    files: &mut FileState,
+    machine: &mut Machine,
     devices: &mut Devices,
-    p: Pid,
+    by: Requester,
     opened: &OpenFile,
-    now: TimePacket,
 ) -> CallEnd
-    requires lives { IsLiving s.old.table p.0 }
-    requires again { TriesAgain Device.SetStt (record_at s.old.table p.0).regs files.old p.0 }
-    requires sound { IsSound files.old (drives_seen BlockDriver-box devices.old) }
-    requires named { IsNamedInA p.0 opened.now
-        (standing BlockDriver-box s.old files.old devices.old) }
+    requires calls { InCall by machine.old.processes }
+    requires again { TriesAgain Device.SetStt by.regs machine.old.files by.p.0 }
+    requires sound { IsSound machine.old.files (drives_seen BlockDriver-box devices.old) }
+    requires named { IsNamedInA by.p.0 opened.now (seen BlockDriver-box machine.old devices.old) }
     ensures call { (terms : List TerminalState)
-        → TriesWithin i_setstt_calls Call.SetStt now p.0 result terms terms
-        (standing BlockDriver-box s.old files.old devices.old)
-        (standing BlockDriver-box s.new files.new devices.new) }
-    ensures lives { IsLiving s.new.table p.0 }
-    ensures terms_kept { devices.new.terms ≡ devices.old.terms }
+        → TriesWithin i_setstt_calls Call.SetStt by.now by.p.0 result terms terms
+        (seen BlockDriver-box machine.old devices.old)
+        (seen BlockDriver-box machine.new devices.new) }
+    ensures kept { KeepsTerminals by machine.new.processes devices.old devices.new }
 {
-    set_status_of(s, files, devices, p, opened, now)
+    set_status_of(machine, devices, by, opened)
 }
 
 /// Sets the status of a file or a directory, by the code in B.
 fn set_status_of(
-    s: &mut ProcState,
-    files: &mut FileState,
+    machine: &mut Machine,
     devices: &mut Devices,
-    p: Pid,
+    by: Requester,
     opened: &OpenFile,
-    now: TimePacket,
 ) -> CallEnd
-    requires lives { IsLiving s.old.table p.0 }
-    requires no_read { IfSome (pending_at files.old.io p.0) (IsNoRead files.old.io) }
-    requires asks { MayAsk files.old.io files.old.records.locks p.0 opened.now }
-    requires there { HasFileAt files.old.disks
+    requires calls { InFileCall by machine.old }
+    requires asks { MayAsk machine.old.files.io machine.old.files.records.locks by.p.0 opened.now }
+    requires there { HasFileAt machine.old.files.disks (drives_seen BlockDriver-box devices.old)
+        opened.now.place }
+    requires written { can_write_model opened.now.desc.mode ≡ true → HasDataFileAt
+        machine.old.files.disks
         (drives_seen BlockDriver-box devices.old) opened.now.place }
-    requires written { can_write_model opened.now.desc.mode ≡ true → HasDataFileAt files.old.disks
-        (drives_seen BlockDriver-box devices.old) opened.now.place }
-    ensures call { SetsOn opened.now sets_by_code calls_by_code now p.0 result
-        (standing BlockDriver-box s.old files.old devices.old)
-        (standing BlockDriver-box s.new files.new devices.new) }
-    ensures lives { IsLiving s.new.table p.0 }
-    ensures terms_kept { devices.new.terms ≡ devices.old.terms }
+    ensures call { SetsOn opened.now sets_by_code calls_by_code by.now by.p.0 result
+        (seen BlockDriver-box machine.old devices.old)
+        (seen BlockDriver-box machine.new devices.new) }
+    ensures kept { KeepsTerminals by machine.new.processes devices.old devices.new }
 {
-    let regs = s.regs(p);
-    match regs.b {
-        SS_SIZE => set_size(s, files, devices, p, opened, now),
-        SS_TICKS => set_ticks(s, files, p, opened),
-        SS_LOCK => set_lock(s, files, devices, p, opened),
-        SS_ATTR => set_attributes(s, files, devices, p, opened, now),
-        _ => refuse(files, p, E_UNKSVC),
+    match by.regs.b {
+        SS_SIZE => set_size(machine, devices, by, opened),
+        SS_TICKS => set_ticks(machine, by, opened),
+        SS_LOCK => set_lock(machine, devices, by, opened),
+        SS_ATTR => set_attributes(machine, devices, by, opened),
+        _ => refuse(&mut machine.files, by.p, E_UNKSVC),
     }
 }
 
@@ -127,41 +119,44 @@ fn is_for_update(mode: u8) -> bool
 
 /// SS.Size: gives the file the size in X and U. It requests all from the smaller of both sizes on.
 fn set_size(
-    s: &mut ProcState,
-    files: &mut FileState,
+    machine: &mut Machine,
     devices: &mut Devices,
-    p: Pid,
+    by: Requester,
     opened: &OpenFile,
-    now: TimePacket,
 ) -> CallEnd
-    requires lives { IsLiving s.old.table p.0 }
-    requires no_read { IfSome (pending_at files.old.io p.0) (IsNoRead files.old.io) }
-    requires asks { MayAsk files.old.io files.old.records.locks p.0 opened.now }
-    requires written { can_write_model opened.now.desc.mode ≡ true → HasDataFileAt files.old.disks
+    requires calls { InFileCall by machine.old }
+    requires asks { MayAsk machine.old.files.io machine.old.files.records.locks by.p.0 opened.now }
+    requires written { can_write_model opened.now.desc.mode ≡ true → HasDataFileAt
+        machine.old.files.disks
         (drives_seen BlockDriver-box devices.old) opened.now.place }
-    ensures call { SetsOn opened.now sets_size_model (setting_calls SS_SIZE) now p.0 result
-        (standing BlockDriver-box s.old files.old devices.old)
-        (standing BlockDriver-box s.new files.new devices.new) }
-    ensures lives { IsLiving s.new.table p.0 }
-    ensures terms_kept { devices.new.terms ≡ devices.old.terms }
+    ensures call { SetsOn opened.now sets_size_model (setting_calls SS_SIZE) by.now by.p.0 result
+        (seen BlockDriver-box machine.old devices.old)
+        (seen BlockDriver-box machine.new devices.new) }
+    ensures kept { KeepsTerminals by machine.new.processes devices.old devices.new }
 {
-    let regs = s.regs(p);
     if !can_write(opened.desc.mode) {
-        return refuse(files, p, E_BMODE);
+        return refuse(&mut machine.files, by.p, E_BMODE);
     }
-    let old = match files.disks.fd(devices, opened.place) {
+    let old = match machine.files.disks.fd(devices, opened.place) {
         Ok(fd) => fd.size,
-        Err(fault) => return refuse(files, p, fault.number()),
+        Err(fault) => return refuse(&mut machine.files, by.p, fault.number()),
     };
     let range = Range {
-        start: old.min(long_of(regs)),
+        start: old.min(long_of(by.regs)),
         end: None,
     };
-    let request = files.request_now(p, opened, status_claim(range), s.tick);
-    if let Some(end) = files.ask(p, request, s.tick) {
+    let tick = machine.processes.tick;
+    let request = machine
+        .files
+        .request_now(by.p, opened, status_claim(range), tick);
+    if let Some(end) = machine.files.ask(by.p, request, tick) {
         return end;
     }
-    size_granted(s, files, devices, p, opened, old, request.lock, now)
+    let sizing = LockedSizing {
+        old,
+        lock: request.lock,
+    };
+    size_granted(machine, devices, by, opened, sizing)
 }
 
 /// The claim of a call that sets a status, for this range.
@@ -175,131 +170,122 @@ fn status_claim(range: Range) -> Claim
     }
 }
 
-/// The size in X and U is given to a file of this size under the lock that was granted for it; the
-/// path then holds none.
-fn size_granted(
-    s: &mut ProcState,
-    files: &mut FileState,
-    devices: &mut Devices,
-    p: Pid,
-    opened: &OpenFile,
+/// A change of a file's size under the lock that was granted for it: the size before, and the lock.
+#[derive(Clone, Copy, Debug, PartialEq, Eq)]
+struct LockedSizing {
     old: u32,
     lock: Held,
-    now: TimePacket,
+}
+
+/// Gives the file the size in X and U, under the lock that was granted for it. The path then holds
+/// none.
+fn size_granted(
+    machine: &mut Machine,
+    devices: &mut Devices,
+    by: Requester,
+    opened: &OpenFile,
+    sizing: LockedSizing,
 ) -> CallEnd
-    requires lives { IsLiving s.old.table p.0 }
-    requires no_read { IfSome (pending_at files.old.io p.0) (IsNoRead files.old.io) }
-    requires path { IsPathOf files.old.io opened.now }
-    requires file { HasDataFileAt files.old.disks
+    requires calls { InFileCall by machine.old }
+    requires path { IsPathOf machine.old.files.io opened.now }
+    requires file { HasDataFileAt machine.old.files.disks
         (drives_seen BlockDriver-box devices.old) opened.now.place }
-    requires granted { IsGranted files.old.records.locks lock }
-    ensures call { SetsGranted opened.now (sizes_granted old lock) granted_size_calls now p.0 result
-        (standing BlockDriver-box s.old files.old devices.old)
-        (standing BlockDriver-box s.new files.new devices.new) }
-    ensures lives { IsLiving s.new.table p.0 }
-    ensures terms_kept { devices.new.terms ≡ devices.old.terms }
+    requires granted { IsGranted machine.old.files.records.locks sizing.lock }
+    ensures call { SetsGranted opened.now (sizes_granted sizing.old sizing.lock) granted_size_calls
+        by.now
+        by.p.0 result (seen BlockDriver-box machine.old devices.old)
+        (seen BlockDriver-box machine.new devices.new) }
+    ensures kept { KeepsTerminals by machine.new.processes devices.old devices.new }
 {
-    let size = long_of(s.regs(p));
-    match files.disks.set_size(devices, opened.place, size, now) {
-        Ok(()) => enter_size(s, files, p, opened, old, lock),
-        Err(fault) => refuse(files, p, fault.number()),
+    let size = long_of(by.regs);
+    let disks = &mut machine.files.disks;
+    match disks.set_size(devices, opened.place, size, by.now) {
+        Ok(()) => enter_size(machine, by, opened, sizing),
+        Err(fault) => refuse(&mut machine.files, by.p, fault.number()),
     }
 }
 
 /// Enters in the history that a file of this size was given the one in X and U, if that is another
 /// one, and answers the call.
 fn enter_size(
-    s: &mut ProcState,
-    files: &mut FileState,
-    p: Pid,
+    machine: &mut Machine,
+    by: Requester,
     opened: &OpenFile,
-    old: u32,
-    lock: Held,
+    sizing: LockedSizing,
 ) -> CallEnd
-    requires lives { IsLiving s.old.table p.0 }
-    requires no_read { IfSome (pending_at files.old.io p.0) (IsNoRead files.old.io) }
-    requires path { IsPathOf files.old.io opened.now }
-    requires free { conflicts files.old.records.locks lock ≡ false }
-    ensures call { (m : Processes) → Represents s.old m → EndsSized old lock
-        (record_at s.old.table p.0).regs opened.now m p.0 files.old result s.new files.new }
-    ensures lives { IsLiving s.new.table p.0 }
+    requires calls { InFileCall by machine.old }
+    requires path { IsPathOf machine.old.files.io opened.now }
+    requires free { conflicts machine.old.files.records.locks sizing.lock ≡ false }
+    ensures call { (m : Processes) → Represents machine.old.processes m → EndsSized sizing.old
+        sizing.lock by.regs opened.now m by.p.0 machine.old.files result machine.new.processes
+        machine.new.files }
+    ensures lives { IsLiving machine.new.processes.table by.p.0 }
 {
-    let regs = s.regs(p);
-    if old == long_of(regs) {
-        return end_lock(s, files, p, opened, regs);
+    let LockedSizing { old, lock } = sizing;
+    if old == long_of(by.regs) {
+        return end_lock(machine, by, opened);
     }
-    if files.records.write(opened.path.0, lock, &[]).is_err() {
+    let records = &mut machine.files.records;
+    if records.write(opened.path.0, lock, &[]).is_err() {
         return CallEnd::NoMemory;
     }
-    answer(s, files, p, regs)
+    answer(machine, by, by.regs)
 }
 
-/// Ends the lock of a path, if it holds one, and answers the call with these registers.
-fn end_lock(
-    s: &mut ProcState,
-    files: &mut FileState,
-    p: Pid,
-    opened: &OpenFile,
-    regs: Regs,
-) -> CallEnd
-    requires lives { IsLiving s.old.table p.0 }
-    requires no_read { IfSome (pending_at files.old.io p.0) (IsNoRead files.old.io) }
-    requires path { IsPathOf files.old.io opened.now }
+/// Ends the lock of a path, if it holds one, and answers the call with the registers as they are.
+fn end_lock(machine: &mut Machine, by: Requester, opened: &OpenFile) -> CallEnd
+    requires calls { InFileCall by machine.old }
+    requires path { IsPathOf machine.old.files.io opened.now }
     ensures end { result ≡ CallEnd.Done }
-    ensures tied { (m : Processes) → Represents s.old m
-        → Represents s.new (with_regs_of m p.0 regs) }
-    ensures files { files.new ≡ unlocked files.old p.0 opened.now.path.0 }
-    ensures lives { IsLiving s.new.table p.0 }
+    ensures tied { (m : Processes) → Represents machine.old.processes m
+        → Represents machine.new.processes (with_regs_of m by.p.0 by.regs) }
+    ensures files { machine.new.files ≡ unlocked machine.old.files by.p.0 opened.now.path.0 }
+    ensures lives { IsLiving machine.new.processes.table by.p.0 }
 {
-    files.records.drop_lock(opened.path.0);
-    answer(s, files, p, regs)
+    machine.files.records.drop_lock(opened.path.0);
+    answer(machine, by, by.regs)
 }
 
 /// SS.Lock: the path holds the bytes from its position on, as many as X and U say; of none its lock
 /// ends, and of `FFFFFFFF` it holds the whole file.
 fn set_lock(
-    s: &mut ProcState,
-    files: &mut FileState,
+    machine: &mut Machine,
     devices: &mut Devices,
-    p: Pid,
+    by: Requester,
     opened: &OpenFile,
 ) -> CallEnd
-    requires lives { IsLiving s.old.table p.0 }
-    requires no_read { IfSome (pending_at files.old.io p.0) (IsNoRead files.old.io) }
-    requires asks { MayAsk files.old.io files.old.records.locks p.0 opened.now }
-    requires there { HasFileAt files.old.disks
-        (drives_seen BlockDriver-box devices.old) opened.now.place }
-    ensures call { (now : Time) → SetsOn opened.now sets_lock_model (setting_calls SS_LOCK) now p.0
-        result (standing BlockDriver-box s.old files.old devices.old)
-        (standing BlockDriver-box s.new files.new devices.new) }
-    ensures lives { IsLiving s.new.table p.0 }
-    ensures terms_kept { devices.new.terms ≡ devices.old.terms }
+    requires calls { InFileCall by machine.old }
+    requires asks { MayAsk machine.old.files.io machine.old.files.records.locks by.p.0 opened.now }
+    requires there { HasFileAt machine.old.files.disks (drives_seen BlockDriver-box devices.old)
+        opened.now.place }
+    ensures call { (now : Time) → SetsOn opened.now sets_lock_model (setting_calls SS_LOCK) now
+        by.p.0
+        result (seen BlockDriver-box machine.old devices.old)
+        (seen BlockDriver-box machine.new devices.new) }
+    ensures kept { KeepsTerminals by machine.new.processes devices.old devices.new }
 {
-    let regs = s.regs(p);
     if !is_for_update(opened.desc.mode) {
-        return refuse(files, p, E_BMODE);
+        return refuse(&mut machine.files, by.p, E_BMODE);
     }
-    let count = long_of(regs);
+    let count = long_of(by.regs);
     if count == 0 {
-        return end_lock(s, files, p, opened, regs);
+        return end_lock(machine, by, opened);
     }
-    let size = match files.disks.fd(devices, opened.place) {
+    let size = match machine.files.disks.fd(devices, opened.place) {
         Ok(fd) => fd.size,
-        Err(fault) => return refuse(files, p, fault.number()),
+        Err(fault) => return refuse(&mut machine.files, by.p, fault.number()),
     };
     let claim = status_claim(range_locked(size, opened.desc.at, count));
-    let request = files.request_now(p, opened, claim, s.tick);
-    if let Some(end) = files.ask(p, request, s.tick) {
+    let tick = machine.processes.tick;
+    let request = machine.files.request_now(by.p, opened, claim, tick);
+    if let Some(end) = machine.files.ask(by.p, request, tick) {
         return end;
     }
-    if files
-        .records
-        .hold(opened.path.0, request.lock, &[])
-        .is_err()
-    {
+    let records = &mut machine.files.records;
+    if records.hold(opened.path.0, request.lock, &[]).is_err() {
         return CallEnd::NoMemory;
     }
-    answer(s, files, p, regs)
+    answer(machine, by, by.regs)
 }
 
 /// The bytes that SS.Lock asks for, of a file of this size: `count` from a position on, or the
@@ -317,49 +303,44 @@ fn range_locked(size: u32, at: u32, count: u32) -> Range
 }
 
 /// SS.Ticks: the requests of the path wait the number of ticks in X.
-fn set_ticks(s: &mut ProcState, files: &mut FileState, p: Pid, opened: &OpenFile) -> CallEnd
-    requires lives { IsLiving s.old.table p.0 }
-    requires no_read { IfSome (pending_at files.old.io p.0) (IsNoRead files.old.io) }
-    requires path { IsPathOf files.old.io opened.now }
+fn set_ticks(machine: &mut Machine, by: Requester, opened: &OpenFile) -> CallEnd
+    requires calls { InFileCall by machine.old }
+    requires path { IsPathOf machine.old.files.io opened.now }
     ensures call { (now : Time) (views : List DriveView)
-        → EndsOn opened.now sets_ticks_model (setting_calls SS_TICKS) now p.0 result
-        (record { processes = s.old; files = files.old; views = views })
-        (record { processes = s.new; files = files.new; views = views }) }
-    ensures lives { IsLiving s.new.table p.0 }
+        → EndsOn opened.now sets_ticks_model (setting_calls SS_TICKS) now by.p.0 result
+        (beside machine.old views) (beside machine.new views) }
+    ensures lives { IsLiving machine.new.processes.table by.p.0 }
 {
-    let regs = s.regs(p);
-    let end = answer(s, files, p, regs);
-    files.io.set_ticks(opened.path, regs.x);
+    let end = answer(machine, by, by.regs);
+    machine.files.io.set_ticks(opened.path, by.regs.x);
     end
 }
 
 /// SS.Attr: gives the file the attributes in the low byte of X.
 fn set_attributes(
-    s: &mut ProcState,
-    files: &mut FileState,
+    machine: &mut Machine,
     devices: &mut Devices,
-    p: Pid,
+    by: Requester,
     opened: &OpenFile,
-    now: TimePacket,
 ) -> CallEnd
-    requires lives { IsLiving s.old.table p.0 }
-    requires no_read { IfSome (pending_at files.old.io p.0) (IsNoRead files.old.io) }
-    requires there { HasFileAt files.old.disks
-        (drives_seen BlockDriver-box devices.old) opened.now.place }
-    ensures call { EndsOn opened.now sets_attributes_model (setting_calls SS_ATTR) now p.0 result
-        (standing BlockDriver-box s.old files.old devices.old)
-        (standing BlockDriver-box s.new files.new devices.new) }
-    ensures lives { IsLiving s.new.table p.0 }
-    ensures terms_kept { devices.new.terms ≡ devices.old.terms }
+    requires calls { InFileCall by machine.old }
+    requires there { HasFileAt machine.old.files.disks (drives_seen BlockDriver-box devices.old)
+        opened.now.place }
+    ensures call { EndsOn opened.now sets_attributes_model (setting_calls SS_ATTR) by.now by.p.0
+        result
+        (seen BlockDriver-box machine.old devices.old)
+        (seen BlockDriver-box machine.new devices.new) }
+    ensures kept { KeepsTerminals by machine.new.processes devices.old devices.new }
 {
-    let regs = s.regs(p);
-    let user = s.table.user(p);
-    let attributes = (regs.x % 256) as u8;
-    match files
-        .disks
-        .set_attr(devices, opened.place, attributes, user, now)
-    {
-        Ok(()) => answer(s, files, p, regs),
-        Err(error) => refuse(files, p, error.number()),
+    let user = machine.processes.table.user(by.p);
+    let asked = NewAttributes {
+        attr: (by.regs.x % 256) as u8,
+        user,
+        date: by.now,
+    };
+    let disks = &mut machine.files.disks;
+    match disks.set_attr(devices, opened.place, asked) {
+        Ok(()) => answer(machine, by, by.regs),
+        Err(error) => refuse(&mut machine.files, by.p, error.number()),
     }
 }

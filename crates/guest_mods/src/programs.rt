@@ -5,7 +5,7 @@ ghost use Rattle.guest_mods.specs.Stress.{IsLoad, record_lengths, program_module
 
 use crate::load::Load;
 use crate::random::{draw, next_random};
-use module_format::module;
+use module_format::{CodeHeader, module};
 use os9_base::call::OutOfMemory;
 use os9_base::calls::{
     F_EXIT, F_FORK, F_WAIT, I_CREATE, I_OPEN, I_READ, I_SEEK, I_SETSTT, I_WRITE,
@@ -180,5 +180,10 @@ fn program(alloc: Global, name: &[u8], code: &[u8]) -> Result<Vec<u8>, OutOfMemo
     ensures module { IfOk result (λ bytes. IsModule bytes.items) }
 {
     let name = parse_name(name).unwrap();
-    module(alloc, &name, PROGRAM, ATTRIBUTES, STORAGE, code)
+    let header = CodeHeader {
+        kind: PROGRAM,
+        attr: ATTRIBUTES,
+        storage: STORAGE,
+    };
+    module(alloc, &name, header, code)
 }

@@ -1,5 +1,6 @@
 pub mod Again
 pub mod Attempt
+pub mod Context
 pub mod Files
 pub mod Sound
 pub mod Terminals

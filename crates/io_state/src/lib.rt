@@ -4,8 +4,9 @@
 
 mod files;
 mod processes;
+pub mod requester;
 pub mod state;
 mod streams;
-mod terminal_calls;
+pub mod terminal_calls;
 mod terminals;
 mod waiting;

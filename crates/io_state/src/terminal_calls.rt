@@ -16,40 +16,46 @@ use io_model::terminal::{Arrival, Progress, ReadKind, Reading, TYPE_AHEAD};
 use os9_base::registers::Pid;
 use os9_outer::terminal::CharDriver;
 
+/// An attempt of a read of a terminal: the terminal, which call reads it, and that call.
+#[derive(Clone, Copy, Debug, PartialEq, Eq)]
+pub struct TerminalAttempt {
+    pub terminal: u8,
+    pub kind: ReadKind,
+    pub call: PendingCall,
+}
+
 impl IoState {
-    /// An attempt of a read of a terminal in this call (Level Two manual, SCF). It asks for the
-    /// bytes of the call, but at most 256, and moves them to the front of `into`. If it waits, the
-    /// call is pending; if the read is over, no call of the process is pending.
+    /// An attempt of a read of a terminal (Level Two manual, SCF). It asks for the bytes of the
+    /// call, but at most 256, and moves them to the front of `into`. If it waits, the call is
+    /// pending; if the read is over, no call of the process is pending.
     pub fn read_terminal(
         &mut self,
         p: Pid,
-        terminal: u8,
-        kind: ReadKind,
-        call: PendingCall,
+        read: TerminalAttempt,
         into: &mut [u8; TYPE_AHEAD],
         devices: &mut Devices,
     ) -> Progress
-        requires may { MayRead self.old p.0 terminal kind call }
-        requires there { terminal < vec_len devices.old.terms }
-        ensures device { ChangesWithDriver CharDriver-box terminal
-            (Reads (read_of p kind (most_of call)) result)
+        requires may { MayRead self.old p.0 read.terminal read.kind read.call }
+        requires there { read.terminal < vec_len devices.old.terms }
+        ensures device { ChangesWithDriver CharDriver-box read.terminal
+            (Reads (read_of p read.kind (most_of read.call)) result)
             self.old.terminals devices.old self.new.terminals devices.new }
-        ensures stored { take (count_of result) into.new
-            ≡ stored_bytes result (read_of p kind (most_of call)) (terminal_at self.old terminal) }
-        ensures few { count_of result ≤ most_of call }
-        ensures io { ChangesInCall terminal p.0
-            (model.pending_after result call) self.old self.new }
+        ensures stored { take (count_of result) into.new ≡ stored_bytes result
+            (read_of p read.kind (most_of read.call)) (terminal_at self.old read.terminal) }
+        ensures few { count_of result ≤ most_of read.call }
+        ensures io { ChangesInCall read.terminal p.0
+            (model.pending_after result read.call) self.old self.new }
         ensures drives { devices.new.drives ≡ devices.old.drives }
         ensures count { vec_len devices.new.terms ≡ vec_len devices.old.terms }
     {
-        let most = call.count.min(TYPE_AHEAD as u16);
+        let most = read.call.count.min(TYPE_AHEAD as u16);
         let request = Reading {
             process: p,
-            kind,
+            kind: read.kind,
             most,
         };
-        let answer = self.terminals.read(terminal, request, into, devices);
-        self.calls[p.0 as usize] = pending_after(answer, call);
+        let answer = self.terminals.read(read.terminal, request, into, devices);
+        self.calls[p.0 as usize] = pending_after(answer, read.call);
         answer
     }
 

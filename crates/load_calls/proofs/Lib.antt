@@ -7,7 +7,7 @@ pub mod FirstLemmas
 pub mod FoundLemmas
 pub mod ReadingLemmas
 pub mod TieLemmas
-pub mod WayLemmas
+pub mod RouteLemmas
 mod AttemptLemmas
 mod GoingOnLemmas
 mod LinkLemmas

@@ -13,7 +13,7 @@ use Rattle.file_rules.specs.ProgramFile.{program_file}
 use Rattle.file_rules.specs.Route.{Found, Route, along, to_device, nowhere, list_of, route_of}
 use Rattle.lock_model.specs.declared.place.FilePlace.{FilePlace}
 use Rattle.file_state.specs.Counted.{calls_of}
-use Rattle.file_routes.specs.Ways.{refuses_by}
+use Rattle.file_routes.specs.Routes.{refuses_by}
 use Rattle.load_calls.specs.Found.{program_size}
 
 -- for this number of bytes of a file; none are read of a refused file
@@ -38,14 +38,14 @@ calls_on_volume user files from names (Some v) =
     + calls_on (walk v.files user true from.number names)
     (λ n. calls_at_end user files (record { drive = from.drive; number = n }) v (v.files n))
 
-abbrev pub way_calls : Asker → Files → Route → ℕ
-way_calls asker files (along from names) =
+abbrev pub route_calls : Asker → Files → Route → ℕ
+route_calls asker files (along from names) =
     calls_on_volume asker.user files from names (volume_at files from.drive)
-way_calls asker files to_device = 0
-way_calls asker files (nowhere number) = 0
+route_calls asker files to_device = 0
+route_calls asker files (nowhere number) = 0
 
 abbrev pub list_calls : Asker → Files → ℕ → Result PathList NameFault → ℕ
-list_calls asker files terms (Ok list) = way_calls asker files (route_of asker files terms true list)
+list_calls asker files terms (Ok list) = route_calls asker files (route_of asker files terms true list)
 list_calls asker files terms (Err fault) = 0
 
 -- for the file of the path list at X, of a call with this refusal, if any

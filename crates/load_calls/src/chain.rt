@@ -6,7 +6,6 @@ ghost use Rattle.load_calls.specs.Entering.{TriesFile};
 ghost use Rattle.file_rules.specs.Program.{chains, parameters_of, starts_first};
 ghost use Rattle.file_rules.specs.ProgramFile.{ProgramFile};
 ghost use Rattle.guest_memory.specs.Tie.{Represents as RepresentsMemory};
-ghost use Rattle.file_state.specs.Attempt.{standing};
 ghost use Rattle.file_state.specs.Tie.{IsSound};
 ghost use Rattle.load_calls.specs.Attempts.{ChainsFrom};
 ghost use Rattle.os9_base.specs.declared.registers.TimePacket.{TimePacket};
@@ -14,6 +13,8 @@ ghost use Rattle.load_calls.specs.Loading.{GoesOn, HasFirst};
 ghost use Rattle.os9_base.specs.declared.limits.TheConstants.{MOST_GROUP_BYTES as MOST};
 ghost use Rattle.proc_model.specs.Memory.{MemoryState};
 ghost use Rattle.proc_rules.specs.Records.{IsLiving};
+ghost use Rattle.io_state.specs.Context.{InCall, KeepsTerminals};
+ghost use Rattle.file_state.specs.Context.{seen};
 ghost use Rattle.file_drives.specs.Drives.{drives_seen};
 ghost use Rattle.proc_state.specs.Tie.{Represents};
 ghost use Rattle.load_calls.specs.Reading.{IsInBuffer};
@@ -25,9 +26,10 @@ use crate::reading::{ProgramRead, read_program};
 use crate::refusal::program_refusal;
 use crate::trial::blocks_of;
 use device_table::devices::Devices;
-use file_state::state::FileState;
+use file_state::machine::Machine;
 use fork_calls::chain::{f_chain as chain_named, start_anew};
 use fork_calls::naming::area_pages;
+use io_state::requester::Requester;
 use os9_base::call::CallEnd;
 use os9_base::errors::E_NEMOD;
 use os9_base::registers::Pid;
@@ -35,6 +37,7 @@ use os9_outer::drive::BlockDriver;
 use proc_model::module::ModuleInfo;
 use proc_state::outcome::call_end;
 use proc_state::state::ProcState;
+
 /// F$Chain: starts another program in this process (System Programmer's Manual, F$Chain). Takes the
 /// type and language of the program in A, the pages of its data area in B, its name or its file's
 /// path list at X, and the size and the address of its parameters in Y and U. The process keeps its
@@ -45,25 +48,24 @@ use proc_state::state::ProcState;
 /// If an entered module is named, those of `chain_named`. Else those of `read_program`, including
 /// those of `program_refusal` if the list was read, and the number of the drive's fault if it
 /// fails; else those of `chain_read`. Nothing has changed then.
-pub fn f_chain(s: &mut ProcState, files: &mut FileState, p: Pid, devices: &mut Devices) -> CallEnd
-    requires lives { IsLiving s.old.table p.0 }
-    requires sound { IsSound files.old (drives_seen BlockDriver-box devices.old) }
-    ensures call { (now : TimePacket) → ChainsFrom now p.0 result (vec_len devices.old.terms)
-        (standing BlockDriver-box s.old files.old devices.old)
-        (standing BlockDriver-box s.new files.new devices.new) }
-    ensures lives { IsLiving s.new.table p.0 }
-    ensures terms_kept { devices.new.terms ≡ devices.old.terms }
-    ensures io { files.new.io ≡ files.old.io }
-    ensures directories { files.new.directories ≡ files.old.directories }
-    ensures records { files.new.records ≡ files.old.records }
+pub fn f_chain(machine: &mut Machine, devices: &mut Devices, by: Requester) -> CallEnd
+    requires calls { InCall by machine.old.processes }
+    requires sound { IsSound machine.old.files (drives_seen BlockDriver-box devices.old) }
+    ensures call { (now : TimePacket) → ChainsFrom now by.p.0 result (vec_len devices.old.terms)
+        (seen BlockDriver-box machine.old devices.old)
+        (seen BlockDriver-box machine.new devices.new) }
+    ensures kept { KeepsTerminals by machine.new.processes devices.old devices.new }
+    ensures io { machine.new.files.io ≡ machine.old.files.io }
+    ensures directories { machine.new.files.directories ≡ machine.old.files.directories }
+    ensures records { machine.new.files.records ≡ machine.old.files.records }
 {
-    if names_program(s, p) {
-        return chain_named(s, p);
+    if names_program(&mut machine.processes, by.p) {
+        return chain_named(&mut machine.processes, by.p);
     }
-    let refusal = program_refusal(s, p);
-    match read_program(s, files, devices, p, refusal) {
+    let refusal = program_refusal(&machine.processes, by.p);
+    match read_program(machine, devices, by, refusal) {
         Err(number) => CallEnd::Error(number),
-        Ok(read) => call_end(chain_read(s, p, read)),
+        Ok(read) => call_end(chain_read(&mut machine.processes, by.p, read)),
     }
 }
 

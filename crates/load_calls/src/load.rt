@@ -6,7 +6,6 @@ ghost use Rattle.load_calls.specs.Entering.{TriesFile};
 ghost use Rattle.file_rules.specs.Load.{links_first};
 ghost use Rattle.file_rules.specs.ProgramFile.{ProgramFile};
 ghost use Rattle.guest_memory.specs.Tie.{Represents as RepresentsMemory};
-ghost use Rattle.file_state.specs.Attempt.{standing};
 ghost use Rattle.file_state.specs.Tie.{IsSound};
 ghost use Rattle.load_calls.specs.Attempts.{LoadsFrom};
 ghost use Rattle.os9_base.specs.declared.registers.TimePacket.{TimePacket};
@@ -15,6 +14,8 @@ ghost use Rattle.load_calls.specs.Loading.{GoesOn, HasFirst};
 ghost use Rattle.os9_base.specs.declared.limits.TheConstants.{MOST_GROUP_BYTES as MOST};
 ghost use Rattle.proc_model.specs.Memory.{MemoryState};
 ghost use Rattle.proc_rules.specs.Records.{IsLiving};
+ghost use Rattle.io_state.specs.Context.{InCall, KeepsTerminals};
+ghost use Rattle.file_state.specs.Context.{seen};
 ghost use Rattle.file_drives.specs.Drives.{drives_seen};
 ghost use Rattle.proc_state.specs.Tie.{Represents};
 ghost use Rattle.load_calls.specs.Reading.{IsInBuffer};
@@ -23,7 +24,8 @@ use crate::front::{enter_front, try_front};
 use crate::reading::{ProgramRead, read_program};
 use crate::trial::blocks_of;
 use device_table::devices::Devices;
-use file_state::state::FileState;
+use file_state::machine::Machine;
+use io_state::requester::Requester;
 use os9_base::call::CallEnd;
 use os9_base::errors::E_MEMFUL;
 use os9_base::registers::Pid;
@@ -44,21 +46,20 @@ use proc_state::state::ProcState;
 /// Those of `read_program`, and the number of the drive's fault if it fails; else those of
 /// `try_front`; else E$MemFul exactly if the map has too few slots left or no links are left.
 /// Nothing has changed then.
-pub fn f_load(s: &mut ProcState, files: &mut FileState, p: Pid, devices: &mut Devices) -> CallEnd
-    requires lives { IsLiving s.old.table p.0 }
-    requires sound { IsSound files.old (drives_seen BlockDriver-box devices.old) }
-    ensures call { (now : TimePacket) → LoadsFrom now p.0 result (vec_len devices.old.terms)
-        (standing BlockDriver-box s.old files.old devices.old)
-        (standing BlockDriver-box s.new files.new devices.new) }
-    ensures lives { IsLiving s.new.table p.0 }
-    ensures terms_kept { devices.new.terms ≡ devices.old.terms }
-    ensures io { files.new.io ≡ files.old.io }
-    ensures directories { files.new.directories ≡ files.old.directories }
-    ensures records { files.new.records ≡ files.old.records }
+pub fn f_load(machine: &mut Machine, devices: &mut Devices, by: Requester) -> CallEnd
+    requires calls { InCall by machine.old.processes }
+    requires sound { IsSound machine.old.files (drives_seen BlockDriver-box devices.old) }
+    ensures call { (now : TimePacket) → LoadsFrom now by.p.0 result (vec_len devices.old.terms)
+        (seen BlockDriver-box machine.old devices.old)
+        (seen BlockDriver-box machine.new devices.new) }
+    ensures kept { KeepsTerminals by machine.new.processes devices.old devices.new }
+    ensures io { machine.new.files.io ≡ machine.old.files.io }
+    ensures directories { machine.new.files.directories ≡ machine.old.files.directories }
+    ensures records { machine.new.files.records ≡ machine.old.files.records }
 {
-    match read_program(s, files, devices, p, None) {
+    match read_program(machine, devices, by, None) {
         Err(number) => CallEnd::Error(number),
-        Ok(read) => call_end(load_read(s, p, read)),
+        Ok(read) => call_end(load_read(&mut machine.processes, by.p, read)),
     }
 }
 

@@ -1,38 +1,33 @@
 //! The file of modules that a call's path list names.
 
 ghost use Rattle.std.specs.Prelude.{◌≡◌, ◌≤◌, IfOk, vec_len};
+ghost use Rattle.io_state.specs.Context.{InCall, KeepsTerminals};
+ghost use Rattle.file_state.specs.Context.{seen};
 ghost use Rattle.file_drives.specs.Drives.{drives_seen};
 ghost use Rattle.file_drives.specs.Mounted.{HasFileAt};
 ghost use Rattle.file_rules.specs.Files.{Files};
 ghost use Rattle.file_rules.specs.ProgramFile.{program_file};
 ghost use Rattle.file_rules.specs.Route.{Found};
-ghost use Rattle.file_state.specs.Attempt.{standing};
 ghost use Rattle.file_state.specs.Tie.{IsSound};
 ghost use Rattle.file_routes.specs.Walks.{SomeFrom};
-ghost use Rattle.file_routes.specs.Ways.{refuses_by};
+ghost use Rattle.file_routes.specs.Routes.{refuses_by};
 ghost use Rattle.guest_memory.specs.Tie.{cells_of};
 ghost use Rattle.os9_base.specs.declared.limits.TheConstants.{MOST_GROUP_BYTES as MOST};
-ghost use Rattle.proc_rules.specs.Records.{IsLiving};
 ghost use Rattle.proc_state.specs.Tie.{IsSame};
-ghost use Rattle.load_calls.specs.Calls.{found_calls, program_calls, size_calls};
-ghost use Rattle.load_calls.specs.Found as model;
+ghost use Rattle.load_calls.specs.Calls.{found_calls, program_calls};
 ghost use Rattle.load_calls.specs.Found.{program_there};
 ghost use Rattle.load_calls.specs.Reading.{HasFound, ReadsAlong, ReadsBetween, ReadsFrom, read_by};
-ghost use Rattle.rbf_access.specs.Reading.{IsFdOf};
 
 use crate::found::{load_whole, program_size};
 use device_table::devices::Devices;
 use file_routes::calls::{call_route, call_walk};
-use file_routes::walk::Walker;
-use file_routes::way::{Purpose, Query, Way};
-use file_state::state::FileState;
-use lock_model::place::FilePlace;
+use file_routes::route::{Course, Located, Purpose, Query};
+use file_routes::walk::{Start, Walker};
+use file_state::machine::Machine;
+use io_state::requester::Requester;
 use os9_base::errors::E_FNA;
-use os9_base::registers::Pid;
 use os9_outer::drive::BlockDriver;
-use proc_state::state::ProcState;
 use rbf_access::FileFault;
-use rbf_sector::Fd;
 
 /// A file of modules that was read: it is at the front of the buffer of the processes.
 #[derive(Clone, Copy, Debug, PartialEq, Eq)]
@@ -55,138 +50,109 @@ pub struct ProgramRead {
 /// exactly if the list names a terminal or a pipe; then those of the walk, E$FNA and E$PNNF; then
 /// E$FNA, E$Share and E$MemFul as for `program_size`. The number of the fault, if the drive fails.
 pub fn read_program(
-    s: &mut ProcState,
-    files: &mut FileState,
+    machine: &mut Machine,
     devices: &mut Devices,
-    p: Pid,
+    by: Requester,
     refusal: Option<u8>,
 ) -> Result<ProgramRead, u8>
-    requires lives { IsLiving s.old.table p.0 }
-    requires sound { IsSound files.old (drives_seen BlockDriver-box devices.old) }
-    ensures call { ReadsFrom p.0
+    requires calls { InCall by machine.old.processes }
+    requires sound { IsSound machine.old.files (drives_seen BlockDriver-box devices.old) }
+    ensures call { ReadsFrom by.p.0
         (λ asker was. program_file asker was (vec_len devices.old.terms) (refuses_by refusal))
         (λ asker was. program_calls asker was (vec_len devices.old.terms) refusal) result
-        (standing BlockDriver-box s.old files.old devices.old)
-        (standing BlockDriver-box s.new files.new devices.new) }
+        (seen BlockDriver-box machine.old devices.old)
+        (seen BlockDriver-box machine.new devices.new) }
     ensures short { IfOk result (λ read. read.size ≤ MOST) }
-    ensures same { IsSame s.old s.new }
-    ensures terms_kept { devices.new.terms ≡ devices.old.terms }
+    ensures same { IsSame machine.old.processes machine.new.processes }
+    ensures kept { KeepsTerminals by machine.new.processes devices.old devices.new }
 {
     let query = Query {
-        process: p,
-        at: s.regs(p).x,
-        directory: files.directory(p, true),
+        process: by.p,
+        at: by.regs.x,
+        directory: machine.files.directory(by.p, true),
         purpose: Purpose::Existing,
         refusal,
     };
-    match call_route(s, &files.disks, devices, query) {
+    let processes = &mut machine.processes;
+    match call_route(processes, &machine.files.disks, devices, query) {
         Err(number) => Err(number),
-        Ok(route) => match route.way {
-            Way::Device => Err(E_FNA),
-            Way::Along { from, first } => {
-                read_along(s, files, devices, p, from, first, route.next)
-            }
+        Ok(route) => match route.course {
+            Course::Device => Err(E_FNA),
+            Course::Along(start) => read_along(machine, devices, by, start, route.next),
         },
     }
 }
 
-/// Reads the file reached from a directory along the names of a path list that ends before `next`.
+/// Reads the file reached from a start along the names of a path list that ends before `next`.
 ///
 /// # Errors
 ///
 /// As `read_program` from the walk on.
 fn read_along(
-    s: &mut ProcState,
-    files: &mut FileState,
+    machine: &mut Machine,
     devices: &mut Devices,
-    p: Pid,
-    from: FilePlace,
-    first: Option<u16>,
+    by: Requester,
+    start: Start,
     next: u32,
 ) -> Result<ProgramRead, u8>
-    requires lives { IsLiving s.old.table p.0 }
-    requires names { SomeFrom (cells_of s.old.memory p.0) first }
-    requires file { HasFileAt files.old.disks (drives_seen BlockDriver-box devices.old) from }
-    ensures along { ReadsAlong p.0 from first next result
-        (standing BlockDriver-box s.old files.old devices.old)
-        (standing BlockDriver-box s.new files.new devices.new) }
+    requires calls { InCall by machine.old.processes }
+    requires names { SomeFrom (cells_of machine.old.processes.memory by.p.0) start.first }
+    requires file { HasFileAt machine.old.files.disks
+        (drives_seen BlockDriver-box devices.old) start.directory }
+    ensures along { ReadsAlong by.p.0 start.directory start.first next result
+        (seen BlockDriver-box machine.old devices.old)
+        (seen BlockDriver-box machine.new devices.new) }
     ensures short { IfOk result (λ read. read.size ≤ MOST) }
-    ensures same { IsSame s.old s.new }
-    ensures terms_kept { devices.new.terms ≡ devices.old.terms }
+    ensures same { IsSame machine.old.processes machine.new.processes }
+    ensures kept { KeepsTerminals by machine.new.processes devices.old devices.new }
 {
-    let user = s.table.user(p);
+    let user = machine.processes.table.user(by.p);
     let walker = Walker {
-        process: p,
+        process: by.p,
         user,
         execute: true,
     };
-    match call_walk(s, &mut files.disks, devices, walker, from, first) {
+    let processes = &mut machine.processes;
+    match call_walk(processes, &mut machine.files.disks, devices, walker, start) {
         Err(error) => Err(error.number()),
-        Ok(place) => read_there(s, files, devices, user, place, next),
+        Ok(place) => read_there(machine, devices, user, Located { place, next }),
     }
 }
 
-/// Reads the file at a place, by a path list that ends before `next`.
+/// Reads the file that a path list names.
 ///
 /// # Errors
 ///
 /// As `read_program` after the walk.
 fn read_there(
-    s: &mut ProcState,
-    files: &mut FileState,
+    machine: &mut Machine,
     devices: &mut Devices,
     user: u16,
-    place: FilePlace,
-    next: u32,
+    located: Located,
 ) -> Result<ProgramRead, u8>
-    requires file { HasFileAt files.old.disks (drives_seen BlockDriver-box devices.old) place }
-    ensures there { (was : Files) (found : Found) → HasFound place was found
-        (standing BlockDriver-box s.old files.old devices.old)
-        → ReadsBetween (program_there user was next found) (found_calls user was found) was result
-        (standing BlockDriver-box s.old files.old devices.old)
-        (standing BlockDriver-box s.new files.new devices.new) }
+    requires file { HasFileAt machine.old.files.disks
+        (drives_seen BlockDriver-box devices.old) located.place }
+    ensures there { (was : Files) (found : Found) → HasFound located.place was found
+        (seen BlockDriver-box machine.old devices.old)
+        → ReadsBetween (program_there user was located.next found) (found_calls user was found) was
+        result (seen BlockDriver-box machine.old devices.old)
+        (seen BlockDriver-box machine.new devices.new) }
     ensures short { IfOk result (λ read. read.size ≤ MOST) }
-    ensures same { IsSame s.old s.new }
+    ensures same { IsSame machine.old.processes machine.new.processes }
     ensures terms_kept { devices.new.terms ≡ devices.old.terms }
 {
-    match files.disks.fd(devices, place) {
-        Err(fault) => Err(fault.number()),
-        Ok(fd) => read_found(s, files, devices, user, place, &fd, next),
-    }
-}
-
-/// Reads the file at a place that has this descriptor, by a path list that ends before `next`.
-///
-/// # Errors
-///
-/// Those of `program_size`, or the number of the drive's fault.
-fn read_found(
-    s: &mut ProcState,
-    files: &mut FileState,
-    devices: &mut Devices,
-    user: u16,
-    place: FilePlace,
-    fd: &Fd,
-    next: u32,
-) -> Result<ProgramRead, u8>
-    requires file { HasFileAt files.old.disks (drives_seen BlockDriver-box devices.old) place }
-    ensures found { (was : Files) (found : Found) → HasFound place was found
-        (standing BlockDriver-box s.old files.old devices.old)
-        → IsFdOf found.file fd.now → ReadsBetween (program_there user was next found)
-        (size_calls found.file (model.program_size user was found)) was result
-        (standing BlockDriver-box s.old files.old devices.old)
-        (standing BlockDriver-box s.new files.new devices.new) }
-    ensures short { IfOk result (λ read. read.size ≤ MOST) }
-    ensures same { IsSame s.old s.new }
-    ensures terms_kept { devices.new.terms ≡ devices.old.terms }
-{
-    match program_size(files, place, fd, user) {
+    let fd = match machine.files.disks.fd(devices, located.place) {
+        Err(fault) => return Err(fault.number()),
+        Ok(fd) => fd,
+    };
+    match program_size(&machine.files, located.place, &fd, user) {
         Err(number) => Err(number),
-        Ok(size) => read_whole(
-            load_whole(s, &mut files.disks, devices, place, size),
-            size,
-            next,
-        ),
+        Ok(size) => {
+            let processes = &mut machine.processes;
+            let disks = &mut machine.files.disks;
+            let loaded = load_whole(processes, disks, devices, located.place, size);
+            read_whole(loaded, size, located.next)
+        }
     }
 }
 

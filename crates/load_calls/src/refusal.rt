@@ -6,7 +6,7 @@ ghost use Rattle.proc_rules.specs.Program as model;
 ghost use Rattle.file_rules.specs.Program.{tests_program};
 ghost use Rattle.file_rules.specs.ProgramFile.{ProgramFile};
 ghost use Rattle.file_rules.specs.Step.{Step};
-ghost use Rattle.file_routes.specs.Ways.{refuses_by};
+ghost use Rattle.file_routes.specs.Routes.{refuses_by};
 ghost use Rattle.proc_rules.specs.Records.{IsLiving};
 ghost use Rattle.proc_state.specs.Tie.{Represents};
 

@@ -5,7 +5,7 @@
 pub use crc::{crc_step, crc24};
 pub use file::next_module;
 pub use header::read_module;
-pub use maker::{Header, module, module_with};
+pub use maker::{CodeHeader, Header, module, module_with};
 pub use proc_model::module::{ModuleFault, ModuleInfo, ModuleStep};
 
 mod crc;

@@ -28,9 +28,17 @@ pub struct Header {
     pub storage: u16,
 }
 
-/// Makes a module (System Programmer's Manual, "Memory module structure") from its name, its type
-/// (high half) and language (low half), its attributes (high half) and revision (low half), the
-/// size of its data memory in bytes, and its code.
+/// What the header of a module that begins at its code says in addition to the name and the size:
+/// the fields of a [`Header`] without the entry.
+#[derive(Clone, Copy)]
+pub struct CodeHeader {
+    pub kind: u8,
+    pub attr: u8,
+    pub storage: u16,
+}
+
+/// Makes a module (System Programmer's Manual, "Memory module structure") from its name, the fields
+/// of its header and its code.
 ///
 /// The name follows the header and the code follows the name, without gaps; a program begins at the
 /// start of its code. A module of a type other than 1 has no size of data memory.
@@ -41,25 +49,22 @@ pub struct Header {
 pub fn module(
     alloc: Global,
     name: &Name,
-    kind: u8,
-    attr: u8,
-    storage: u16,
+    header: CodeHeader,
     code: &[u8],
 ) -> Result<Vec<u8>, OutOfMemory>
     requires filled { 0 < length code.now }
-    requires short { guest_size name.now kind code.now ≤ MOST_GROUP_BYTES }
+    requires short { guest_size name.now header.kind code.now ≤ MOST_GROUP_BYTES }
     ensures module { IfOk result (λ bytes. IsModule bytes.items) }
     ensures info { IfOk result (λ bytes. info_at 0 bytes.items
-        ≡ guest_info name.now kind attr storage code.now) }
+        ≡ guest_info name.now header.kind header.attr header.storage code.now) }
     ensures bytes { IfOk result (λ bytes. bytes.items
-        ≡ guest_module name.now kind attr storage code.now) }
+        ≡ guest_module name.now header.kind header.attr header.storage code.now) }
 {
-    let entry = u16::from(header_length(kind)) + u16::from(name.len());
     let header = Header {
-        kind,
-        attr,
-        entry,
-        storage,
+        kind: header.kind,
+        attr: header.attr,
+        entry: u16::from(header_length(header.kind)) + u16::from(name.len()),
+        storage: header.storage,
     };
     module_with(alloc, name, header, code)
 }

@@ -22,7 +22,7 @@ use Rattle.file_rules.specs.Open.{is_for_execution, tests_mode}
 use Rattle.file_rules.specs.Step.{FileStep, Step, refused, comes, leaves, reaches, refuses, with_drives_after}
 use Rattle.file_rules.specs.Route.{Route, along, to_device, nowhere, Found, list_of, reads_list, walks, route_of}
 use Rattle.lock_model.specs.declared.place.FilePlace.{FilePlace}
-use Rattle.file_routes.specs.Ways.{mode_refusal, next_step, refuses_by}
+use Rattle.file_routes.specs.Routes.{mode_refusal, next_step, refuses_by}
 use Rattle.name_calls.proofs.ListCallLemmas.{located-seen, located-within}
 use Rattle.name_calls.proofs.LookLemmas.{walks-on}
 use Rattle.name_calls.specs.ListCalls.{i_chgdir_calls, located_calls}
@@ -50,14 +50,14 @@ module _ (asker : Asker) (files : Files) where
     with-found : (found : Found) → goes_to asker files list found ≡ next_step (allows_to_go asker (found_by list found)) (goes_there asker files)
     with-found found = tested list found (not (may_go_to found.file asker.user asker.caller.regs.a))
 
-    with-way : (route : Route) → goes_on_route asker files list route ≡ both (locates_on asker files (is_for_execution asker.caller.regs.a) list route)
-    with-way (along from names) =
+    with-route : (route : Route) → goes_on_route asker files list route ≡ both (locates_on asker files (is_for_execution asker.caller.regs.a) list route)
+    with-route (along from names) =
         walks-on asker files (is_for_execution asker.caller.regs.a) (goes_to asker files list)
         (λ found. comes (found_by list found)) (λ it. next_step (allows_to_go asker it) (goes_there asker files))
         with-found from names
         ∙ sym (on-twice (walks asker files (is_for_execution asker.caller.regs.a) from names (λ found. comes (found_by list found))) (allows_to_go asker) (goes_there asker files))
-    with-way to_device = refl
-    with-way (nowhere number) = refl
+    with-route to_device = refl
+    with-route (nowhere number) = refl
 
   pub chgdir-parts : (terms : ℕ) → i_chgdir asker files terms ≡ next_step (looks_for_directory asker files terms) (goes_there asker files)
   chgdir-parts terms = by (list_of asker) (is_mode asker.caller.regs.a)
@@ -68,7 +68,7 @@ module _ (asker : Asker) (files : Files) where
           (λ list. locates_on asker files (is_for_execution asker.caller.regs.a) list
           (route_of asker files terms (is_for_execution asker.caller.regs.a) list))) (allows_to_go asker))
           (goes_there asker files)
-      by (Ok list) true = with-way list (route_of asker files terms (is_for_execution asker.caller.regs.a) list)
+      by (Ok list) true = with-route list (route_of asker files terms (is_for_execution asker.caller.regs.a) list)
       by (Ok list) false = refl
       by (Err Unreadable) true = refl
       by (Err Unreadable) false = refl

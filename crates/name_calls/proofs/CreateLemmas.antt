@@ -12,6 +12,7 @@ use Rattle.io_model.specs.Path.{new_number}
 use Rattle.io_rules.specs.Modes.{can_write}
 use Rattle.io_rules.specs.PathList.{PathList, ends_in_dots}
 use Rattle.proc_state.specs.declared.state.ProcState.{ProcState}
+use Rattle.device_paths.specs.Standing.{NamesFrom, NamesStand}
 use Rattle.rbf_model.specs.Volume.{DiskVolume}
 use Rattle.rbf_model.specs.Walk.{look_up}
 use Rattle.rbf_change.specs.Calls.{free_total}
@@ -31,11 +32,11 @@ use Rattle.file_drives.specs.Changed.{has_no_segment, is_full_for}
 use Rattle.file_drives.specs.Drives.{DriveView}
 use Rattle.file_state.specs.Ends.{Ends}
 use Rattle.file_state.specs.declared.state.FileState.{FileState}
-use Rattle.file_routes.proofs.WayLemmas.{leads-on, mode-tested}
-use Rattle.file_routes.specs.Ways.{IsRoute, Led, led_by, leads, mode_refusal, next_step, refuses_by, way_for, way_to}
-use Rattle.file_routes.specs.declared.way.Purpose.TheVariants.{New}
-use Rattle.file_routes.specs.declared.way.Route.{Route}
-use Rattle.file_routes.specs.declared.way.Way.{Way as Routed}
+use Rattle.file_routes.proofs.RouteLemmas.{leads-on, mode-tested}
+use Rattle.file_routes.specs.Routes.{IsRoute, Led, led_by, leads, mode_refusal, next_step, refuses_by, route_for, route_on}
+use Rattle.file_routes.specs.declared.route.Purpose.TheVariants.{New}
+use Rattle.file_routes.specs.declared.route.Route.{Route}
+use Rattle.file_routes.specs.declared.route.Course.{Course}
 use Rattle.name_calls.proofs.OpenLemmas.{deed-walks}
 use Rattle.file_routes.specs.Calls.{walk_and}
 use Rattle.name_calls.specs.OpenCalls.{creating_calls, new_file_calls}
@@ -205,9 +206,13 @@ makes-full asker files list name dir none =
 
 -- ---- the list
 
+-- names with a first one stand from its address on
+pub names-some : (cells : Cells) (first : Option ℕ) (at : ℕ) (names : List (List ℕ)) → first ≡ Some at → NamesFrom cells first names → NamesStand cells at names
+names-some cells first at names some from = subst (λ (first : Option ℕ). NamesFrom cells first names) some from
+
 module _ (asker : Asker) (files : Files) (terms : ℕ) (refusal : Option ℕ) (execute : Bool) where
   abbrev leads_new : Step Led
-  leads_new = leads asker refusal (way_for New asker files terms execute)
+  leads_new = leads asker refusal (route_for New asker files terms execute)
 
   -- nothing is made as a directory itself or the one above it
   pub new-proper : (list : PathList) (led : Led) → list_of asker ≡ Ok list → leads_new ≡ comes led → ends_in_dots list ≡ false
@@ -223,7 +228,7 @@ module _ (asker : Asker) (files : Files) (terms : ℕ) (refusal : Option ℕ) (e
 
   module _ (refusal_is : refusal ≡ mode_refusal (can_write asker.caller.regs.a)) (execute_is : execute ≡ is_for_execution asker.caller.regs.a) where
     abbrev creates_led : Step Led → FileStep
-    creates_led step = next_step step (λ led. creates_on_route asker files terms led.list led.way)
+    creates_led step = next_step step (λ led. creates_on_route asker files terms led.list led.route)
 
     by-leads : i_create asker files terms ≡ creates_led leads_new
     by-leads =
@@ -233,18 +238,18 @@ module _ (asker : Asker) (files : Files) (terms : ℕ) (refusal : Option ℕ) (e
         ∙ leads-on asker (mode_refusal (can_write asker.caller.regs.a)) (route_to_new asker files terms (is_for_execution asker.caller.regs.a)) (creates_on_route asker files terms)
         (λ list number. refl)
         ∙ ap (λ (refusal : Option ℕ). creates_led (leads asker refusal (route_to_new asker files terms (is_for_execution asker.caller.regs.a)))) (sym refusal_is)
-        ∙ ap (λ (execute : Bool). creates_led (leads asker refusal (way_for New asker files terms execute))) (sym execute_is)
+        ∙ ap (λ (execute : Bool). creates_led (leads asker refusal (route_for New asker files terms execute))) (sym execute_is)
 
     -- it is refused
     pub creates-refused : (number : ℕ) → leads_new ≡ refused number → i_create asker files terms ≡ refused number
     creates-refused number is = by-leads ∙ ap creates_led is
 
-    -- or goes on along the way that was found
-    pub creates-routed : (cells : Cells) (route : Route) (way : Routed) (it : IsRoute cells asker leads_new route)
-        → route.way ≡ way → i_create asker files terms ≡ creates_on_route asker files terms it.list
-        (way_to (Ok way) it.list.names)
-    creates-routed cells route way it is =
-        by-leads ∙ ap creates_led it.comes_to ∙ ap (creates_on_route asker files terms it.list) (it.route_is.way_is ∙ ap (λ (way : Routed). way_to (Ok way) it.list.names) is)
+    -- or goes on along the route that was found
+    pub creates-routed : (cells : Cells) (route : Route) (course : Course) (it : IsRoute cells asker leads_new route)
+        → route.course ≡ course → i_create asker files terms ≡ creates_on_route asker files terms it.list
+        (route_on (Ok course) it.list.names)
+    creates-routed cells route course it is =
+        by-leads ∙ ap creates_led it.comes_to ∙ ap (creates_on_route asker files terms it.list) (it.route_is.course_is ∙ ap (λ (course : Course). route_on (Ok course) it.list.names) is)
 
 -- ---- the names
 

@@ -11,21 +11,21 @@ use Rattle.file_rules.specs.Files.{Asker, Files}
 use Rattle.file_rules.specs.Open.{is_for_execution, tests_mode}
 use Rattle.file_rules.specs.Step.{comes, refused}
 use Rattle.file_rules.specs.Route.{Route, along, to_device, nowhere, before_last, last_of, list_of, reads_list, route_of}
-use Rattle.file_routes.specs.Ways.{mode_refusal, next_step, refuses_by}
-use Rattle.file_routes.specs.declared.way.Purpose.TheVariants.{Existing}
+use Rattle.file_routes.specs.Routes.{mode_refusal, next_step, refuses_by}
+use Rattle.file_routes.specs.declared.route.Purpose.TheVariants.{Existing}
 use Rattle.name_calls.proofs.LookLemmas.{walks-on}
 use Rattle.name_calls.specs.Delete.{deletes_it}
 use Rattle.name_calls.specs.Naming.{named_by, names_last, names_on}
 
 module _ (asker : Asker) (files : Files) (execute : Bool) where
-  with-way : (list : PathList) (route : Route) (last : Option (List ℕ)) → deletes_named asker files execute list route last
+  with-route : (list : PathList) (route : Route) (last : Option (List ℕ)) → deletes_named asker files execute list route last
       ≡ next_step (names_on Existing asker files execute list route last) (deletes_it asker files execute)
-  with-way list (along from names) None = walks-on asker files execute (λ root. refused E_FNA) (λ root. refused E_FNA) (deletes_it asker files execute) (λ found. refl) from names
-  with-way list (along from names) (Some name) = walks-on asker files execute (deletes_in asker files execute list
+  with-route list (along from names) None = walks-on asker files execute (λ root. refused E_FNA) (λ root. refused E_FNA) (deletes_it asker files execute) (λ found. refl) from names
+  with-route list (along from names) (Some name) = walks-on asker files execute (deletes_in asker files execute list
       name) (λ directory. comes (named_by list name directory)) (deletes_it asker files execute) (λ found. refl) from
       (before_last names)
-  with-way list to_device last = refl
-  with-way list (nowhere number) last = refl
+  with-route list to_device last = refl
+  with-route list (nowhere number) last = refl
 
   pub deletes-parts : (terms : ℕ) (refusal : Option ℕ) → deletes_by asker files terms execute (refuses_by refusal) ≡
       next_step (names_last Existing execute refusal asker files terms) (deletes_it asker files execute)
@@ -36,7 +36,7 @@ module _ (asker : Asker) (files : Files) (execute : Bool) where
           (last_of list.names)) ≡ next_step (reads_list read (refuses_by refusal) (λ list. names_on Existing asker
           files execute list (route_of asker files terms execute list) (last_of list.names)))
           (deletes_it asker files execute)
-      by (Ok list) None = with-way list (route_of asker files terms execute list) (last_of list.names)
+      by (Ok list) None = with-route list (route_of asker files terms execute list) (last_of list.names)
       by (Ok list) (Some number) = refl
       by (Err Unreadable) refusal = refl
       by (Err NoName) None = refl

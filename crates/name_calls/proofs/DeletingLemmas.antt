@@ -35,8 +35,8 @@ use Rattle.file_state.specs.Counted.{CalledAtMost}
 use Rattle.file_state.specs.Reached.{HasChanged, HasRead}
 use Rattle.file_state.specs.Tie.{StandsFor}
 use Rattle.file_state.specs.declared.state.FileState.{FileState}
-use Rattle.file_routes.specs.Ways.{next_step}
-use Rattle.file_routes.specs.declared.way.Purpose.TheVariants.{Existing}
+use Rattle.file_routes.specs.Routes.{next_step}
+use Rattle.file_routes.specs.declared.route.Purpose.TheVariants.{Existing}
 use Rattle.name_calls.proofs.AgainLemmas as again
 use Rattle.name_calls.proofs.LookLemmas.{found-calls, found-read}
 use Rattle.name_calls.proofs.TryLemmas.{refuses-quiet, tries-broken, tries-broken-change, tries-changed, tries-refused}

@@ -17,14 +17,14 @@ use Rattle.file_state.proofs.CountLemmas.{called-more, called-then}
 use Rattle.file_state.specs.Counted.{CalledAtMost, calls_of}
 use Rattle.file_state.specs.Reached.{HasRead}
 use Rattle.file_state.specs.declared.state.FileState.{FileState}
-use Rattle.file_routes.specs.Ways.{next_step}
+use Rattle.file_routes.specs.Routes.{next_step}
 use Rattle.name_calls.proofs.AgainLemmas as again
 use Rattle.name_calls.proofs.ListCallLemmas.{calls-more, calls-next, calls-reached}
 use Rattle.name_calls.proofs.LookLemmas.{answer-on, answer-refused, drive-on, found-calls, found-read, reaches-next}
 use Rattle.name_calls.specs.ChgDir.{allows_to_go}
 use Rattle.name_calls.specs.Locating.{FoundBy, IsLocated, Locates}
 use Rattle.name_calls.specs.Looks.{AnswersBy, HasFound, Looks, answer_of}
-use Rattle.name_calls.specs.declared.locating.Located.{Located}
+use Rattle.file_routes.specs.declared.route.Located.{Located}
 
 -- what was not located
 pub unfound : (look : Step FoundBy) (next : FoundBy → Step FoundBy) (few most number : ℕ) (files : Files)

@@ -25,11 +25,11 @@ use Rattle.file_drives.specs.Calls as drives
 use Rattle.file_drives.specs.Drives.{DriveView}
 use Rattle.file_state.proofs.CountLemmas.{called-more, called-none}
 use Rattle.file_state.specs.Counted.{CalledAtMost, calls_of}
-use Rattle.file_routes.specs.Ways.{next_step, refuses_by, way_for}
-use Rattle.file_routes.specs.declared.way.Purpose.{Purpose}
-use Rattle.file_routes.specs.declared.way.Purpose.TheVariants.{Existing, New}
+use Rattle.file_routes.specs.Routes.{next_step, refuses_by, route_for}
+use Rattle.file_routes.specs.declared.route.Purpose.{Purpose}
+use Rattle.file_routes.specs.declared.route.Purpose.TheVariants.{Existing, New}
 use Rattle.file_routes.specs.Calls.{listed_calls, walk_and}
-use Rattle.name_calls.specs.ListCalls.{last_calls, located_calls, named_calls, way_calls}
+use Rattle.name_calls.specs.ListCalls.{last_calls, located_calls, named_calls, route_calls}
 use Rattle.name_calls.specs.Locating.{FoundBy, found_by, locates, locates_on}
 use Rattle.name_calls.specs.Looks.{answer_of}
 use Rattle.name_calls.specs.Naming.{NamedBy, named_by, names_last, names_on}
@@ -117,32 +117,32 @@ module _ {A : Type 0} (asker : Asker) (files : Files) (execute : Bool) (from : F
 -- ---- to a file
 
 module _ (asker : Asker) (files : Files) (terms : ℕ) (execute : Bool) (most : DiskVolume → DiskFile → ℕ) where
-  way-seen : (route : Route) → way_calls asker files execute (λ v file. 0) route ≤ way_calls asker files execute most route
-  way-seen (along from names) = walk-seen asker.user execute from.number names most (volume_at files from.drive)
-  way-seen to_device = omega arith
-  way-seen (nowhere number) = omega arith
+  route-seen : (route : Route) → route_calls asker files execute (λ v file. 0) route ≤ route_calls asker files execute most route
+  route-seen (along from names) = walk-seen asker.user execute from.number names most (volume_at files from.drive)
+  route-seen to_device = omega arith
+  route-seen (nowhere number) = omega arith
 
   pub located-seen : located_calls execute (λ v file. 0) asker files terms ≤ located_calls execute most asker files terms
   located-seen = by (list_of asker)
     where
-      by : (read : Result PathList NameFault) → listed_calls read (λ list. way_calls asker files execute (λ v file. 0)
-          (route_of asker files terms execute list)) ≤ listed_calls read (λ list. way_calls asker files execute most
+      by : (read : Result PathList NameFault) → listed_calls read (λ list. route_calls asker files execute (λ v file. 0)
+          (route_of asker files terms execute list)) ≤ listed_calls read (λ list. route_calls asker files execute most
           (route_of asker files terms execute list))
-      by (Ok list) = way-seen (route_of asker files terms execute list)
+      by (Ok list) = route-seen (route_of asker files terms execute list)
       by (Err fault) = omega arith
 
   module _ (it : FoundBy) where
     abbrev more : ℕ
     more = most it.found.volume it.found.file
 
-    way-within : (list : PathList) (route : Route) → answer_of (locates_on asker files execute list route) ≡ Ok it
-        → way_calls asker files execute (λ v file. 0) route + more ≤ way_calls asker files execute most route
-    way-within list (along from names) is =
+    route-within : (list : PathList) (route : Route) → answer_of (locates_on asker files execute list route) ≡ Ok it
+        → route_calls asker files execute (λ v file. 0) route + more ≤ route_calls asker files execute most route
+    route-within list (along from names) is =
         walk-within asker files execute from names (λ found. comes (found_by list found)) it more most
         (λ found is. let same : found_by list found ≡ it = cc in subst (λ (it : FoundBy). most it.found.volume it.found.file ≤ most found.volume found.file) same (omega arith))
         is
-    way-within list to_device is = cc
-    way-within list (nowhere number) is = cc
+    route-within list to_device is = cc
+    route-within list (nowhere number) is = cc
 
     pub located-within : (refusal : Option ℕ) → answer_of (locates execute refusal asker files terms) ≡ Ok it
         → located_calls execute (λ v file. 0) asker files terms + more ≤ located_calls execute most asker files terms
@@ -150,10 +150,10 @@ module _ (asker : Asker) (files : Files) (terms : ℕ) (execute : Bool) (most : 
       where
         by : (read : Result PathList NameFault) (refusal : Option ℕ) → answer_of (reads_list read (refuses_by refusal)
             (λ list. locates_on asker files execute list (route_of asker files terms execute list))) ≡ Ok it
-            → listed_calls read (λ list. way_calls asker files execute (λ v file. 0) (route_of asker files terms execute
-            list)) + more ≤ listed_calls read (λ list. way_calls asker files execute most
+            → listed_calls read (λ list. route_calls asker files execute (λ v file. 0) (route_of asker files terms execute
+            list)) + more ≤ listed_calls read (λ list. route_calls asker files execute most
             (route_of asker files terms execute list))
-        by (Ok list) None is = way-within list (route_of asker files terms execute list) is
+        by (Ok list) None is = route-within list (route_of asker files terms execute list) is
         by (Ok list) (Some number) is = cc
         by (Err Unreadable) refusal is = cc
         by (Err NoName) None is = cc
@@ -172,10 +172,10 @@ module _ (purpose : Purpose) (asker : Asker) (files : Files) (terms : ℕ) (exec
   named-seen = by (list_of asker)
     where
       by : (read : Result PathList NameFault) → listed_calls read (λ list. last_calls asker files execute
-          (λ name v dir. 0) (way_for purpose asker files terms execute list) (last_of list.names)) ≤ listed_calls read
-          (λ list. last_calls asker files execute most (way_for purpose asker files terms execute list)
+          (λ name v dir. 0) (route_for purpose asker files terms execute list) (last_of list.names)) ≤ listed_calls read
+          (λ list. last_calls asker files execute most (route_for purpose asker files terms execute list)
           (last_of list.names))
-      by (Ok list) = last-seen (way_for purpose asker files terms execute list) (last_of list.names)
+      by (Ok list) = last-seen (route_for purpose asker files terms execute list) (last_of list.names)
       by (Err fault) = omega arith
 
   module _ (it : NamedBy) where
@@ -206,12 +206,12 @@ module _ (purpose : Purpose) (asker : Asker) (files : Files) (terms : ℕ) (exec
     named-within = by (list_of asker)
       where
         by : (read : Result PathList NameFault) (refusal : Option ℕ) → answer_of (reads_list read (refuses_by refusal)
-            (λ list. names_on purpose asker files execute list (way_for purpose asker files terms execute list)
+            (λ list. names_on purpose asker files execute list (route_for purpose asker files terms execute list)
             (last_of list.names))) ≡ Ok it → listed_calls read (λ list. last_calls asker files execute
-            (λ name v dir. 0) (way_for purpose asker files terms execute list) (last_of list.names)) + after ≤
-            listed_calls read (λ list. last_calls asker files execute most (way_for purpose asker files terms execute
+            (λ name v dir. 0) (route_for purpose asker files terms execute list) (last_of list.names)) + after ≤
+            listed_calls read (λ list. last_calls asker files execute most (route_for purpose asker files terms execute
             list) (last_of list.names))
-        by (Ok list) None is = last-within list (way_for purpose asker files terms execute list) (last_of list.names) is
+        by (Ok list) None is = last-within list (route_for purpose asker files terms execute list) (last_of list.names) is
         by (Ok list) (Some number) is = cc
         by (Err Unreadable) refusal is = cc
         by (Err NoName) None is = cc

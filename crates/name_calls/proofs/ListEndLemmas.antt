@@ -21,7 +21,7 @@ use Rattle.file_state.specs.Ends.{Ends}
 use Rattle.file_state.specs.Media.{KeepsDrives}
 use Rattle.file_state.specs.Tie.{StandsFor}
 use Rattle.file_state.specs.declared.state.FileState.{FileState}
-use Rattle.file_routes.specs.Ways.{next_step}
+use Rattle.file_routes.specs.Routes.{next_step}
 use Rattle.name_calls.proofs.ListCallLemmas.{calls-next}
 use Rattle.name_calls.proofs.LookLemmas.{deed-on, reaches-next}
 use Rattle.name_calls.specs.Looks.{HasFound}

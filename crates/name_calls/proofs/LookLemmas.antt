@@ -16,7 +16,7 @@ use Rattle.file_state.specs.Counted.{CalledAtMost, calls_of}
 use Rattle.file_state.specs.Reached.{HasRead}
 use Rattle.file_state.specs.Tie.{StandsFor}
 use Rattle.file_state.specs.declared.state.FileState.{FileState}
-use Rattle.file_routes.specs.Ways.{next_step}
+use Rattle.file_routes.specs.Routes.{next_step}
 use Rattle.name_calls.proofs.ListCallLemmas.{called-nothing, calls-few}
 use Rattle.name_calls.specs.Looks.{AnswersBy, HasFound, Looks, LooksFor, answer_of}
 

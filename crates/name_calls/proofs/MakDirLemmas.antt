@@ -13,13 +13,13 @@ use Rattle.file_rules.specs.MakDir.{i_makdir, makes_in, makes_on_route}
 use Rattle.file_rules.specs.Step.{comes, needs}
 use Rattle.file_rules.specs.Route.{Route, along, to_device, nowhere, before_last, is_root, last_of, list_of, reads_list, walks, route_by, route_from, route_of, route_of_device, route_on_drive, route_to_new}
 use Rattle.lock_model.specs.declared.place.FilePlace.{FilePlace}
-use Rattle.file_routes.specs.Ways.{next_step, refuses_by}
-use Rattle.file_routes.specs.declared.way.Purpose.TheVariants.{New}
+use Rattle.file_routes.specs.Routes.{next_step, refuses_by}
+use Rattle.file_routes.specs.declared.route.Purpose.TheVariants.{New}
 use Rattle.name_calls.proofs.LookLemmas.{walks-on}
 use Rattle.name_calls.specs.MakDir.{makes_it}
 use Rattle.name_calls.specs.Naming.{named_by, names_last, names_on}
 
--- ---- a way has the names of its list
+-- ---- a route has the names of its list
 
 abbrev HasNamesOf : List (List ℕ) → Route → Type 0
 HasNamesOf all (along from names) = names ≡ all
@@ -64,13 +64,13 @@ module _ (asker : Asker) (files : Files) where
       (λ directory. comes (named_by list name directory)) (makes_it asker files) (λ found. refl) from
       (before_last names)
 
-  with-way : (list : PathList) (route : Route) → HasNamesOf list.names route → makes_on_route asker files list route ≡ next_step
+  with-route : (list : PathList) (route : Route) → HasNamesOf list.names route → makes_on_route asker files list route ≡ next_step
       (names_on New asker files false list route (last_of list.names)) (makes_it asker files)
-  with-way list (along from names) same =
+  with-route list (along from names) same =
       by-last list from names (last_of names)
       ∙ ap (λ (all : List (List ℕ)). next_step (names_on New asker files false list (along from names) (last_of all)) (makes_it asker files)) same
-  with-way list to_device same = refl
-  with-way list (nowhere number) same = refl
+  with-route list to_device same = refl
+  with-route list (nowhere number) same = refl
 
   pub makdir-parts : (terms : ℕ) → i_makdir asker files terms ≡ next_step (names_last New false None asker files terms) (makes_it asker files)
   makdir-parts terms = by (list_of asker)
@@ -79,6 +79,6 @@ module _ (asker : Asker) (files : Files) where
           (route_to_new asker files terms false list)) ≡ next_step (reads_list read (refuses_by None)
           (λ list. names_on New asker files false list (route_to_new asker files terms false list)
           (last_of list.names))) (makes_it asker files)
-      by (Ok list) = with-way list (route_to_new asker files terms false list) (new-names asker files terms false list (ends_in_dots list || is_root files terms list))
+      by (Ok list) = with-route list (route_to_new asker files terms false list) (new-names asker files terms false list (ends_in_dots list || is_root files terms list))
       by (Err Unreadable) = refl
       by (Err NoName) = refl

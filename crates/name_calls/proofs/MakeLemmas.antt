@@ -32,7 +32,7 @@ use Rattle.file_rules.specs.Attempts.{asker_of, io_effect}
 use Rattle.file_rules.specs.Change.{creates}
 use Rattle.file_rules.specs.Files.{Asker, Files, volume_at, with_drives, with_path_table, with_volume}
 use Rattle.file_rules.specs.Open.{is_for_execution, says_directory}
-use Rattle.file_rules.specs.Step.{FileDoes, FileEffect, FileStep, MayBeLeft, VolumeChange, changes, deed_of, leaves, leaves_so, refuses_so}
+use Rattle.file_rules.specs.Step.{FileDoes, FileEffect, FileStep, MayBeLeft, VolumeChange, changes, deed_of, leaves, leaves_so, reaches, refuses_so}
 use Rattle.file_rules.specs.Route.{Found, last_of}
 use Rattle.lock_model.specs.declared.place.FilePlace.{FilePlace}
 use Rattle.file_drives.specs.Changed.{Asked, ChangesVolume, IsRefused, has_no_segment, is_full_for, is_refused}
@@ -47,9 +47,9 @@ use Rattle.file_state.specs.Media.{KeepsDrives}
 use Rattle.file_state.specs.Reached.{HasChanged, HasRead}
 use Rattle.file_state.specs.declared.state.FileState.{FileState}
 use Rattle.name_calls.proofs.BeginLemmas.{begins-numbered}
-use Rattle.name_calls.proofs.OpenCallLemmas.{entering-within, sum-within, within-sum}
-use Rattle.name_calls.proofs.CreateLemmas.{change_by, create-stays, creates-exists, creates-forbidden, is-forbidden, is-proper, is-there, makes-numbered, room-broken, room-full, room-made, room-none}
-use Rattle.name_calls.proofs.OpenEndLemmas.{broken, well-refused}
+use Rattle.name_calls.proofs.OpenCallLemmas.{entering-within, sum-behind, sum-within, within-sum}
+use Rattle.name_calls.proofs.CreateLemmas.{change_by, create-stays, creates-exists, creates-forbidden, creates-on, is-forbidden, is-proper, is-there, makes-numbered, room-broken, room-full, room-made, room-none}
+use Rattle.name_calls.proofs.OpenEndLemmas.{broken, ends-as, well-refused}
 use Rattle.name_calls.specs.OpenCalls.{calls_at_place, new_file_calls}
 use Rattle.name_calls.specs.Ends.{EndsQuietly, HasReadIn}
 use Rattle.name_calls.specs.Steps.{IsFoundAt, begins, creates_there, makes_there}
@@ -262,3 +262,21 @@ module _ (m : Processes) (now : TimePacket) (p : ℕ) (v : DiskVolume) (file : D
   place-within =
       subst (λ (n : ℕ). n ≤ new_file_calls (asker_of m p now) name v file) (sym place-same)
       (within-sum (place_calls file name (user_at m p) (is_for_execution (regs_at m p).a)) (calls_at_place v file))
+
+  -- what is made at the place that was found is what is made in the directory
+  module _ (was : Files) (list : PathList) (place : FilePlace) (at : ℕ) (answer : AnswersPlace file name user execute (Ok at))
+      (says : says_directory (regs_at m p).b ≡ false) where
+    abbrev dir : Found
+    dir = record { place = place; volume = v; file = file }
+
+    pub place-made : (most : ℕ) (end : CallEnd) (processes : ProcState) (left : FileState) (before later : List DriveView)
+        (terms : List TerminalState) → Ends (makes_there (asker_of m p now) was list name dir)
+        ((most + place_calls file name user execute) + calls_at_place v file) m was now p end processes left before later
+        terms → Ends (creates_there (asker_of m p now) was list name dir)
+        (most + new_file_calls (asker_of m p now) name v file) m was now p end processes left before later terms
+    place-made most end processes left before later terms made =
+        let is = answered-to m p file name user execute (Ok at) user_is execute_is answer in
+        ends-as m was now p end processes left before later terms (makes_there (asker_of m p now) was list name dir) (creates_there (asker_of m p now) was list name dir)
+        ((most + place_calls file name user execute) + calls_at_place v file) (most + new_file_calls (asker_of m p now) name v file)
+        (sym (ap (reaches place.drive) (creates-on (asker_of m p now) was list name dir is.allowed says is.absent.names_none)))
+        (sum-behind most (place_calls file name user execute) (calls_at_place v file) ∙ ap (λ (n : ℕ). most + (n + calls_at_place v file)) place-same) made

@@ -34,8 +34,8 @@ use Rattle.file_state.proofs.CountLemmas.{called-more, called-then}
 use Rattle.file_state.specs.Counted.{CalledAtMost}
 use Rattle.file_state.specs.Reached.{HasChanged, HasRead}
 use Rattle.file_state.specs.declared.state.FileState.{FileState}
-use Rattle.file_routes.specs.Ways.{next_step}
-use Rattle.file_routes.specs.declared.way.Purpose.TheVariants.{New}
+use Rattle.file_routes.specs.Routes.{next_step}
+use Rattle.file_routes.specs.declared.route.Purpose.TheVariants.{New}
 use Rattle.name_calls.proofs.AgainLemmas as again
 use Rattle.name_calls.proofs.AgainLemmas.{unchanged}
 use Rattle.name_calls.proofs.ListCallLemmas.{making-within}
@@ -210,18 +210,18 @@ module _ (making : Making) (last : LastLocated) (look : Step NamedBy) (seen : �
   no-place (File TooManyRuns) fact read = absurd fact
 
   -- the directory is made at the place
-  module _ (place : NewPlace) (user_is : place.user ≡ making.user) (found : IsNewPlace dir it.name asker.user false place.place) where
+  module _ (place : NewPlace) (user_is : place.by.user ≡ making.user) (found : IsNewPlace dir it.name asker.user false place.place) where
     abbrev asked : Asked
-    asked = record { change = makes_directory last.directory.number last.name making.attributes; user = place.user; now = making.now }
+    asked = record { change = makes_directory last.directory.number last.name making.attributes; user = place.by.user; now = making.now }
 
     abbrev asked-as : ℕ → List ℕ → ℕ → ℕ → TimePacket → Asked
     asked-as number name attributes user now = record { change = makes_directory number name attributes; user = user; now = now }
 
     asked-is : asked ≡ asked_of change asker
     asked-is =
-        ap (λ (at : FilePlace). asked-as at.number last.name making.attributes place.user making.now) (sym loc.is.place_is)
-        ∙ ap (λ (name : List ℕ). asked-as it.directory.place.number name making.attributes place.user making.now) (sym loc.is.name_is)
-        ∙ ap (λ (attributes : ℕ). asked-as it.directory.place.number it.name attributes place.user making.now) (sym who.attributes_are)
+        ap (λ (at : FilePlace). asked-as at.number last.name making.attributes place.by.user making.now) (sym loc.is.place_is)
+        ∙ ap (λ (name : List ℕ). asked-as it.directory.place.number name making.attributes place.by.user making.now) (sym loc.is.name_is)
+        ∙ ap (λ (attributes : ℕ). asked-as it.directory.place.number it.name attributes place.by.user making.now) (sym who.attributes_are)
         ∙ ap (λ (user : ℕ). asked-as it.directory.place.number it.name asker.caller.regs.b user making.now) (user_is ∙ sym who.user_is)
         ∙ ap (λ (now : TimePacket). asked-as it.directory.place.number it.name asker.caller.regs.b asker.user now) (sym who.now_is)
 
@@ -342,12 +342,12 @@ module _ (making : Making) (last : LastLocated) (look : Step NamedBy) (seen : �
       is fact))
       (subst (λ (r : Result NewPlace DirError). HasRead (directory_fault r) last.directory.drive files mid before views) is was-read))
 
-  module _ (place : NewPlace) (is : found ≡ Ok place) (user_is : place.user ≡ making.user) (new : FileState)
+  module _ (place : NewPlace) (is : found ≡ Ok place) (user_is : place.by.user ≡ making.user) (new : FileState)
       (now : List DriveView) (new_io : new.io ≡ mid.io) (new_directories : new.directories ≡ mid.directories)
       (new_records : new.records ≡ mid.records) (result : Result ℕ FileFault) (makes : ChangesVolume last.directory
       (record {
         change = makes_directory last.directory.number last.name making.attributes;
-        user = place.user;
+        user = place.by.user;
         now =
             making.now;
       }) (widened result) (drives.making_calls (widened result)) mid.disks views new.disks now) where
@@ -360,7 +360,7 @@ module _ (making : Making) (last : LastLocated) (look : Step NamedBy) (seen : �
     read = subst (λ (r : Result NewPlace DirError). HasRead (directory_fault r) last.directory.drive files mid before views) is was-read
 
     abbrev wanted : Asked
-    wanted = record { change = makes_directory last.directory.number last.name making.attributes; user = place.user; now = making.now }
+    wanted = record { change = makes_directory last.directory.number last.name making.attributes; user = place.by.user; now = making.now }
 
     changed : HasChanged wanted (widened result) last.directory.drive volume folder files new before now
     changed = again.changed-again files last.directory volume folder volume-there file-there mid new before views now

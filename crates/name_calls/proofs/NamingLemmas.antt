@@ -24,19 +24,20 @@ use Rattle.file_state.specs.Tie.{StandsFor}
 use Rattle.file_state.specs.declared.state.FileState.{FileState}
 use Rattle.file_routes.proofs.ReachLemmas.{volume-there, walks-found}
 use Rattle.file_routes.proofs.VolumeLemmas.{file-there}
-use Rattle.file_routes.proofs.WayLemmas.{leads-on}
+use Rattle.file_routes.proofs.RouteLemmas.{leads-on}
 use Rattle.file_routes.specs.Reached.{Finds}
 use Rattle.file_routes.specs.Walks.{WalksToLast, directory_reached}
-use Rattle.file_routes.specs.Ways.{IsRoute, Led, NamesOn, leads, next_step, way_for, way_to}
-use Rattle.file_routes.specs.declared.way.Route.{Route}
-use Rattle.file_routes.specs.declared.way.Way.{Way as Taken}
-use Rattle.file_routes.specs.declared.way.Way.TheVariants.{Along, Device}
+use Rattle.file_routes.specs.Routes.{IsRoute, Led, NamesOn, leads, next_step, route_for, route_on}
+use Rattle.file_routes.specs.declared.route.Route.{Route}
+use Rattle.file_routes.specs.declared.route.Course.{Course}
+use Rattle.file_routes.specs.declared.route.Course.TheVariants.{Along, Device}
 use Rattle.file_routes.specs.declared.walk.LastName.{LastName}
+use Rattle.file_routes.specs.declared.walk.Start.{Start}
 use Rattle.file_routes.specs.declared.walk.Walker.{Walker}
-use Rattle.file_routes.specs.declared.way.Purpose.{Purpose}
-use Rattle.file_routes.specs.declared.way.Purpose.TheVariants.{Existing, New}
+use Rattle.file_routes.specs.declared.route.Purpose.{Purpose}
+use Rattle.file_routes.specs.declared.route.Purpose.TheVariants.{Existing, New}
 use Rattle.name_calls.proofs.ListCallLemmas.{called-nothing, walk-part}
-use Rattle.name_calls.proofs.LocatingLemmas.{way-is}
+use Rattle.name_calls.proofs.LocatingLemmas.{route-is}
 use Rattle.name_calls.proofs.LookLemmas.{looks-none}
 use Rattle.name_calls.proofs.WalkedLemmas.{found-in, reached-there, walk-found, walk-lost}
 use Rattle.file_routes.specs.Calls.{listed_calls, walk_and}
@@ -48,30 +49,30 @@ use Rattle.name_calls.specs.declared.naming.LastLocated.{LastLocated}
 -- ---- the list
 
 module _ (purpose : Purpose) (asker : Asker) (files : Files) (terms : ℕ) (execute : Bool) (refusal : Option ℕ) where
-  abbrev way : PathList → Rule.Route
-  way = way_for purpose asker files terms execute
+  abbrev meant : PathList → Rule.Route
+  meant = route_for purpose asker files terms execute
 
-  by-leads : names_last purpose execute refusal asker files terms ≡ next_step (leads asker refusal way) (λ led. names_on purpose asker files execute led.list led.way (last_of led.list.names))
-  by-leads = leads-on asker refusal way (λ list led. names_on purpose asker files execute list led (last_of list.names)) (λ list number. refl)
+  by-leads : names_last purpose execute refusal asker files terms ≡ next_step (leads asker refusal meant) (λ led. names_on purpose asker files execute led.list led.route (last_of led.list.names))
+  by-leads = leads-on asker refusal meant (λ list led. names_on purpose asker files execute list led (last_of list.names)) (λ list number. refl)
 
-  -- along the way that was found
-  pub names-way : (list : PathList) (to : Rule.Route) → leads asker refusal way ≡ comes (record { list = list; way = to })
+  -- along the route that was found
+  pub names-route : (list : PathList) (to : Rule.Route) → leads asker refusal meant ≡ comes (record { list = list; route = to })
       → names_last purpose execute refusal asker files terms ≡ names_on purpose asker files execute list to
       (last_of list.names)
-  names-way list to is = by-leads ∙ ap (λ (step : Step Led). next_step step (λ led. names_on purpose asker files execute led.list led.way (last_of led.list.names))) is
+  names-route list to is = by-leads ∙ ap (λ (step : Step Led). next_step step (λ led. names_on purpose asker files execute led.list led.route (last_of led.list.names))) is
 
   -- or it is refused
-  pub names-refused : (number : ℕ) → leads asker refusal way ≡ refused number → names_last purpose execute refusal asker files terms ≡ refused number
-  names-refused number is = by-leads ∙ ap (λ (step : Step Led). next_step step (λ led. names_on purpose asker files execute led.list led.way (last_of led.list.names))) is
+  pub names-refused : (number : ℕ) → leads asker refusal meant ≡ refused number → names_last purpose execute refusal asker files terms ≡ refused number
+  names-refused number is = by-leads ∙ ap (λ (step : Step Led). next_step step (λ led. names_on purpose asker files execute led.list led.route (last_of led.list.names))) is
 
 -- ---- a name of what is made
 
-no-dots : (dots root : Bool) (way : Rule.Route) (from : FilePlace) (names : List (List ℕ)) → (if dots || root then nowhere E_BPNAM else way) ≡ along from names → dots ≡ false
-no-dots true root way from names is = absurd (let no : nowhere E_BPNAM ≡ along from names = is in cc)
-no-dots false root way from names is = refl
+no-dots : (dots root : Bool) (meant : Rule.Route) (from : FilePlace) (names : List (List ℕ)) → (if dots || root then nowhere E_BPNAM else meant) ≡ along from names → dots ≡ false
+no-dots true root meant from names is = absurd (let no : nowhere E_BPNAM ≡ along from names = is in cc)
+no-dots false root meant from names is = refl
 
 pub proper-name : (purpose : Purpose) (asker : Asker) (files : Files) (terms : ℕ) (execute : Bool) (list : PathList)
-    (from : FilePlace) (names : List (List ℕ)) (name : List ℕ) → way_for purpose asker files terms execute list ≡
+    (from : FilePlace) (names : List (List ℕ)) (name : List ℕ) → route_for purpose asker files terms execute list ≡
     along from names → last_of list.names ≡ Some name → purpose ≡ New → is_dots name ≡ false
 proper-name Existing asker files terms execute list from names name is last made = cc
 proper-name New asker files terms execute list from names name is last made =
@@ -148,7 +149,7 @@ unnamed-there Existing asker files execute whole most list from state views stan
 
 module _ (purpose : Purpose) (asker : Asker) (files : Files) (terms : ℕ) (execute : Bool) (refusal : Option ℕ)
     (cells : Cells) (route : Route)
-    (it : IsRoute cells asker (leads asker refusal (way_for purpose asker files terms execute)) route) where
+    (it : IsRoute cells asker (leads asker refusal (route_for purpose asker files terms execute)) route) where
   abbrev whole : Step NamedBy
   whole = names_last purpose execute refusal asker files terms
 
@@ -156,72 +157,74 @@ module _ (purpose : Purpose) (asker : Asker) (files : Files) (terms : ℕ) (exec
   most = named_calls purpose execute (λ name v dir. 0) asker files terms
 
   -- it leads to a terminal or a pipe
-  pub names-device : route.way ≡ Device → whole ≡ refused E_FNA
+  pub names-device : route.course ≡ Device → whole ≡ refused E_FNA
   names-device is =
-      names-way purpose asker files terms execute refusal it.list it.way it.comes_to
-      ∙ ap (λ (way : Rule.Route). names_on purpose asker files execute it.list way (last_of it.list.names)) (it.route_is.way_is ∙ ap (λ (way : Taken). way_to (Ok way) it.list.names) is)
+      names-route purpose asker files terms execute refusal it.list it.meant it.comes_to
+      ∙ ap (λ (meant : Rule.Route). names_on purpose asker files execute it.list meant (last_of it.list.names)) (it.route_is.course_is ∙ ap (λ (course : Course). route_on (Ok course) it.list.names)
+      is)
 
-  module _ (from : FilePlace) (first : Option ℕ) (is : route.way ≡ Along from first) where
-    is-along : it.way ≡ along from it.list.names
-    is-along = it.route_is.way_is ∙ ap (λ (way : Taken). way_to (Ok way) it.list.names) is
+  module _ (start : Start) (is : route.course ≡ Along start) where
+    is-along : it.meant ≡ along start.directory it.list.names
+    is-along = it.route_is.course_is ∙ ap (λ (course : Course). route_on (Ok course) it.list.names) is
 
-    names-along-way : whole ≡ names_on purpose asker files execute it.list (along from it.list.names) (last_of it.list.names)
-    names-along-way =
-        names-way purpose asker files terms execute refusal it.list it.way it.comes_to
-        ∙ ap (λ (way : Rule.Route). names_on purpose asker files execute it.list way (last_of it.list.names)) is-along
+    names-along-route : whole ≡ names_on purpose asker files execute it.list (along start.directory it.list.names) (last_of it.list.names)
+    names-along-route =
+        names-route purpose asker files terms execute refusal it.list it.meant it.comes_to
+        ∙ ap (λ (meant : Rule.Route). names_on purpose asker files execute it.list meant (last_of it.list.names)) is-along
 
-    pub names-along : NamesFrom cells first it.list.names
-    names-along = subst (λ (way : Taken). NamesOn cells way it.list.names) is it.route_is.names
+    pub names-along : NamesFrom cells start.first it.list.names
+    names-along = subst (λ (course : Course). NamesOn cells course it.list.names) is it.route_is.names
 
     proper : (name : List ℕ) → last_of it.list.names ≡ Some name → purpose ≡ New → is_dots name ≡ false
     proper name last =
-        proper-name purpose asker files terms execute it.list from it.list.names name
-        (way-is asker refusal (way_for purpose asker files terms execute) it.list it.way it.read it.comes_to ∙ is-along) last
+        proper-name purpose asker files terms execute it.list start.directory it.list.names name
+        (route-is asker refusal (route_for purpose asker files terms execute) it.list it.meant it.read it.comes_to ∙ is-along) last
 
     -- the calls of the walk
-    calls-along : (name : List ℕ) → last_of it.list.names ≡ Some name → most ≡ walk_and asker.user execute from.number (before_last it.list.names) (λ v file. 0) (volume_at files from.drive)
+    calls-along : (name : List ℕ) → last_of it.list.names ≡ Some name → most ≡ walk_and asker.user execute start.directory.number (before_last it.list.names) (λ v file. 0)
+        (volume_at files start.directory.drive)
     calls-along name last =
         ap (λ (read : Result PathList NameFault). listed_calls read (λ list. last_calls asker files execute
-        (λ name v dir. 0) (way_for purpose asker files terms execute list) (last_of list.names))) it.read
-        ∙ ap (λ (way : Rule.Route). last_calls asker files execute (λ name v dir. 0) way (last_of it.list.names))
-        (way-is asker refusal (way_for purpose asker files terms execute) it.list it.way it.read it.comes_to ∙ is-along)
-        ∙ ap (last_calls asker files execute (λ name v dir. 0) (along from it.list.names)) last
+        (λ name v dir. 0) (route_for purpose asker files terms execute list) (last_of list.names))) it.read
+        ∙ ap (λ (meant : Rule.Route). last_calls asker files execute (λ name v dir. 0) meant (last_of it.list.names))
+        (route-is asker refusal (route_for purpose asker files terms execute) it.list it.meant it.read it.comes_to ∙ is-along)
+        ∙ ap (last_calls asker files execute (λ name v dir. 0) (along start.directory it.list.names)) last
 
     calls-enough : (name : List ℕ) → last_of it.list.names ≡ Some name → (walker : Walker) → walker.execute ≡ execute
-        → asker.user ≡ walker.user → (v : DiskVolume) → volume_at files from.drive ≡ Some v → walk_calls v.files
-        walker.user walker.execute from.number (before_last it.list.names) ≤ most
+        → asker.user ≡ walker.user → (v : DiskVolume) → volume_at files start.directory.drive ≡ Some v → walk_calls v.files
+        walker.user walker.execute start.directory.number (before_last it.list.names) ≤ most
     calls-enough name last walker searches user v there =
-        subst (λ (n : ℕ). walk_calls v.files walker.user walker.execute from.number (before_last it.list.names) ≤ n)
-        (ap (λ (e : Bool). walk_and walker.user e from.number (before_last it.list.names) (λ v file. 0) (volume_at files from.drive)) searches
-        ∙ ap (λ (u : ℕ). walk_and u execute from.number (before_last it.list.names) (λ v file. 0) (volume_at files from.drive)) (sym user)
+        subst (λ (n : ℕ). walk_calls v.files walker.user walker.execute start.directory.number (before_last it.list.names) ≤ n)
+        (ap (λ (e : Bool). walk_and walker.user e start.directory.number (before_last it.list.names) (λ v file. 0) (volume_at files start.directory.drive)) searches
+        ∙ ap (λ (u : ℕ). walk_and u execute start.directory.number (before_last it.list.names) (λ v file. 0) (volume_at files start.directory.drive)) (sym user)
         ∙ sym (calls-along name last))
-        (walk-part walker.user walker.execute from.number (before_last it.list.names) (λ v file. 0) (volume_at files from.drive) v there)
+        (walk-part walker.user walker.execute start.directory.number (before_last it.list.names) (λ v file. 0) (volume_at files start.directory.drive) v there)
 
     -- a list without names
-    pub along-unnamed : (state : FileState) (views : List DriveView) (number : ℕ) → first ≡ None
-        → number ≡ unnamed_number purpose → StandsFor state views files → HasFileAt state.disks views from
+    pub along-unnamed : (state : FileState) (views : List DriveView) (number : ℕ) → start.first ≡ None
+        → number ≡ unnamed_number purpose → StandsFor state views files → HasFileAt state.disks views start.directory
         → LocatesLast purpose whole most (Err number) files state views views
     along-unnamed state views number none number_is stands has =
         let empty : it.list.names ≡ [] = subst (λ (first : Option ℕ). NamesFrom cells first it.list.names) none names-along in
         subst (λ (n : ℕ). LocatesLast purpose whole most (Err n) files state views views) (sym number_is)
-        (unnamed-there purpose asker files execute whole most it.list from state views stands has
-        (names-along-way ∙ ap (λ (names : List (List ℕ)). names_on purpose asker files execute it.list (along from names) (last_of names)) empty))
+        (unnamed-there purpose asker files execute whole most it.list start.directory state views stands has
+        (names-along-route ∙ ap (λ (names : List (List ℕ)). names_on purpose asker files execute it.list (along start.directory names) (last_of names)) empty))
 
     -- by its last name
     pub along-named : (walker : Walker) (state new : FileState) (views now : List DriveView)
         → walker.execute ≡ execute → asker.user ≡ walker.user → StandsFor state views files → HasFileAt state.disks
-        views from → new.io ≡ state.io → new.directories ≡ state.directories → new.records ≡ state.records
+        views start.directory → new.io ≡ state.io → new.directories ≡ state.directories → new.records ≡ state.records
         → (name : List ℕ) → last_of it.list.names ≡ Some name → (reached : Result LastName DirError)
-        (result : Result LastLocated ℕ) → result ≡ last_by reached route.next → WalksToLast walker from it.list.names
+        (result : Result LastLocated ℕ) → result ≡ last_by reached route.next → WalksToLast walker start.directory it.list.names
         reached state.disks views new.disks now → LocatesLast purpose whole most result files new views now
     along-named walker state new views now searches user stands has io directories records name last reached result result_is walk =
         subst (λ (step : Step NamedBy). LocatesLast purpose step most result files new views now)
-        (ap (λ (e : Bool). walks asker files e from (before_last it.list.names) (λ directory. comes (named_by it.list name directory))) searches
-        ∙ sym (names-along-way ∙ ap (names_on purpose asker files execute it.list (along from it.list.names)) last))
-        (subst (λ (r : Result LastLocated ℕ). LocatesLast purpose (walks asker files walker.execute from
+        (ap (λ (e : Bool). walks asker files e start.directory (before_last it.list.names) (λ directory. comes (named_by it.list name directory))) searches
+        ∙ sym (names-along-route ∙ ap (names_on purpose asker files execute it.list (along start.directory it.list.names)) last))
+        (subst (λ (r : Result LastLocated ℕ). LocatesLast purpose (walks asker files walker.execute start.directory
         (before_last it.list.names) (λ directory. comes (named_by it.list name directory))) most r files new views
         now) (sym result_is)
-        (last-located purpose asker walker files it.list from state new views now user stands has io directories
+        (last-located purpose asker walker files it.list start.directory state new views now user stands has io directories
         records most (calls-enough name last walker searches user) proper route.next it.route_is.next_is name last
         reached walk))
 

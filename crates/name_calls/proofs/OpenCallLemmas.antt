@@ -18,13 +18,13 @@ use Rattle.file_rules.specs.Open.{is_for_execution}
 use Rattle.file_rules.specs.Step.{FileStep, Step, comes, drive_of, reaches, refused}
 use Rattle.file_rules.specs.Route.{along, nowhere, reads_list, to_device, route_of, route_to_new}
 use Rattle.file_rules.specs.Route as Rule
-use Rattle.lock_model.specs.declared.place.FilePlace.{FilePlace}
 use Rattle.file_state.specs.Counted.{calls_of}
-use Rattle.file_routes.specs.Ways.{IsRoute, Led, leads, led_by, refuses_by, way_for, way_to}
-use Rattle.file_routes.specs.declared.way.Purpose.TheVariants.{Existing, New}
-use Rattle.file_routes.specs.declared.way.Route.{Route}
-use Rattle.file_routes.specs.declared.way.Way.{Way as Routed}
-use Rattle.file_routes.specs.declared.way.Way.TheVariants.{Along}
+use Rattle.file_routes.specs.Routes.{IsRoute, Led, leads, led_by, refuses_by, route_for, route_on}
+use Rattle.file_routes.specs.declared.route.Purpose.TheVariants.{Existing, New}
+use Rattle.file_routes.specs.declared.route.Route.{Route}
+use Rattle.file_routes.specs.declared.route.Course.{Course}
+use Rattle.file_routes.specs.declared.route.Course.TheVariants.{Along}
+use Rattle.file_routes.specs.declared.walk.Start.{Start}
 use Rattle.file_routes.specs.Calls.{listed_calls, walk_and}
 use Rattle.name_calls.specs.OpenCalls.{calls_at_place, creating_calls, i_create_calls, i_open_calls, opening_calls}
 
@@ -84,42 +84,42 @@ entering-within v dir (Err (File TooManyRuns)) = no-less (calls_at_place v dir)
 
 -- ---- by the list
 
--- the way of a list that was led
-abbrev way_led : Step Led → Rule.Route
-way_led (refused number) = nowhere number
-way_led (comes led) = led.way
-way_led (reaches drive step) = nowhere 0
+-- the route of a list that was led
+abbrev route_led : Step Led → Rule.Route
+route_led (refused number) = nowhere number
+route_led (comes led) = led.route
+route_led (reaches drive step) = nowhere 0
 
-led-way : (refusal : Option ℕ) (list : PathList) (led way : Rule.Route) → refuses_by refusal (led_by list led) ≡ comes (record { list = list; way = way }) → led ≡ way
-led-way None list (along from names) way is = ap way_led is
-led-way None list to_device way is = ap way_led is
-led-way None list (nowhere number) way is = ap way_led is
-led-way (Some number) list led way is = cc
+led-route : (refusal : Option ℕ) (list : PathList) (led meant : Rule.Route) → refuses_by refusal (led_by list led) ≡ comes (record { list = list; route = meant }) → led ≡ meant
+led-route None list (along from names) meant is = ap route_led is
+led-route None list to_device meant is = ap route_led is
+led-route None list (nowhere number) meant is = ap route_led is
+led-route (Some number) list led meant is = cc
 
-led-along : (cells : Cells) (asker : Asker) (refusal : Option ℕ) (way : PathList → Rule.Route) (route : Route)
-    (from : FilePlace) (first : Option ℕ) (it : IsRoute cells asker (leads asker refusal way) route)
-    → route.way ≡ Along from first → way it.list ≡ along from it.list.names
-led-along cells asker refusal way route from first it is =
-    led-way refusal it.list (way it.list) it.way
-    (ap (λ (read : Result PathList NameFault). reads_list read (refuses_by refusal) (λ list. led_by list (way list))) (sym it.read) ∙ it.comes_to)
-    ∙ it.route_is.way_is
-    ∙ ap (λ (way : Routed). way_to (Ok way) it.list.names) is
+led-along : (cells : Cells) (asker : Asker) (refusal : Option ℕ) (meant : PathList → Rule.Route) (route : Route)
+    (start : Start) (it : IsRoute cells asker (leads asker refusal meant) route) → route.course ≡ Along start
+    → meant it.list ≡ along start.directory it.list.names
+led-along cells asker refusal meant route start it is =
+    led-route refusal it.list (meant it.list) it.meant
+    (ap (λ (read : Result PathList NameFault). reads_list read (refuses_by refusal) (λ list. led_by list (meant list))) (sym it.read) ∙ it.comes_to)
+    ∙ it.route_is.course_is
+    ∙ ap (λ (course : Course). route_on (Ok course) it.list.names) is
 
 module _ (cells : Cells) (asker : Asker) (files : Files) (terms : ℕ) (refusal : Option ℕ) (execute : Bool)
-    (execute_is : execute ≡ is_for_execution asker.caller.regs.a) (route : Route) (from : FilePlace)
-    (first : Option ℕ) where
-  pub open-calls : (it : IsRoute cells asker (leads asker refusal (way_for Existing asker files terms execute)) route)
-      → route.way ≡ Along from first → opening_calls asker files (along from it.list.names) ≡ i_open_calls asker files
-      terms
-  open-calls it is = sym
-      (ap (λ (read : Result PathList NameFault). listed_calls read (λ list. opening_calls asker files (route_of asker files terms (is_for_execution asker.caller.regs.a) list))) it.read
-      ∙ ap (λ (execute : Bool). opening_calls asker files (route_of asker files terms execute it.list)) (sym execute_is)
-      ∙ ap (opening_calls asker files) (led-along cells asker refusal (way_for Existing asker files terms execute) route from first it is))
+    (execute_is : execute ≡ is_for_execution asker.caller.regs.a) (route : Route) (start : Start)
+  where
+    pub open-calls : (it : IsRoute cells asker (leads asker refusal (route_for Existing asker files terms execute)) route)
+        → route.course ≡ Along start → opening_calls asker files (along start.directory it.list.names) ≡ i_open_calls asker files
+        terms
+    open-calls it is = sym
+        (ap (λ (read : Result PathList NameFault). listed_calls read (λ list. opening_calls asker files (route_of asker files terms (is_for_execution asker.caller.regs.a) list))) it.read
+        ∙ ap (λ (execute : Bool). opening_calls asker files (route_of asker files terms execute it.list)) (sym execute_is)
+        ∙ ap (opening_calls asker files) (led-along cells asker refusal (route_for Existing asker files terms execute) route start it is))
 
-  pub create-calls : (it : IsRoute cells asker (leads asker refusal (way_for New asker files terms execute)) route)
-      → route.way ≡ Along from first → creating_calls asker files (along from it.list.names) ≡ i_create_calls asker
-      files terms
-  create-calls it is = sym
-      (ap (λ (read : Result PathList NameFault). listed_calls read (λ list. creating_calls asker files (route_to_new asker files terms (is_for_execution asker.caller.regs.a) list))) it.read
-      ∙ ap (λ (execute : Bool). creating_calls asker files (route_to_new asker files terms execute it.list)) (sym execute_is)
-      ∙ ap (creating_calls asker files) (led-along cells asker refusal (way_for New asker files terms execute) route from first it is))
+    pub create-calls : (it : IsRoute cells asker (leads asker refusal (route_for New asker files terms execute)) route)
+        → route.course ≡ Along start → creating_calls asker files (along start.directory it.list.names) ≡ i_create_calls asker
+        files terms
+    create-calls it is = sym
+        (ap (λ (read : Result PathList NameFault). listed_calls read (λ list. creating_calls asker files (route_to_new asker files terms (is_for_execution asker.caller.regs.a) list))) it.read
+        ∙ ap (λ (execute : Bool). creating_calls asker files (route_to_new asker files terms execute it.list)) (sym execute_is)
+        ∙ ap (creating_calls asker files) (led-along cells asker refusal (route_for New asker files terms execute) route start it is))

@@ -24,11 +24,11 @@ use Rattle.file_rules.specs.Step.{Deed, FileEffect, FileStep, MayBeLeft, Step, c
 use Rattle.file_rules.specs.Route.{Found, list_of, reads_list, walk_ends, walks, route_of}
 use Rattle.file_rules.specs.Route as Rule
 use Rattle.lock_model.specs.declared.place.FilePlace.{FilePlace}
-use Rattle.file_routes.proofs.WayLemmas.{leads-on, mode-tested}
-use Rattle.file_routes.specs.Ways.{IsRoute, Led, leads, mode_refusal, next_step, way_for, way_to}
-use Rattle.file_routes.specs.declared.way.Route.{Route}
-use Rattle.file_routes.specs.declared.way.Way.{Way as Routed}
-use Rattle.file_routes.specs.declared.way.Purpose.TheVariants.{Existing}
+use Rattle.file_routes.proofs.RouteLemmas.{leads-on, mode-tested}
+use Rattle.file_routes.specs.Routes.{IsRoute, Led, leads, mode_refusal, next_step, route_for, route_on}
+use Rattle.file_routes.specs.declared.route.Route.{Route}
+use Rattle.file_routes.specs.declared.route.Course.{Course}
+use Rattle.file_routes.specs.declared.route.Purpose.TheVariants.{Existing}
 use Rattle.name_calls.proofs.OpenEndLemmas.{regs-tied, user-tied}
 use Rattle.name_calls.specs.Steps.{begins, opens_there}
 
@@ -153,29 +153,29 @@ module _ (asker : Asker) (files : Files) (terms : ℕ) (refusal : Option ℕ) (e
     (refusal_is : refusal ≡ mode_refusal (is_mode asker.caller.regs.a)) (execute_is : execute ≡ is_for_execution
     asker.caller.regs.a) where
   abbrev opens_led : Step Led → FileStep
-  opens_led step = next_step step (λ led. opens_on_route asker files terms led.list led.way)
+  opens_led step = next_step step (λ led. opens_on_route asker files terms led.list led.route)
 
-  by-leads : i_open asker files terms ≡ opens_led (leads asker refusal (way_for Existing asker files terms execute))
+  by-leads : i_open asker files terms ≡ opens_led (leads asker refusal (route_for Existing asker files terms execute))
   by-leads =
       (λ i. reads_list (list_of asker) (λ (step : FileStep). mode-tested (is_mode asker.caller.regs.a) step i)
       (λ list. opens_on_route asker files terms list
       (route_of asker files terms (is_for_execution asker.caller.regs.a) list)))
       ∙ leads-on asker (mode_refusal (is_mode asker.caller.regs.a)) (route_of asker files terms (is_for_execution asker.caller.regs.a)) (opens_on_route asker files terms) (λ list number. refl)
       ∙ ap (λ (refusal : Option ℕ). opens_led (leads asker refusal (route_of asker files terms (is_for_execution asker.caller.regs.a)))) (sym refusal_is)
-      ∙ ap (λ (execute : Bool). opens_led (leads asker refusal (way_for Existing asker files terms execute))) (sym execute_is)
+      ∙ ap (λ (execute : Bool). opens_led (leads asker refusal (route_for Existing asker files terms execute))) (sym execute_is)
 
-  -- along the way that was found
-  pub opens-way : (list : PathList) (way : Rule.Route) → leads asker refusal (way_for Existing asker files terms execute) ≡
-      comes (record { list = list; way = way }) → i_open asker files terms ≡ opens_on_route asker files terms list way
-  opens-way list way is = by-leads ∙ ap opens_led is
+  -- along the route that was found
+  pub opens-route : (list : PathList) (meant : Rule.Route) → leads asker refusal (route_for Existing asker files terms execute) ≡
+      comes (record { list = list; route = meant }) → i_open asker files terms ≡ opens_on_route asker files terms list meant
+  opens-route list meant is = by-leads ∙ ap opens_led is
 
   -- or it is refused
-  pub opens-refused : (number : ℕ) → leads asker refusal (way_for Existing asker files terms execute) ≡ refused number → i_open asker files terms ≡ refused number
+  pub opens-refused : (number : ℕ) → leads asker refusal (route_for Existing asker files terms execute) ≡ refused number → i_open asker files terms ≡ refused number
   opens-refused number is = by-leads ∙ ap opens_led is
 
-  pub opens-routed : (cells : Cells) (route : Route) (way : Routed)
-      (it : IsRoute cells asker (leads asker refusal (way_for Existing asker files terms execute)) route)
-      → route.way ≡ way → i_open asker files terms ≡ opens_on_route asker files terms it.list
-      (way_to (Ok way) it.list.names)
-  opens-routed cells route way it is =
-      opens-way it.list it.way it.comes_to ∙ ap (opens_on_route asker files terms it.list) (it.route_is.way_is ∙ ap (λ (way : Routed). way_to (Ok way) it.list.names) is)
+  pub opens-routed : (cells : Cells) (route : Route) (course : Course)
+      (it : IsRoute cells asker (leads asker refusal (route_for Existing asker files terms execute)) route)
+      → route.course ≡ course → i_open asker files terms ≡ opens_on_route asker files terms it.list
+      (route_on (Ok course) it.list.names)
+  opens-routed cells route course it is =
+      opens-route it.list it.meant it.comes_to ∙ ap (opens_on_route asker files terms it.list) (it.route_is.course_is ∙ ap (λ (course : Course). route_on (Ok course) it.list.names) is)

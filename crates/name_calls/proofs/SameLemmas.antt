@@ -1,6 +1,7 @@
 -- Processes and their memory, as the calls on names of files need them.
 use Rattle.std.proofs.Common.{◌≡◌, ◌∙◌, ℕ, ◌<◌, Option, refl, ap, sym, subst}
-use Rattle.proc_rules.specs.Processes.{Processes, cells_at, user_at}
+use Rattle.io_state.specs.declared.requester.Requester.{Requester}
+use Rattle.proc_rules.specs.Processes.{Processes, cells_at, regs_at, user_at}
 use Rattle.guest_memory.proofs.Seen.{cells_of-seen}
 use Rattle.guest_memory.specs.Tie.{cells_of}
 use Rattle.os9_base.specs.Cells.{Cells}
@@ -9,7 +10,7 @@ use Rattle.proc_state.proofs.Entered.{represented}
 use Rattle.proc_state.proofs.UserBytes.{same-then}
 use Rattle.proc_state.specs.Tie.{IsSame, Represents, processes_of}
 use Rattle.proc_state.specs.declared.state.ProcState.{ProcState}
-use Rattle.file_routes.specs.Walks.{SomeFrom, SomeStand}
+use Rattle.file_routes.specs.Walks.{SomeFrom}
 
 -- the same, and the same again
 pub is-same-then : (first middle last : ProcState) → IsSame first middle → IsSame middle last → IsSame first last
@@ -26,6 +27,10 @@ is-same-then first middle last was is = record {
 pub user-is : (s : ProcState) (m : Processes) (p user : ℕ) → Represents s m → user ≡ (record_at s.table p).user → user_at m p ≡ user
 user-is s m p user tied is = ap (λ (m : Processes). user_at m p) tied.is ∙ sym is
 
+-- the registers at a call
+pub regs-are : (by : Requester) (s : ProcState) (m : Processes) → by.regs ≡ (record_at s.table by.p.0).regs → Represents s m → by.regs ≡ regs_at m by.p.0
+regs-are by s m same tied = same ∙ ap (λ (m : Processes). regs_at m by.p.0) (sym tied.is)
+
 -- processes are those of some machine
 pub some-machine : (s : ProcState) → (m : Processes) × Represents s m
 some-machine s = (processes_of s _, record { memory = represented s.memory; is = refl })
@@ -34,7 +39,3 @@ some-machine s = (processes_of s _, record { memory = represented s.memory; is =
 pub some-names : (s : ProcState) (p : ℕ) (first : Option ℕ) → p < 33 → (m : Processes) (tied : Represents s m) → SomeFrom (cells_of s.memory p) first → SomeFrom (cells_at m p) first
 some-names s p first inside m tied some =
     subst (λ (cells : Cells). SomeFrom cells first) (cells_of-seen s.memory p inside m.memory tied.memory) some
-
-pub some-stand : (s : ProcState) (p at : ℕ) → p < 33 → (m : Processes) (tied : Represents s m) → SomeStand (cells_of s.memory p) at → SomeStand (cells_at m p) at
-some-stand s p at inside m tied some =
-    subst (λ (cells : Cells). SomeStand cells at) (cells_of-seen s.memory p inside m.memory tied.memory) some

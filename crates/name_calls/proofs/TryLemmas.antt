@@ -19,7 +19,7 @@ use Rattle.file_state.specs.Media.{file_changed}
 use Rattle.file_state.specs.Reached.{HasChanged, HasRead}
 use Rattle.file_state.specs.declared.state.FileState.{FileState}
 use Rattle.file_routes.proofs.VolumeLemmas.{agrees-at, view-there}
-use Rattle.file_routes.specs.Ways.{next_step}
+use Rattle.file_routes.specs.Routes.{next_step}
 use Rattle.name_calls.proofs.ListCallLemmas.{calls-more, calls-next, calls-reached}
 use Rattle.name_calls.proofs.LookLemmas.{deed-on, deed-refused, drive-on, reaches-next}
 use Rattle.name_calls.specs.Looks.{AnswersBy, Looks, LooksFor, answer_of}

@@ -1,15 +1,12 @@
 -- A call that goes on at the end of a walk.
-use Rattle.std.proofs.Common.{◌≡◌, ◌∙◌, ℕ, ◌+◌, ◌<◌, Bool, Option, Some, None, option_and_then, List, Result, Ok, Err, ap, sym, subst}
+use Rattle.std.proofs.Common.{◌≡◌, ◌∙◌, ℕ, ◌+◌, Bool, Option, Some, None, option_and_then, List, Result, Ok, Err, ap, sym, subst}
 use Rattle.os9_base.specs.declared.call.CallEnd.{CallEnd}
 use Rattle.os9_base.specs.declared.call.CallEnd.TheVariants.{Error}
 use Rattle.os9_base.specs.declared.errors.TheConstants.{E_FNA, E_PNNF}
 use Rattle.os9_base.specs.declared.registers.TimePacket.{TimePacket}
 use Rattle.os9_outer.specs.TerminalState.{TerminalState}
-use Rattle.os9_base.specs.Cells.{Cells}
 use Rattle.os9_base.specs.declared.registers.Pid.{Pid}
 use Rattle.os9_base.specs.declared.registers.Regs.{Regs}
-use Rattle.guest_memory.specs.Tie.{cells_of}
-use Rattle.guest_memory.proofs.Seen.{cells_of-seen}
 use Rattle.device_paths.specs.Standing.{NamesFrom, NamesStand}
 use Rattle.proc_state.specs.Tie.{Represents}
 use Rattle.proc_state.specs.declared.state.ProcState.{ProcState}
@@ -181,30 +178,16 @@ module _ (m : Processes) (was : Files) (now : TimePacket) (p : ℕ) (terms : Lis
 
 -- ---- who walks
 
-pub record IsWalkerOf (s : ProcState) (m : Processes) (p : ℕ) (walker : Walker) : Type 0 where
+pub record IsWalkerOf (m : Processes) (p : ℕ) (walker : Walker) : Type 0 where
   pub user : user_at m p ≡ walker.user
   pub execute : walker.execute ≡ is_for_execution (regs_at m p).a
-  pub stand : (first : ℕ) (names : List (List ℕ)) → NamesStand (cells_at m p) first names → NamesStand (cells_of s.memory walker.process.0) first names
-  pub names : (first : Option ℕ) (names : List (List ℕ)) → NamesFrom (cells_at m p) first names → NamesFrom (cells_of s.memory walker.process.0) first names
+  pub stand : (first : ℕ) (names : List (List ℕ)) → NamesStand (cells_at m p) first names → NamesStand (cells_at m walker.process.0) first names
+  pub names : (first : Option ℕ) (names : List (List ℕ)) → NamesFrom (cells_at m p) first names → NamesFrom (cells_at m walker.process.0) first names
 
-pub walker-tied : (s : ProcState) (m : Processes) (p : Pid) (walker : Walker) → p.0 < 33 → Represents s m → walker ≡ walker_at s p → IsWalkerOf s m p.0 walker
-walker-tied s m p walker within tied is = subst (IsWalkerOf s m p.0) (sym is) (record {
+pub walker-tied : (s : ProcState) (m : Processes) (p : Pid) (walker : Walker) → Represents s m → walker ≡ walker_at s p → IsWalkerOf m p.0 walker
+walker-tied s m p walker tied is = subst (IsWalkerOf m p.0) (sym is) (record {
   user = user-tied s m p.0 tied;
   execute = ap (λ (regs : Regs). is_for_execution regs.a) (sym (regs-tied s m p.0 tied));
-  stand = λ first names stand.
-      subst (λ (cells : Cells). NamesStand cells first names) (sym (cells_of-seen s.memory p.0 within m.memory tied.memory)) stand;
-  names = λ first names from.
-      subst (λ (cells : Cells). NamesFrom cells first names) (sym (cells_of-seen s.memory p.0 within m.memory tied.memory)) from;
+  stand = λ first names stand. stand;
+  names = λ first names from. from;
 })
-
--- the names of a list stand where the kernel sees them
-pub names-there : (s : ProcState) (p : Pid) (walker : Walker) (first : Option ℕ) (names : List (List ℕ))
-    → walker ≡ walker_at s p → NamesFrom (cells_of s.memory p.0) first names
-    → NamesFrom (cells_of s.memory walker.process.0) first names
-names-there s p walker first names is from =
-    subst (λ (walker : Walker). NamesFrom (cells_of s.memory walker.process.0) first names) (sym is) from
-
-pub names-stand : (s : ProcState) (p : Pid) (walker : Walker) (first : ℕ) (names : List (List ℕ)) → walker ≡ walker_at
-    s p → NamesStand (cells_of s.memory p.0) first names → NamesStand (cells_of s.memory walker.process.0) first names
-names-stand s p walker first names is stand =
-    subst (λ (walker : Walker). NamesStand (cells_of s.memory walker.process.0) first names) (sym is) stand

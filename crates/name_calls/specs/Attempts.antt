@@ -1,5 +1,5 @@
 -- What attempts of I$Open and I$Create do, from each state that the kernel's state represents, after the path list is
--- read: along its names, and then at the file or the directory that the walk has reached.
+-- read: along its names, and then in the directory that the walk has reached.
 use Rattle.std.specs.Prelude.{◌≡◌, ℕ, ◌+◌, false, Option, None, List}
 use Rattle.os9_base.specs.declared.call.CallEnd.{CallEnd}
 use Rattle.os9_base.specs.declared.registers.TimePacket.{TimePacket}
@@ -7,25 +7,21 @@ use Rattle.os9_outer.specs.TerminalState.{TerminalState}
 use Rattle.proc_rules.specs.Processes.{Processes, cells_at}
 use Rattle.io_rules.specs.PathList.{PathList, ends_in_dots}
 use Rattle.device_paths.specs.Standing.{NamesFrom}
-use Rattle.proc_rules.specs.Records.{record_at}
 use Rattle.proc_state.specs.Tie.{Represents}
 use Rattle.rbf_change.specs.Names.{is_dots}
-use Rattle.rbf_entries.specs.declared.place.NewPlace.{NewPlace}
 use Rattle.file_rules.specs.Attempts.{asker_of}
 use Rattle.file_rules.specs.Files.{Files}
 use Rattle.file_rules.specs.Step.{FileStep}
 use Rattle.file_rules.specs.Route.{Found, along}
 use Rattle.lock_model.specs.declared.place.FilePlace.{FilePlace}
 use Rattle.file_drives.specs.Drives.{DriveView}
-use Rattle.file_drives.specs.Entries.{IsPlaceAt}
-use Rattle.file_drives.specs.Mounted.{HasFileAt}
 use Rattle.file_state.specs.Attempt.{Standing}
 use Rattle.file_state.specs.Ends.{Ends}
 use Rattle.file_state.specs.Tie.{StandsFor}
-use Rattle.file_routes.specs.declared.walk.LastName.{LastName}
-use Rattle.name_calls.specs.OpenCalls.{calls_at_place, creating_calls, new_file_calls, opening_calls}
+use Rattle.name_calls.specs.OpenCalls.{creating_calls, new_file_calls, opening_calls}
 use Rattle.name_calls.specs.Ends.{HasReadIn}
-use Rattle.name_calls.specs.Steps.{IsFoundAt, creates_along, creates_there, makes_there, opens_along, opens_there}
+use Rattle.name_calls.specs.Steps.{IsFoundAt, creates_along, creates_there, opens_along}
+use Rattle.name_calls.specs.declared.naming.LastLocated.{LastLocated}
 
 -- an attempt of a process, at a time, does what the step says, for any terminals: it ends so, and leaves this state;
 -- since the drives were `drives`, it called them at most `most` times
@@ -61,43 +57,15 @@ CreatesAlong from first next now p end before after =
     → EndsIn (creates_along (asker_of m p now) was list from)
     (creating_calls (asker_of m p now) was (along from list.names)) m was now p end before.views after)
 
--- ---- at the file or the directory that a walk has reached
+-- ---- in the directory that a walk has reached
 
--- a fact of each path list that ends before `next`, and of the file found at a place, in each such state before the
--- walk read the drive: the drives were these then, and the walk has called its drive at most `most` times
-abbrev pub OnEachFound : Standing → FilePlace → ℕ
-    → (Processes → Files → PathList → Found → ℕ → List DriveView → Type 0) → Type 0
-OnEachFound before place next fact =
-    (m : Processes) (was : Files) (list : PathList) (found : Found) (most : ℕ) (drives : List DriveView)
-    → Represents before.processes m → HasReadIn most None place.drive was before.files drives before.views
-    → IsFoundAt was place found → list.next ≡ next → fact m was list found most drives
-
--- I$Open of the file at a place: its descriptor has still to be read
-abbrev pub OpensThere : FilePlace → ℕ → TimePacket → ℕ → CallEnd → Standing → Standing → Type 0
-OpensThere place next now p end before after =
-    OnEachFound before place next
-    (λ m was list found most drives.
-    EndsIn (opens_there (asker_of m p now) was list found) (most + 1) m was now p end drives after)
-
--- I$Create with a last name, which is not dots, in its directory
-abbrev pub CreatesThere : LastName → ℕ → TimePacket → ℕ → CallEnd → Standing → Standing → Type 0
-CreatesThere last next now p end before after =
-    OnEachFound before last.directory next
-    (λ m was list dir most drives.
-    is_dots last.name ≡ false
+-- I$Create with a last name, which is not dots, in the directory that a walk has reached: the walk began in such a
+-- state, with these drives, and has called its drive at most `most` times
+abbrev pub CreatesThere : LastLocated → TimePacket → ℕ → CallEnd → Standing → Standing → Type 0
+CreatesThere last now p end before after =
+    (m : Processes) (was : Files) (list : PathList) (dir : Found) (most : ℕ) (drives : List DriveView)
+    → Represents before.processes m
+    → HasReadIn most None last.directory.drive was before.files drives before.views
+    → IsFoundAt was last.directory dir → list.next ≡ last.next → is_dots last.name ≡ false
     → EndsIn (creates_there (asker_of m p now) was list last.name dir)
-    (most + new_file_calls (asker_of m p now) last.name dir.volume dir.file) m was now p end drives after)
-
--- I$Create with a last name, after the place of its entry in the directory was found
-abbrev pub MakesThere : LastName → ℕ → TimePacket → ℕ → CallEnd → Standing → Standing → Type 0
-MakesThere last next now p end before after =
-    OnEachFound before last.directory next
-    (λ m was list dir most drives.
-    EndsIn (makes_there (asker_of m p now) was list last.name dir) (most + calls_at_place dir.volume dir.file)
-    m was now p end drives after)
-
--- the place of the entry was found, for the user of a process
-pub record IsPlaceForLast (last : LastName) (found : NewPlace) (p : ℕ) (here : Standing) : Type 0 where
-  pub directory : HasFileAt here.files.disks here.views last.directory
-  pub place : IsPlaceAt here.views last.directory last.name found
-  pub user : found.user ≡ (record_at here.processes.table p).user
+    (most + new_file_calls (asker_of m p now) last.name dir.volume dir.file) m was now p end drives after

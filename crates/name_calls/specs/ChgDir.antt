@@ -7,7 +7,7 @@ use Rattle.file_rules.specs.Files.{Asker, Files, directories_at, with_directorie
 use Rattle.file_rules.specs.MakDir.{past_list}
 use Rattle.file_rules.specs.Open.{is_for_execution}
 use Rattle.file_rules.specs.Step.{FileStep, Step, comes, done, refuses}
-use Rattle.file_routes.specs.Ways.{mode_refusal, next_step}
+use Rattle.file_routes.specs.Routes.{mode_refusal, next_step}
 use Rattle.name_calls.specs.Locating.{FoundBy, locates}
 
 -- a found file is a directory to which the user may go

@@ -5,8 +5,8 @@ use Rattle.file_rules.specs.Delete.{deletes_in}
 use Rattle.file_rules.specs.Files.{Asker, Files}
 use Rattle.file_rules.specs.Step.{FileStep, Step}
 use Rattle.file_state.specs.declared.state.FileState.{FileState}
-use Rattle.file_routes.specs.Ways.{next_step}
-use Rattle.file_routes.specs.declared.way.Purpose.TheVariants.{Existing}
+use Rattle.file_routes.specs.Routes.{next_step}
+use Rattle.file_routes.specs.declared.route.Purpose.TheVariants.{Existing}
 use Rattle.name_calls.specs.ListCalls.{deleting_calls}
 use Rattle.name_calls.specs.Looks.{HasFound}
 use Rattle.name_calls.specs.Naming.{IsNamed, NamedBy}

@@ -17,22 +17,23 @@ use Rattle.file_rules.specs.MakDir.{new_directory_size}
 use Rattle.file_rules.specs.Open.{is_for_execution}
 use Rattle.file_rules.specs.Route.{Route, along, to_device, nowhere, before_last, last_of, list_of, route_of}
 use Rattle.file_routes.specs.Calls.{listed_calls, walk_and}
-use Rattle.file_routes.specs.Ways.{way_for}
-use Rattle.file_routes.specs.declared.way.Purpose.{Purpose}
-use Rattle.file_routes.specs.declared.way.Purpose.TheVariants.{Existing, New}
+use Rattle.file_routes.specs.Routes.{route_for}
+use Rattle.file_routes.specs.declared.route.Purpose.{Purpose}
+use Rattle.file_routes.specs.declared.route.Purpose.TheVariants.{Existing, New}
 
 -- ---- to a file
 
-abbrev pub way_calls : Asker → Files → Bool → (DiskVolume → DiskFile → ℕ) → Route → ℕ
-way_calls asker files execute most (along from names) =
+abbrev pub route_calls : Asker → Files → Bool → (DiskVolume → DiskFile → ℕ) → Route → ℕ
+route_calls asker files execute most (along from names) =
     walk_and asker.user execute from.number names most (volume_at files from.drive)
-way_calls asker files execute most to_device = 0
-way_calls asker files execute most (nowhere number) = 0
+route_calls asker files execute most to_device = 0
+route_calls asker files execute most (nowhere number) = 0
 
 -- by the list at X, for execution or not
 abbrev pub located_calls : Bool → (DiskVolume → DiskFile → ℕ) → Asker → Files → ℕ → ℕ
 located_calls execute most asker files terms =
-    listed_calls (list_of asker) (λ list. way_calls asker files execute most (route_of asker files terms execute list))
+    listed_calls (list_of asker) (λ list. route_calls asker files execute most (route_of asker files terms execute
+    list))
 
 -- the descriptor of the found file is read
 abbrev pub i_chgdir_calls : Asker → Files → ℕ → ℕ
@@ -53,7 +54,8 @@ last_calls asker files execute most (nowhere number) name = 0
 abbrev pub named_calls : Purpose → Bool → (List ℕ → DiskVolume → DiskFile → ℕ) → Asker → Files → ℕ → ℕ
 named_calls purpose execute most asker files terms =
     listed_calls (list_of asker)
-    (λ list. last_calls asker files execute most (way_for purpose asker files terms execute list) (last_of list.names))
+    (λ list. last_calls asker files execute most (route_for purpose asker files terms execute list)
+    (last_of list.names))
 
 -- the search for the place of the new entry, the making of the directory, and its entry
 abbrev pub making_calls : ℕ → List ℕ → DiskVolume → DiskFile → ℕ

@@ -8,11 +8,11 @@ use Rattle.file_rules.specs.Route.{Route, along, to_device, nowhere, Found, list
 use Rattle.lock_model.specs.declared.place.FilePlace.{FilePlace}
 use Rattle.file_drives.specs.Drives.{DriveView}
 use Rattle.file_state.specs.declared.state.FileState.{FileState}
-use Rattle.file_routes.specs.Ways.{refuses_by}
+use Rattle.file_routes.specs.Routes.{refuses_by}
 use Rattle.rbf_walk.specs.Walk.{directory_error}
 use Rattle.rbf_walk.specs.declared.error.DirError.{DirError}
 use Rattle.name_calls.specs.Looks.{LooksFor}
-use Rattle.name_calls.specs.declared.locating.Located.{Located}
+use Rattle.file_routes.specs.declared.route.Located.{Located}
 
 -- a path list, and the file that it names
 pub record FoundBy : Type 0 where
@@ -22,7 +22,7 @@ pub record FoundBy : Type 0 where
 abbrev pub found_by : PathList → Found → FoundBy
 found_by list found = record { list = list; found = found }
 
--- along a way; a terminal or a pipe is refused
+-- along a route; a terminal or a pipe is refused
 abbrev pub locates_on : Asker → Files → Bool → PathList → Route → Step FoundBy
 locates_on asker files execute list (along from names) =
     walks asker files execute from names (λ found. comes (found_by list found))

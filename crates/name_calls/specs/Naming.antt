@@ -9,10 +9,10 @@ use Rattle.file_rules.specs.Route.{Route, along, to_device, nowhere, Found, befo
 use Rattle.lock_model.specs.declared.place.FilePlace.{FilePlace}
 use Rattle.file_drives.specs.Drives.{DriveView}
 use Rattle.file_state.specs.declared.state.FileState.{FileState}
-use Rattle.file_routes.specs.Ways.{refuses_by, way_for}
+use Rattle.file_routes.specs.Routes.{refuses_by, route_for}
 use Rattle.file_routes.specs.declared.walk.LastName.{LastName}
-use Rattle.file_routes.specs.declared.way.Purpose.{Purpose}
-use Rattle.file_routes.specs.declared.way.Purpose.TheVariants.{Existing, New}
+use Rattle.file_routes.specs.declared.route.Purpose.{Purpose}
+use Rattle.file_routes.specs.declared.route.Purpose.TheVariants.{Existing, New}
 use Rattle.rbf_walk.specs.Walk.{directory_error}
 use Rattle.rbf_walk.specs.declared.error.DirError.{DirError}
 use Rattle.name_calls.specs.Locating.{IsFileIn}
@@ -38,7 +38,7 @@ abbrev pub unnamed : Purpose → Asker → Files → Bool → FilePlace → List
 unnamed New asker files execute from names = refused E_BPNAM
 unnamed Existing asker files execute from names = walks asker files execute from names (λ root. refused E_FNA)
 
--- along a way, by the last name of its list; a terminal or a pipe is refused
+-- along a route, by the last name of its list; a terminal or a pipe is refused
 abbrev pub names_on : Purpose → Asker → Files → Bool → PathList → Route → Option (List ℕ) → Step NamedBy
 names_on purpose asker files execute list (along from names) None = unnamed purpose asker files execute from names
 names_on purpose asker files execute list (along from names) (Some name) =
@@ -50,7 +50,7 @@ names_on purpose asker files execute list (nowhere number) name = refused number
 abbrev pub names_last : Purpose → Bool → Option ℕ → Asker → Files → ℕ → Step NamedBy
 names_last purpose execute refusal asker files terms =
     reads_list (list_of asker) (refuses_by refusal)
-    (λ list. names_on purpose asker files execute list (way_for purpose asker files terms execute list)
+    (λ list. names_on purpose asker files execute list (route_for purpose asker files terms execute list)
     (last_of list.names))
 
 -- the located name and its directory are those of a step, on the drive that the step reached

@@ -1,36 +1,36 @@
 //! I$ChgDir.
 
-ghost use Rattle.std.specs.Prelude.{◌≡◌, List, None, Ok, Err, length, vec_len, if◌then◌else◌};
+ghost use Rattle.std.specs.Prelude.{◌≡◌, List, Ok, Err, length, vec_len, if◌then◌else◌};
 ghost use Rattle.file_rules.specs.ChgDir as model;
 ghost use Rattle.file_rules.specs.declared.path_call.PathCall.TheVariants as Call;
-ghost use Rattle.file_state.specs.Attempt.{standing};
 ghost use Rattle.file_state.specs.Counted.{AttemptsWithin};
 ghost use Rattle.file_state.specs.Tie.{IsSound};
+ghost use Rattle.file_state.specs.Context.{InFirstAttempt};
 ghost use Rattle.name_calls.specs.ListCalls.{i_chgdir_calls};
 ghost use Rattle.name_calls.specs.ChgDir.{looks_for_directory};
 ghost use Rattle.name_calls.specs.Kept.{KeepsAllButDisks};
 ghost use Rattle.name_calls.specs.Locating.{IsLocated};
 ghost use Rattle.name_calls.specs.Looks.{LooksFrom};
-ghost use Rattle.io_rules.specs.Io.{pending_at};
 ghost use Rattle.os9_base.specs.declared.registers.TimePacket.{TimePacket};
 ghost use Rattle.os9_outer.specs.TerminalState.{TerminalState};
-ghost use Rattle.proc_rules.specs.Records.{IsLiving};
 ghost use Rattle.proc_state.specs.Tie.{IsSame};
 ghost use Rattle.rbf_access.specs.Reading.{IsFdOf};
 ghost use Rattle.rbf_model.specs.File.{DiskFile};
 ghost use Rattle.file_drives.specs.Drives.{drives_seen};
+ghost use Rattle.io_state.specs.Context.{InCall, KeepsTerminals};
+ghost use Rattle.file_state.specs.Context.{seen};
 
-use crate::list_modes::{is_for_execution, is_mode};
-use crate::locating::{Located, locate};
+use crate::locating::locate;
+use crate::open_modes::{is_for_execution, is_mode};
 use device_paths::ends::{answer, refuse};
 use device_table::devices::Devices;
-use file_routes::way::mode_refusal;
-use file_state::state::FileState;
+use file_routes::route::{Located, mode_refusal};
+use file_state::machine::Machine;
+use io_state::requester::Requester;
 use os9_base::call::CallEnd;
 use os9_base::errors::E_FNA;
-use os9_base::registers::{Pid, Regs};
+use os9_base::registers::Regs;
 use os9_outer::drive::BlockDriver;
-use proc_state::state::ProcState;
 use rbf_sector::Fd;
 use rbf_walk::may;
 
@@ -45,25 +45,24 @@ use rbf_walk::may;
 /// list; else E$FNA exactly if the list names a terminal or a pipe; else those of the walk; else
 /// E$FNA exactly if the file is not a directory or may not be used so. The number of the fault, if
 /// the drive fails. No directory has changed then.
-pub fn i_chgdir(s: &mut ProcState, files: &mut FileState, devices: &mut Devices, p: Pid) -> CallEnd
-    requires lives { IsLiving s.old.table p.0 }
-    requires first { pending_at files.old.io p.0 ≡ None }
-    requires sound { IsSound files.old (drives_seen BlockDriver-box devices.old) }
+pub fn i_chgdir(machine: &mut Machine, devices: &mut Devices, by: Requester) -> CallEnd
+    requires calls { InFirstAttempt by machine.old }
+    requires sound { IsSound machine.old.files (drives_seen BlockDriver-box devices.old) }
     ensures call { (now : TimePacket) (terms : List TerminalState)
         → length terms ≡ vec_len devices.old.terms
-        → AttemptsWithin i_chgdir_calls Call.ChgDir now p.0 result terms terms
-        (standing BlockDriver-box s.old files.old devices.old)
-        (standing BlockDriver-box s.new files.new devices.new) }
-    ensures lives { IsLiving s.new.table p.0 }
-    ensures terms_kept { devices.new.terms ≡ devices.old.terms }
+        → AttemptsWithin i_chgdir_calls Call.ChgDir now by.p.0 result terms terms
+        (seen BlockDriver-box machine.old devices.old)
+        (seen BlockDriver-box machine.new devices.new) }
+    ensures kept { KeepsTerminals by machine.new.processes devices.old devices.new }
 {
-    let regs = s.regs(p);
-    match find_directory(s, files, devices, p) {
-        Err(number) => refuse(&mut files.io, p, number),
+    match find_directory(machine, devices, by) {
+        Err(number) => refuse(&mut machine.files.io, by.p, number),
         Ok(located) => {
             let x = (located.next % 65_536) as u16;
-            let end = answer(s, &mut files.io, p, Regs { x, ..regs });
-            files.set_directory(p, is_for_execution(regs.a), located.place);
+            let regs = Regs { x, ..by.regs };
+            let end = answer(&mut machine.processes, &mut machine.files.io, by.p, regs);
+            let execute = is_for_execution(by.regs.a);
+            machine.files.set_directory(by.p, execute, located.place);
             end
         }
     }
@@ -75,26 +74,25 @@ pub fn i_chgdir(s: &mut ProcState, files: &mut FileState, devices: &mut Devices,
 ///
 /// As `i_chgdir`.
 fn find_directory(
-    s: &mut ProcState,
-    files: &mut FileState,
+    machine: &mut Machine,
     devices: &mut Devices,
-    p: Pid,
+    by: Requester,
 ) -> Result<Located, u8>
-    requires lives { IsLiving s.old.table p.0 }
-    requires sound { IsSound files.old (drives_seen BlockDriver-box devices.old) }
-    ensures finds { LooksFrom IsLocated looks_for_directory i_chgdir_calls p.0
-        (vec_len devices.old.terms) result (standing BlockDriver-box s.old files.old devices.old)
-        (standing BlockDriver-box s.new files.new devices.new) }
-    ensures rest_kept { KeepsAllButDisks files.old files.new }
-    ensures same { IsSame s.old s.new }
-    ensures terms_kept { devices.new.terms ≡ devices.old.terms }
+    requires calls { InCall by machine.old.processes }
+    requires sound { IsSound machine.old.files (drives_seen BlockDriver-box devices.old) }
+    ensures finds { LooksFrom IsLocated looks_for_directory i_chgdir_calls by.p.0
+        (vec_len devices.old.terms) result (seen BlockDriver-box machine.old devices.old)
+        (seen BlockDriver-box machine.new devices.new) }
+    ensures rest_kept { KeepsAllButDisks machine.old.files machine.new.files }
+    ensures same { IsSame machine.old.processes machine.new.processes }
+    ensures kept { KeepsTerminals by machine.new.processes devices.old devices.new }
 {
-    let mode = s.regs(p).a;
-    let user = s.table.user(p);
+    let mode = by.regs.a;
+    let user = machine.processes.table.user(by.p);
     let refusal = mode_refusal(is_mode(mode));
-    match locate(s, files, devices, p, is_for_execution(mode), refusal) {
+    match locate(machine, devices, by, is_for_execution(mode), refusal) {
         Err(number) => Err(number),
-        Ok(located) => match files.disks.fd(devices, located.place) {
+        Ok(located) => match machine.files.disks.fd(devices, located.place) {
             Err(fault) => Err(fault.number()),
             Ok(fd) => if_directory(&fd, user, mode, located),
         },

@@ -1,36 +1,38 @@
 //! I$Delete and I$DeletX.
 
-ghost use Rattle.std.specs.Prelude.{◌≡◌, List, None, length, vec_len};
+ghost use Rattle.std.specs.Prelude.{◌≡◌, List, length, vec_len};
+ghost use Rattle.io_state.specs.Context.{InCall, KeepsTerminals};
+ghost use Rattle.file_state.specs.Context.{seen};
 ghost use Rattle.file_drives.specs.Drives.{drives_seen};
 ghost use Rattle.file_drives.specs.Mounted.{HasFileAt};
 ghost use Rattle.file_rules.specs.Delete.{deletes_by};
 ghost use Rattle.file_rules.specs.declared.path_call.PathCall.TheVariants as Call;
-ghost use Rattle.file_state.specs.Attempt.{standing};
 ghost use Rattle.file_state.specs.Counted.{AttemptsWithin};
 ghost use Rattle.file_state.specs.Tie.{IsSound};
+ghost use Rattle.file_state.specs.Context.{InFirstAttempt};
 ghost use Rattle.name_calls.specs.ListCalls.{deletes_by_calls, i_delete_calls, i_deletx_calls};
 ghost use Rattle.name_calls.specs.Delete.{DeletesIn};
 ghost use Rattle.name_calls.specs.Kept.{KeepsAllButDisks};
 ghost use Rattle.name_calls.specs.Tries.{TriesFrom};
-ghost use Rattle.file_routes.specs.Ways.{refuses_by};
-ghost use Rattle.io_rules.specs.Io.{pending_at};
+ghost use Rattle.file_routes.specs.Routes.{refuses_by};
 ghost use Rattle.os9_base.specs.declared.registers.TimePacket.{TimePacket};
 ghost use Rattle.os9_outer.specs.TerminalState.{TerminalState};
-ghost use Rattle.proc_rules.specs.Records.{IsLiving};
 ghost use Rattle.proc_state.specs.Tie.{IsSame};
 
 use crate::ends::end_call;
-use crate::list_modes::{is_for_execution, is_mode};
+use crate::finding::Lookup;
 use crate::naming::{LastLocated, locate_last};
+use crate::open_modes::{is_for_execution, is_mode};
 use device_table::devices::Devices;
-use file_routes::way::{Purpose, mode_refusal};
+use file_routes::route::{Purpose, mode_refusal};
+use file_state::machine::Machine;
 use file_state::state::FileState;
+use io_state::requester::Requester;
 use lock_model::place::FilePlace;
 use os9_base::call::CallEnd;
 use os9_base::errors::E_SHARE;
-use os9_base::registers::Pid;
 use os9_outer::drive::BlockDriver;
-use proc_state::state::ProcState;
+use rbf_walk::Searcher;
 
 /// I$Delete: deletes a file (System Programmer's Manual, I$Delete). Takes the address of the path
 /// list in X; returns X past the list. The list starts at the data directory of the process, if it
@@ -44,20 +46,18 @@ use proc_state::state::ProcState;
 /// that directory, E$PNNF exactly if the name is not there, E$FNA exactly if it names a directory
 /// or a file that the user may not write, E$Share exactly if a path is on the file. The number of
 /// the fault, if the drive fails.
-pub fn i_delete(s: &mut ProcState, files: &mut FileState, devices: &mut Devices, p: Pid) -> CallEnd
-    requires lives { IsLiving s.old.table p.0 }
-    requires first { pending_at files.old.io p.0 ≡ None }
-    requires sound { IsSound files.old (drives_seen BlockDriver-box devices.old) }
+pub fn i_delete(machine: &mut Machine, devices: &mut Devices, by: Requester) -> CallEnd
+    requires calls { InFirstAttempt by machine.old }
+    requires sound { IsSound machine.old.files (drives_seen BlockDriver-box devices.old) }
     ensures call { (now : TimePacket) (terms : List TerminalState)
         → length terms ≡ vec_len devices.old.terms
-        → AttemptsWithin i_delete_calls Call.Delete now p.0 result terms terms
-        (standing BlockDriver-box s.old files.old devices.old)
-        (standing BlockDriver-box s.new files.new devices.new) }
-    ensures lives { IsLiving s.new.table p.0 }
-    ensures terms_kept { devices.new.terms ≡ devices.old.terms }
+        → AttemptsWithin i_delete_calls Call.Delete now by.p.0 result terms terms
+        (seen BlockDriver-box machine.old devices.old)
+        (seen BlockDriver-box machine.new devices.new) }
+    ensures kept { KeepsTerminals by machine.new.processes devices.old devices.new }
 {
-    let came = delete_named(s, files, devices, p, false, None);
-    end_call(s, files, p, came)
+    let came = delete_named(machine, devices, by, false, None);
+    end_call(machine, by, came)
 }
 
 /// I$DeletX: deletes a file (System Programmer's Manual, I$DeletX). Takes a mode in A and the
@@ -69,22 +69,20 @@ pub fn i_delete(s: &mut ProcState, files: &mut FileState, devices: &mut Devices,
 ///
 /// As `i_delete`, with E$BMode exactly if the mode has none of read, write and execute, after
 /// E$BPAddr and before all others.
-pub fn i_deletx(s: &mut ProcState, files: &mut FileState, devices: &mut Devices, p: Pid) -> CallEnd
-    requires lives { IsLiving s.old.table p.0 }
-    requires first { pending_at files.old.io p.0 ≡ None }
-    requires sound { IsSound files.old (drives_seen BlockDriver-box devices.old) }
+pub fn i_deletx(machine: &mut Machine, devices: &mut Devices, by: Requester) -> CallEnd
+    requires calls { InFirstAttempt by machine.old }
+    requires sound { IsSound machine.old.files (drives_seen BlockDriver-box devices.old) }
     ensures call { (now : TimePacket) (terms : List TerminalState)
         → length terms ≡ vec_len devices.old.terms
-        → AttemptsWithin i_deletx_calls Call.DeletX now p.0 result terms terms
-        (standing BlockDriver-box s.old files.old devices.old)
-        (standing BlockDriver-box s.new files.new devices.new) }
-    ensures lives { IsLiving s.new.table p.0 }
-    ensures terms_kept { devices.new.terms ≡ devices.old.terms }
+        → AttemptsWithin i_deletx_calls Call.DeletX now by.p.0 result terms terms
+        (seen BlockDriver-box machine.old devices.old)
+        (seen BlockDriver-box machine.new devices.new) }
+    ensures kept { KeepsTerminals by machine.new.processes devices.old devices.new }
 {
-    let mode = s.regs(p).a;
+    let mode = by.regs.a;
     let refusal = mode_refusal(is_mode(mode));
-    let came = delete_named(s, files, devices, p, is_for_execution(mode), refusal);
-    end_call(s, files, p, came)
+    let came = delete_named(machine, devices, by, is_for_execution(mode), refusal);
+    end_call(machine, by, came)
 }
 
 /// Deletes the file that the path list at X names, for execution or not, in a call with this
@@ -94,28 +92,32 @@ pub fn i_deletx(s: &mut ProcState, files: &mut FileState, devices: &mut Devices,
 ///
 /// As `i_deletx`, with the call's refusal in place of E$BMode.
 fn delete_named(
-    s: &mut ProcState,
-    files: &mut FileState,
+    machine: &mut Machine,
     devices: &mut Devices,
-    p: Pid,
+    by: Requester,
     execute: bool,
     refusal: Option<u8>,
 ) -> Result<u32, u8>
-    requires lives { IsLiving s.old.table p.0 }
-    requires sound { IsSound files.old (drives_seen BlockDriver-box devices.old) }
+    requires calls { InCall by machine.old.processes }
+    requires sound { IsSound machine.old.files (drives_seen BlockDriver-box devices.old) }
     ensures tries { (now : TimePacket) → TriesFrom
         (λ asker was terms. deletes_by asker was terms execute (refuses_by refusal))
-        (deletes_by_calls execute) now p.0 (vec_len devices.old.terms) result
-        (standing BlockDriver-box s.old files.old devices.old)
-        (standing BlockDriver-box s.new files.new devices.new) }
-    ensures io_kept { files.new.io ≡ files.old.io }
-    ensures same { IsSame s.old s.new }
-    ensures terms_kept { devices.new.terms ≡ devices.old.terms }
+        (deletes_by_calls execute) now by.p.0 (vec_len devices.old.terms) result
+        (seen BlockDriver-box machine.old devices.old)
+        (seen BlockDriver-box machine.new devices.new) }
+    ensures io_kept { machine.new.files.io ≡ machine.old.files.io }
+    ensures same { IsSame machine.old.processes machine.new.processes }
+    ensures kept { KeepsTerminals by machine.new.processes devices.old devices.new }
 {
-    let user = s.table.user(p);
-    match locate_last(s, files, devices, p, Purpose::Existing, execute, refusal) {
+    let user = machine.processes.table.user(by.p);
+    let lookup = Lookup {
+        purpose: Purpose::Existing,
+        execute,
+        refusal,
+    };
+    match locate_last(machine, devices, by, lookup) {
         Err(number) => Err(number),
-        Ok(last) => delete_in(files, devices, last, user, execute),
+        Ok(last) => delete_in(&mut machine.files, devices, last, user, execute),
     }
 }
 
@@ -141,9 +143,10 @@ fn delete_in(
     ensures rest_kept { KeepsAllButDisks files.old files.new }
     ensures terms_kept { devices.new.terms ≡ devices.old.terms }
 {
+    let by = Searcher { user, execute };
     match files
         .disks
-        .find_deletable(devices, last.directory, &last.name, user, execute)
+        .find_deletable(devices, last.directory, &last.name, by)
     {
         Err(error) => Err(error.number()),
         Ok(found) => {

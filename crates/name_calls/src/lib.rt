@@ -8,7 +8,6 @@ pub mod create;
 pub mod delete;
 mod ends;
 mod finding;
-mod list_modes;
 mod locating;
 pub mod makdir;
 mod naming;

@@ -1,79 +1,28 @@
-//! The way of a call's path list, and the file at its end.
+//! The file that a call's path list names.
 
 ghost use Rattle.std.specs.Prelude.{◌≡◌, IfOk, vec_len};
-ghost use Rattle.proc_rules.specs.Processes.{Processes, cells_at};
+ghost use Rattle.io_state.specs.Context.{InCall, KeepsTerminals};
+ghost use Rattle.file_state.specs.Context.{seen};
 ghost use Rattle.file_drives.specs.Drives.{drives_seen};
 ghost use Rattle.file_drives.specs.Mounted.{HasFileAt};
-ghost use Rattle.file_rules.specs.Attempts.{asker_of};
-ghost use Rattle.file_rules.specs.Files.{Files};
-ghost use Rattle.file_state.specs.Attempt.{standing};
-ghost use Rattle.file_state.specs.Tie.{IsSound, StandsFor};
+ghost use Rattle.file_state.specs.Tie.{IsSound};
 ghost use Rattle.name_calls.specs.ListCalls.{located_calls};
 ghost use Rattle.name_calls.specs.Kept.{KeepsAllButDisks};
 ghost use Rattle.name_calls.specs.Locating.{IsLocated, located_by, locates};
 ghost use Rattle.name_calls.specs.Looks.{LooksFrom};
-ghost use Rattle.file_routes.specs.Ways.{HasNames, RouteIs, StartsOn, leads, way_for};
-ghost use Rattle.guest_memory.specs.Tie.{cells_of};
-ghost use Rattle.os9_base.specs.declared.registers.TimePacket.{TimePacket};
-ghost use Rattle.proc_rules.specs.Records.{IsLiving};
-ghost use Rattle.proc_state.specs.Tie.{IsSame, Represents};
+ghost use Rattle.proc_state.specs.Tie.{IsSame};
 
+use crate::finding::{Lookup, find_route};
 use device_table::devices::Devices;
-use file_routes::calls::{call_route, call_walk};
+use file_routes::calls::call_walk;
+use file_routes::route::{Course, Located, Purpose};
 use file_routes::walk::Walker;
-use file_routes::way::{Purpose, Query, Route, Way};
-use file_state::state::FileState;
+use file_state::machine::Machine;
+use io_state::requester::Requester;
 use lock_model::place::FilePlace;
 use os9_base::errors::E_FNA;
-use os9_base::registers::Pid;
 use os9_outer::drive::BlockDriver;
-use proc_state::state::ProcState;
 use rbf_walk::DirError;
-
-/// The file that a path list names.
-#[derive(Clone, Copy, Debug, PartialEq, Eq)]
-pub struct Located {
-    pub place: FilePlace,
-    /// The address just past the path list.
-    pub next: u32,
-}
-
-/// The way of the path list at X, from the execution directory of the process or from its data
-/// directory, if the list names no device (System Programmer's Manual, I$Open). `refusal` is the
-/// call's refusal, if any.
-///
-/// # Errors
-///
-/// The number of the refusal, exactly as for `file_routes::way::find_route`.
-pub(crate) fn lead(
-    s: &mut ProcState,
-    files: &FileState,
-    devices: &Devices,
-    p: Pid,
-    purpose: Purpose,
-    execute: bool,
-    refusal: Option<u8>,
-) -> Result<Route, u8>
-    requires lives { IsLiving s.old.table p.0 }
-    requires sound { IsSound files.now (drives_seen BlockDriver-box devices.now) }
-    ensures route { (m : Processes) (was : Files) (now : TimePacket) → Represents s.old m
-        → StandsFor files.now (drives_seen BlockDriver-box devices.now) was
-        → RouteIs (cells_at m p.0) (asker_of m p.0 now) (leads (asker_of m p.0 now) refusal
-        (way_for purpose (asker_of m p.0 now) was (vec_len devices.now.terms) execute)) result }
-    ensures names { IfOk result (λ route. HasNames (cells_of s.new.memory p.0) route.way) }
-    ensures start { IfOk result (λ route. StartsOn files.now.disks
-        (drives_seen BlockDriver-box devices.now) route.way) }
-    ensures same { IsSame s.old s.new }
-{
-    let query = Query {
-        process: p,
-        at: s.regs(p).x,
-        directory: files.directory(p, execute),
-        purpose,
-        refusal,
-    };
-    call_route(s, &files.disks, devices, query)
-}
 
 /// Finds the file that the path list at X names, from the execution directory of the process or
 /// from its data directory, if the list names no device (System Programmer's Manual, I$Open).
@@ -83,40 +32,46 @@ pub(crate) fn lead(
 /// The number of the refusal: that of `find_route`, else E$FNA exactly if the list names a terminal
 /// or a pipe; else that of the walk: E$FNA, E$PNNF, or the number of the drive's fault.
 pub(crate) fn locate(
-    s: &mut ProcState,
-    files: &mut FileState,
+    machine: &mut Machine,
     devices: &mut Devices,
-    p: Pid,
+    by: Requester,
     execute: bool,
     refusal: Option<u8>,
 ) -> Result<Located, u8>
-    requires lives { IsLiving s.old.table p.0 }
-    requires sound { IsSound files.old (drives_seen BlockDriver-box devices.old) }
+    requires calls { InCall by machine.old.processes }
+    requires sound { IsSound machine.old.files (drives_seen BlockDriver-box devices.old) }
     ensures locates { LooksFrom IsLocated (locates execute refusal)
-        (located_calls execute (λ v file. 0)) p.0 (vec_len devices.old.terms) result
-        (standing BlockDriver-box s.old files.old devices.old)
-        (standing BlockDriver-box s.new files.new devices.new) }
-    ensures there { IfOk result (λ located. HasFileAt files.new.disks
+        (located_calls execute (λ v file. 0)) by.p.0 (vec_len devices.old.terms) result
+        (seen BlockDriver-box machine.old devices.old)
+        (seen BlockDriver-box machine.new devices.new) }
+    ensures there { IfOk result (λ located. HasFileAt machine.new.files.disks
         (drives_seen BlockDriver-box devices.new) located.place) }
-    ensures rest_kept { KeepsAllButDisks files.old files.new }
-    ensures same { IsSame s.old s.new }
-    ensures terms_kept { devices.new.terms ≡ devices.old.terms }
+    ensures rest_kept { KeepsAllButDisks machine.old.files machine.new.files }
+    ensures same { IsSame machine.old.processes machine.new.processes }
+    ensures kept { KeepsTerminals by machine.new.processes devices.old devices.new }
 {
     let walker = Walker {
-        process: p,
-        user: s.table.user(p),
+        process: by.p,
+        user: machine.processes.table.user(by.p),
         execute,
     };
-    match lead(s, files, devices, p, Purpose::Existing, execute, refusal) {
-        Err(number) => Err(number),
-        Ok(route) => match route.way {
-            Way::Device => Err(E_FNA),
-            Way::Along { from, first } => behind_list(
-                call_walk(s, &mut files.disks, devices, walker, from, first),
-                route.next,
-            ),
-        },
-    }
+    let lookup = Lookup {
+        purpose: Purpose::Existing,
+        execute,
+        refusal,
+    };
+    let processes = &mut machine.processes;
+    let route = match find_route(processes, &machine.files, devices, by, lookup) {
+        Err(number) => return Err(number),
+        Ok(route) => route,
+    };
+    let Course::Along(start) = route.course else {
+        return Err(E_FNA);
+    };
+    behind_list(
+        call_walk(processes, &mut machine.files.disks, devices, walker, start),
+        route.next,
+    )
 }
 
 /// The file at the end of a walk, by a list that ends before an address.

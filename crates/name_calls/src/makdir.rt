@@ -1,31 +1,35 @@
 //! I$MakDir.
 
-ghost use Rattle.std.specs.Prelude.{◌≡◌, List, None, length, vec_len};
+ghost use Rattle.std.specs.Prelude.{◌≡◌, List, length, vec_len};
+ghost use Rattle.io_state.specs.Context.{InCall, KeepsTerminals};
+ghost use Rattle.file_state.specs.Context.{seen};
 ghost use Rattle.file_drives.specs.Drives.{drives_seen};
 ghost use Rattle.file_drives.specs.Mounted.{HasFileAt};
 ghost use Rattle.file_rules.specs.MakDir as model;
 ghost use Rattle.file_rules.specs.declared.path_call.PathCall.TheVariants as Call;
-ghost use Rattle.file_state.specs.Attempt.{standing};
 ghost use Rattle.file_state.specs.Counted.{AttemptsWithin};
 ghost use Rattle.file_state.specs.Tie.{IsSound};
+ghost use Rattle.file_state.specs.Context.{InFirstAttempt};
 ghost use Rattle.name_calls.specs.ListCalls.{i_makdir_calls};
 ghost use Rattle.name_calls.specs.Kept.{KeepsAllButDisks};
 ghost use Rattle.name_calls.specs.MakDir.{MakesIn};
 ghost use Rattle.name_calls.specs.Tries.{TriesFrom};
-ghost use Rattle.io_rules.specs.Io.{pending_at};
 ghost use Rattle.os9_outer.specs.TerminalState.{TerminalState};
-ghost use Rattle.proc_rules.specs.Records.{IsLiving};
 ghost use Rattle.proc_state.specs.Tie.{IsSame};
 
 use crate::ends::end_call;
+use crate::finding::Lookup;
 use crate::naming::{LastLocated, locate_last};
 use device_table::devices::Devices;
-use file_routes::way::Purpose;
+use file_routes::route::Purpose;
+use file_state::machine::Machine;
 use file_state::state::FileState;
+use io_state::requester::Requester;
 use os9_base::call::CallEnd;
-use os9_base::registers::{Pid, TimePacket};
+use os9_base::registers::TimePacket;
 use os9_outer::drive::BlockDriver;
-use proc_state::state::ProcState;
+use rbf_entries::NewFile;
+use rbf_walk::Searcher;
 
 /// Who makes a directory, with which attributes and at what time.
 #[derive(Clone, Copy, Debug)]
@@ -46,25 +50,17 @@ pub struct Making {
 /// directory, E$CEF exactly if the name is there, E$Full exactly if too few clusters are free,
 /// E$SLF exactly if the directory above needs one more segment and has no room for it. The number
 /// of the fault, if the drive fails.
-pub fn i_makdir(
-    s: &mut ProcState,
-    files: &mut FileState,
-    devices: &mut Devices,
-    p: Pid,
-    now: TimePacket,
-) -> CallEnd
-    requires lives { IsLiving s.old.table p.0 }
-    requires first { pending_at files.old.io p.0 ≡ None }
-    requires sound { IsSound files.old (drives_seen BlockDriver-box devices.old) }
+pub fn i_makdir(machine: &mut Machine, devices: &mut Devices, by: Requester) -> CallEnd
+    requires calls { InFirstAttempt by machine.old }
+    requires sound { IsSound machine.old.files (drives_seen BlockDriver-box devices.old) }
     ensures call { (terms : List TerminalState) → length terms ≡ vec_len devices.old.terms
-        → AttemptsWithin i_makdir_calls Call.MakDir now p.0 result terms terms
-        (standing BlockDriver-box s.old files.old devices.old)
-        (standing BlockDriver-box s.new files.new devices.new) }
-    ensures lives { IsLiving s.new.table p.0 }
-    ensures terms_kept { devices.new.terms ≡ devices.old.terms }
+        → AttemptsWithin i_makdir_calls Call.MakDir by.now by.p.0 result terms terms
+        (seen BlockDriver-box machine.old devices.old)
+        (seen BlockDriver-box machine.new devices.new) }
+    ensures kept { KeepsTerminals by machine.new.processes devices.old devices.new }
 {
-    let came = make_directory(s, files, devices, p, now);
-    end_call(s, files, p, came)
+    let came = make_directory(machine, devices, by);
+    end_call(machine, by, came)
 }
 
 /// Makes the directory that the path list at X names, and returns the address just past the list.
@@ -72,30 +68,29 @@ pub fn i_makdir(
 /// # Errors
 ///
 /// As `i_makdir`.
-fn make_directory(
-    s: &mut ProcState,
-    files: &mut FileState,
-    devices: &mut Devices,
-    p: Pid,
-    now: TimePacket,
-) -> Result<u32, u8>
-    requires lives { IsLiving s.old.table p.0 }
-    requires sound { IsSound files.old (drives_seen BlockDriver-box devices.old) }
-    ensures tries { TriesFrom model.i_makdir i_makdir_calls now p.0
-        (vec_len devices.old.terms) result (standing BlockDriver-box s.old files.old devices.old)
-        (standing BlockDriver-box s.new files.new devices.new) }
-    ensures io_kept { files.new.io ≡ files.old.io }
-    ensures same { IsSame s.old s.new }
-    ensures terms_kept { devices.new.terms ≡ devices.old.terms }
+fn make_directory(machine: &mut Machine, devices: &mut Devices, by: Requester) -> Result<u32, u8>
+    requires calls { InCall by machine.old.processes }
+    requires sound { IsSound machine.old.files (drives_seen BlockDriver-box devices.old) }
+    ensures tries { TriesFrom model.i_makdir i_makdir_calls by.now by.p.0
+        (vec_len devices.old.terms) result (seen BlockDriver-box machine.old devices.old)
+        (seen BlockDriver-box machine.new devices.new) }
+    ensures io_kept { machine.new.files.io ≡ machine.old.files.io }
+    ensures same { IsSame machine.old.processes machine.new.processes }
+    ensures kept { KeepsTerminals by machine.new.processes devices.old devices.new }
 {
     let making = Making {
-        user: s.table.user(p),
-        attributes: s.regs(p).b,
-        now,
+        user: machine.processes.table.user(by.p),
+        attributes: by.regs.b,
+        now: by.now,
     };
-    match locate_last(s, files, devices, p, Purpose::New, false, None) {
+    let lookup = Lookup {
+        purpose: Purpose::New,
+        execute: false,
+        refusal: None,
+    };
+    match locate_last(machine, devices, by, lookup) {
         Err(number) => Err(number),
-        Ok(last) => make_in(files, devices, last, making),
+        Ok(last) => make_in(&mut machine.files, devices, last, making),
     }
 }
 
@@ -121,16 +116,18 @@ fn make_in(
     ensures terms_kept { devices.new.terms ≡ devices.old.terms }
 {
     let disks = &mut files.disks;
-    match disks.find_place(devices, last.directory, &last.name, making.user, false) {
+    let by = Searcher {
+        user: making.user,
+        execute: false,
+    };
+    let file = NewFile {
+        name: last.name,
+        attr: making.attributes,
+        date: making.now,
+    };
+    match disks.find_place(devices, last.directory, &file.name, by) {
         Err(error) => Err(error.number()),
-        Ok(place) => match disks.make_dir_at(
-            devices,
-            last.directory,
-            &place,
-            &last.name,
-            making.attributes,
-            making.now,
-        ) {
+        Ok(place) => match disks.make_dir_at(devices, last.directory, &place, &file) {
             Err(fault) => Err(fault.number()),
             Ok(_) => Ok(last.next),
         },

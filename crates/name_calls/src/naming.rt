@@ -1,30 +1,29 @@
 //! The last name of a call's path list, and the directory in which it has to be looked up.
 
 ghost use Rattle.std.specs.Prelude.{◌≡◌, IfOk, vec_len};
+ghost use Rattle.io_state.specs.Context.{InCall, KeepsTerminals};
+ghost use Rattle.file_state.specs.Context.{seen};
 ghost use Rattle.file_drives.specs.Drives.{drives_seen};
 ghost use Rattle.file_drives.specs.Mounted.{HasFileAt};
-ghost use Rattle.file_state.specs.Attempt.{standing};
 ghost use Rattle.file_state.specs.Tie.{IsSound};
 ghost use Rattle.name_calls.specs.ListCalls.{named_calls};
 ghost use Rattle.name_calls.specs.Kept.{KeepsAllButDisks};
 ghost use Rattle.name_calls.specs.Looks.{LooksFrom};
 ghost use Rattle.name_calls.specs.Naming.{IsNamed, last_by, names_last};
 ghost use Rattle.name_calls.specs.Naming as model;
-ghost use Rattle.proc_rules.specs.Records.{IsLiving};
 ghost use Rattle.proc_state.specs.Tie.{IsSame};
 
-use crate::locating::lead;
+use crate::finding::{Lookup, find_route};
 use device_table::devices::Devices;
 use file_routes::calls::call_walk_to_last;
-use file_routes::walk::{LastName, Walker};
-use file_routes::way::{Purpose, Way};
-use file_state::state::FileState;
+use file_routes::route::{Course, Purpose};
+use file_routes::walk::{LastName, NamePlace, Walker};
+use file_state::machine::Machine;
+use io_state::requester::Requester;
 use lock_model::place::FilePlace;
 use os9_base::errors::{E_BPNAM, E_FNA};
 use os9_base::name::Name;
-use os9_base::registers::Pid;
 use os9_outer::drive::BlockDriver;
-use proc_state::state::ProcState;
 use rbf_walk::DirError;
 
 /// The last name of a path list, and the directory that the names before it lead to.
@@ -42,48 +41,52 @@ pub struct LastLocated {
 ///
 /// # Errors
 ///
-/// The number of the refusal: that of `lead`, else E$FNA exactly if the list names a terminal or a
-/// pipe. Else, if it has no names, E$FNA if its file has to exist and E$BPNam if it has to be made;
-/// else that of the walk: E$FNA, E$PNNF, or the number of the drive's fault.
+/// The number of the refusal: that of `find_route`, else E$FNA exactly if the list names a terminal
+/// or a pipe. Else, if it has no names, E$FNA if its file has to exist and E$BPNam if it has to be
+/// made; else that of the walk: E$FNA, E$PNNF, or the number of the drive's fault.
 pub(crate) fn locate_last(
-    s: &mut ProcState,
-    files: &mut FileState,
+    machine: &mut Machine,
     devices: &mut Devices,
-    p: Pid,
-    purpose: Purpose,
-    execute: bool,
-    refusal: Option<u8>,
+    by: Requester,
+    lookup: Lookup,
 ) -> Result<LastLocated, u8>
-    requires lives { IsLiving s.old.table p.0 }
-    requires sound { IsSound files.old (drives_seen BlockDriver-box devices.old) }
-    ensures locates { LooksFrom (IsNamed purpose) (names_last purpose execute refusal)
-        (named_calls purpose execute (λ name v dir. 0)) p.0 (vec_len devices.old.terms) result
-        (standing BlockDriver-box s.old files.old devices.old)
-        (standing BlockDriver-box s.new files.new devices.new) }
-    ensures there { IfOk result (λ last. HasFileAt files.new.disks
+    requires calls { InCall by machine.old.processes }
+    requires sound { IsSound machine.old.files (drives_seen BlockDriver-box devices.old) }
+    ensures locates { LooksFrom (IsNamed lookup.purpose)
+        (names_last lookup.purpose lookup.execute lookup.refusal)
+        (named_calls lookup.purpose lookup.execute (λ name v dir. 0)) by.p.0
+        (vec_len devices.old.terms) result (seen BlockDriver-box machine.old devices.old)
+        (seen BlockDriver-box machine.new devices.new) }
+    ensures there { IfOk result (λ last. HasFileAt machine.new.files.disks
         (drives_seen BlockDriver-box devices.new) last.directory) }
-    ensures rest_kept { KeepsAllButDisks files.old files.new }
-    ensures same { IsSame s.old s.new }
-    ensures terms_kept { devices.new.terms ≡ devices.old.terms }
+    ensures rest_kept { KeepsAllButDisks machine.old.files machine.new.files }
+    ensures same { IsSame machine.old.processes machine.new.processes }
+    ensures kept { KeepsTerminals by machine.new.processes devices.old devices.new }
 {
     let walker = Walker {
-        process: p,
-        user: s.table.user(p),
-        execute,
+        process: by.p,
+        user: machine.processes.table.user(by.p),
+        execute: lookup.execute,
     };
-    match lead(s, files, devices, p, purpose, execute, refusal) {
-        Err(number) => Err(number),
-        Ok(route) => match route.way {
-            Way::Device => Err(E_FNA),
-            Way::Along { from, first } => match first {
-                None => Err(unnamed_number(purpose)),
-                Some(at) => behind_list(
-                    call_walk_to_last(s, &mut files.disks, devices, walker, from, at),
-                    route.next,
-                ),
-            },
-        },
-    }
+    let processes = &mut machine.processes;
+    let route = match find_route(processes, &machine.files, devices, by, lookup) {
+        Err(number) => return Err(number),
+        Ok(route) => route,
+    };
+    let Course::Along(start) = route.course else {
+        return Err(E_FNA);
+    };
+    let Some(at) = start.first else {
+        return Err(unnamed_number(lookup.purpose));
+    };
+    let first = NamePlace {
+        directory: start.directory,
+        at,
+    };
+    behind_list(
+        call_walk_to_last(processes, &mut machine.files.disks, devices, walker, first),
+        route.next,
+    )
 }
 
 /// The number with which a list without names is refused.

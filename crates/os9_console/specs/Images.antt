@@ -3,10 +3,10 @@ use Rattle.std.specs.Prelude.{◌≡◌, ℕ, List, All}
 use Rattle.lock_model.specs.declared.history.Entry.{Entry}
 use Rattle.file_drives.specs.Drives.{drive_states}
 use Rattle.machine_model.specs.State.{State}
-use Rattle.boot_run.specs.Outcome.{AreImagesOf, RunsImages, setup_of, with_images_in}
+use Rattle.boot_run.specs.Outcome.{AreImagesOf, RunsImages, with_images_in}
 use Rattle.boot_run.specs.declared.imaged.Start.{Start}
 use Rattle.boot_run.specs.Console.{IsObserved}
-use Rattle.boot_run.specs.Machine.{IsUnrun, Setup, StartsLoaded}
+use Rattle.boot_run.specs.Machine.{IsUnrun, Setup, StartsLoaded, setup_of}
 use Rattle.boot_run.specs.World.{World}
 use Rattle.console_run.specs.Typed.{kept_keys, kept_slices}
 use Rattle.console_run.specs.Keyboard.{KeyboardState}

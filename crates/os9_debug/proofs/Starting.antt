@@ -107,7 +107,7 @@ module _ (machine : Machine) (kernel : Kernel) (before started after : Outside) 
   unfolding begun was
   tied = record {
     processes = begins.2.processes;
-    files = subst (λ (views : List DriveView). StandsFor kernel.files views was.files) (sym drives) begins.2.files;
+    files = subst (λ (views : List DriveView). StandsFor kernel.machine.files views was.files) (sym drives) begins.2.files;
     is = λ i. record (begins.2.is i) { terms = after.terms };
     run = start-open (boot_with machine (drive_states started.drives) after.terms) begun starts
         (omega (arith, count, can.can_run.terminals.some)) (omega (arith, count, can.can_run.terminals.few))

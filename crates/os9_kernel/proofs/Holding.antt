@@ -42,7 +42,7 @@ module _ (kernel : Kernel) (devices : Outside) (s : State) (tied : Represents ke
   pub holds-volumes : HoldsVolumes s devices.drives
   holds-volumes = record {
     counts = tied.files.drives;
-    volumes = λ drive v is. drive-holds kernel.files.disks devices.drives s.files.volumes tied.files.mounted drive v is;
+    volumes = λ drive v is. drive-holds kernel.machine.files.disks devices.drives s.files.volumes tied.files.mounted drive v is;
   }
 
   -- also where the drives are as they were

@@ -169,15 +169,15 @@ loads-rest Fork m was now terms p before after it is = cc
 loads-rest Chain m was now terms p before after it is = cc
 
 rests-by : (kernel : Kernel) (code p : ℕ) (call : ProcCall) → call_of code ≡ Some call
-    → waits_for call (slice_index_or kernel.processes.own.items p no_own) ≡ None → IfSome (wait_for kernel code p)
-    (λ wait. wait_at (member_of kernel.processes.sched.members p) ≡ Some wait)
+    → waits_for call (slice_index_or kernel.machine.processes.own.items p no_own) ≡ None → IfSome (wait_for kernel code p)
+    (λ wait. wait_at (member_of kernel.machine.processes.sched.members p) ≡ Some wait)
 rests-by kernel code p call coded none =
-    subst (λ (wait : Option Waiting). IfSome wait (λ wait. wait_at (member_of kernel.processes.sched.members p) ≡ Some
-    wait)) (sym (ap (λ (call : Option ProcCall). wait_by call (slice_index_or kernel.processes.own.items p no_own)
-    (call_wait kernel.files.io kernel.files.records.locks p)) coded ∙ none)) tt
+    subst (λ (wait : Option Waiting). IfSome wait (λ wait. wait_at (member_of kernel.machine.processes.sched.members p) ≡ Some
+    wait)) (sym (ap (λ (call : Option ProcCall). wait_by call (slice_index_or kernel.machine.processes.own.items p no_own)
+    (call_wait kernel.machine.files.io kernel.machine.files.records.locks p)) coded ∙ none)) tt
 
 pub rests-there : (kernel : Kernel) (code p : ℕ) (call : LoadCall) → service_of code ≡ load_in_machine call
-    → call ≢ Load → IfSome (wait_for kernel code p) (λ wait. wait_at (member_of kernel.processes.sched.members p) ≡
+    → call ≢ Load → IfSome (wait_for kernel code p) (λ wait. wait_at (member_of kernel.machine.processes.sched.members p) ≡
     Some wait)
 rests-there kernel code p Load serves other = absurd (other refl)
 rests-there kernel code p Fork serves other = rests-by kernel code p Call.Fork (process-served code Call.Fork serves) refl

@@ -141,12 +141,12 @@ module _ (files : FileState) (processes : ProcState) (io : ℕ → Bool)
 
 -- by the state that is represented
 pub active-there : (kernel : Kernel) (devices : Outside) (s : State) → Represents kernel devices s → (processes : ProcState)
-    → AreActiveAt (may_go_in kernel.files (ticks kernel)) (ticks kernel) processes
+    → AreActiveAt (may_go_in kernel.machine.files (ticks kernel)) (ticks kernel) processes
     → AreActiveAt (files_may_go s.files s.processes.tick) s.processes.tick processes
 active-there kernel devices s tied processes active p =
     let tick_is : ticks kernel ≡ s.processes.tick = sym (ap (λ (m : Processes). m.tick) tied.processes.is) in
-    let io_is : kernel.files.io ≡ s.files.io = sym tied.files.io in
-    let records_is : kernel.files.records ≡ s.files.records = sym tied.files.records in
+    let io_is : kernel.machine.files.io ≡ s.files.io = sym tied.files.io in
+    let records_is : kernel.machine.files.records ≡ s.files.records = sym tied.files.records in
     active p
     ∙ (λ i. is_ready (λ q. io_may_go (io_is i) q || lock_may_go (records_is i).locks (tick_is i) q)
     (record (processes_of processes (first_memory 0)) { tick = tick_is i }) p)
@@ -166,19 +166,19 @@ ends-sooner now until sooner None less ends = tt
 ends-sooner now until sooner (Some end) less ends = λ later. omega (arith, ends later, less)
 
 -- what is known until a tick is known at the next one, if nothing else has changed
-pub looked-next : (old new : Kernel) → new.looked_until ≡ old.looked_until → new.files ≡ old.files
-    → new.processes.tick ≡ old.processes.tick + 1
-    → ((io : ℕ → Bool) (tick : ℕ) → AreActiveAt io tick old.processes → AreActiveAt io tick new.processes)
+pub looked-next : (old new : Kernel) → new.looked_until ≡ old.looked_until → new.machine.files ≡ old.machine.files
+    → new.machine.processes.tick ≡ old.machine.processes.tick + 1
+    → ((io : ℕ → Bool) (tick : ℕ) → AreActiveAt io tick old.machine.processes → AreActiveAt io tick new.machine.processes)
     → IsLooked old → IsLooked new
 looked-next old new until files one active looked tick from below =
-    subst (λ (files : FileState). AreActiveAt (may_go_in files tick) tick new.processes) (sym files)
-    (active (may_go_in old.files tick) tick (looked tick (omega (arith, one, from)) (omega (arith, until, below))))
+    subst (λ (files : FileState). AreActiveAt (may_go_in files tick) tick new.machine.processes) (sym files)
+    (active (may_go_in old.machine.files tick) tick (looked tick (omega (arith, one, from)) (omega (arith, until, below))))
 
 -- and in the same tick
-pub looked-still : (old new : Kernel) → new.looked_until ≡ old.looked_until → new.files ≡ old.files
-    → new.processes.tick ≡ old.processes.tick
-    → ((io : ℕ → Bool) (tick : ℕ) → AreActiveAt io tick old.processes → AreActiveAt io tick new.processes)
+pub looked-still : (old new : Kernel) → new.looked_until ≡ old.looked_until → new.machine.files ≡ old.machine.files
+    → new.machine.processes.tick ≡ old.machine.processes.tick
+    → ((io : ℕ → Bool) (tick : ℕ) → AreActiveAt io tick old.machine.processes → AreActiveAt io tick new.machine.processes)
     → IsLooked old → IsLooked new
 looked-still old new until files same active looked tick from below =
-    subst (λ (files : FileState). AreActiveAt (may_go_in files tick) tick new.processes) (sym files)
-    (active (may_go_in old.files tick) tick (looked tick (omega (arith, same, from)) (omega (arith, until, below))))
+    subst (λ (files : FileState). AreActiveAt (may_go_in files tick) tick new.machine.processes) (sym files)
+    (active (may_go_in old.machine.files tick) tick (looked tick (omega (arith, same, from)) (omega (arith, until, below))))

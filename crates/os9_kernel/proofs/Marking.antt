@@ -38,8 +38,8 @@ pub never-known : (kernel : Kernel) → IsKnown (forgets kernel)
 never-known kernel tick p cause from below few waits clear = absurd (clear tt)
 
 -- what is known stays known while files stay
-pub known-later : (old new : Kernel) → new.known ≡ old.known → new.files.io ≡ old.files.io → new.files.records ≡ old.files.records
-    → old.processes.tick ≤ new.processes.tick → IsKnown old → IsKnown new
+pub known-later : (old new : Kernel) → new.known ≡ old.known → new.machine.files.io ≡ old.machine.files.io → new.machine.files.records ≡ old.machine.files.records
+    → old.machine.processes.tick ≤ new.machine.processes.tick → IsKnown old → IsKnown new
 known-later old new known io records later it tick p cause from below few waits clear =
     ap (λ (known : Known). has_io known.ready p) known
     ∙ it tick p cause (omega (arith, later, from)) (omega (arith, below, ap (λ (known : Known). known.until) known)) few
@@ -47,8 +47,8 @@ known-later old new known io records later it tick p cause from below few waits 
     (λ concerned. clear (subst (λ (known : Known). Concerns known.marks p cause) (sym known) concerned))
     ∙ (λ i. io_may_go (sym io i) p || lock_may_go (sym records i).locks tick p)
 
-pub known-still : (old new : Kernel) → new.known ≡ old.known → new.files.io ≡ old.files.io → new.files.records ≡ old.files.records
-    → new.processes.tick ≡ old.processes.tick → IsKnown old → IsKnown new
+pub known-still : (old new : Kernel) → new.known ≡ old.known → new.machine.files.io ≡ old.machine.files.io → new.machine.files.records ≡ old.machine.files.records
+    → new.machine.processes.tick ≡ old.machine.processes.tick → IsKnown old → IsKnown new
 known-still old new known io records same it = known-later old new known io records (omega (arith, same)) it
 
 -- ---- an attempt of a call on a path
@@ -83,9 +83,9 @@ module _ (s t : State) (end : EventEnd) (p code : ℕ) (call : PathCall) (it : I
   apart cause other (Touches.by_lock path lock ended there owner is) = false≢true (sym ended ∙ lives)
 
   -- what is known of those whom it does not concern is so after it
-  module _ (old new : Kernel) (io_was : s.files.io ≡ old.files.io) (records_was : s.files.records ≡ old.files.records)
-      (io_is : t.files.io ≡ new.files.io) (records_is : t.files.records ≡ new.files.records) (paths : ArePaths s.files.io.paths)
-      (ready : new.known.ready ≡ old.known.ready) (until : new.known.until ≡ old.known.until) (same : new.processes.tick ≡ old.processes.tick)
+  module _ (old new : Kernel) (io_was : s.files.io ≡ old.machine.files.io) (records_was : s.files.records ≡ old.machine.files.records)
+      (io_is : t.files.io ≡ new.machine.files.io) (records_is : t.files.records ≡ new.machine.files.records) (paths : ArePaths s.files.io.paths)
+      (ready : new.known.ready ≡ old.known.ready) (until : new.known.until ≡ old.known.until) (same : new.machine.processes.tick ≡ old.machine.processes.tick)
       (kept : (q : ℕ) (cause : Cause) → Concerns old.known.marks q cause → Concerns new.known.marks q cause)
       (own : (cause : Cause) → Concerns new.known.marks p cause)
       (waiters : (q : ℕ) (cause : Cause) (now : TimePacket) → named_cause s.files.io p (number_in call (asker_of s.processes p now)) ≡ Some cause → Concerns new.known.marks q cause) where

@@ -16,7 +16,7 @@ use Rattle.machine_model.specs.declared.ends.EventEnd.TheVariants as Event
 use Rattle.file_rules.specs.Attempts.{FileAttempts, io_effect}
 use Rattle.file_rules.specs.Files.{Files}
 use Rattle.file_rules.specs.declared.path_call.PathCall.{PathCall}
-use Rattle.path_dispatch.specs.Dates.{IsTimeFor, sets_date}
+use Rattle.call_dispatch.specs.Dates.{IsTimeFor, sets_date}
 use Rattle.file_state.specs.Tie.{IsSound}
 use Rattle.time_rules.proofs.Days.{same-packet}
 use Rattle.time_rules.proofs.Next.{later-packet}
@@ -31,13 +31,13 @@ use Rattle.os9_kernel.specs.Tie.{Represents}
 -- ---- what an attempt asks for
 
 -- paths and directories are on what is there
-pub is-sound : (old : Kernel) (before : Outside) (s : State) → Represents old before s → IsSound old.files before.drives
+pub is-sound : (old : Kernel) (before : Outside) (s : State) → Represents old before s → IsSound old.machine.files before.drives
 is-sound old before s tied = record { files = s.files; stands = tied.files; kinds = tied.run.locked.state.running.kinds }
 
 -- the clock was set to a civil time, and not after this tick
-pub is-clock : (old : Kernel) (before : Outside) (s : State) → Represents old before s → IsClock old.clock old.processes.tick
+pub is-clock : (old : Kernel) (before : Outside) (s : State) → Represents old before s → IsClock old.clock old.machine.processes.tick
 is-clock old before s tied =
-    subst (λ (clock : Clock). IsClock clock old.processes.tick) (ap (λ (s : State). s.clock) tied.is)
+    subst (λ (clock : Clock). IsClock clock old.machine.processes.tick) (ap (λ (s : State). s.clock) tied.is)
     (subst (λ (tick : ℕ). IsClock s.clock tick) (ap (λ (m : Processes). m.tick) tied.processes.is) tied.run.locked.state.running.clock)
 
 -- it shows a time
@@ -45,14 +45,14 @@ pub some-time : (old : Kernel) (before : Outside) (s : State) → Represents old
 some-time old before s tied = later-packet s.clock.from (seconds_since s.clock s.processes.tick) tied.run.locked.state.running.clock.civil
 
 -- and that one is the machine's
-pub now-here : (old : Kernel) (before : Outside) (s : State) → Represents old before s → (now : TimePacket) → IsNow old.clock old.processes.tick now → IsNow s.clock s.processes.tick now
+pub now-here : (old : Kernel) (before : Outside) (s : State) → Represents old before s → (now : TimePacket) → IsNow old.clock old.machine.processes.tick now → IsNow s.clock s.processes.tick now
 now-here old before s tied now is =
     subst (λ (clock : Clock). IsNow clock s.processes.tick now) (sym (ap (λ (s : State). s.clock) tied.is))
     (subst (λ (tick : ℕ). IsNow old.clock tick now) (sym (ap (λ (m : Processes). m.tick) tied.processes.is)) is)
 
 -- so does the kernel's
-pub time-shown : (old : Kernel) (before : Outside) (s : State) → Represents old before s → (time : TimePacket) × IsNow old.clock old.processes.tick time
-time-shown old before s tied = later-packet old.clock.from (seconds_since old.clock old.processes.tick) (is-clock old before s tied).civil
+pub time-shown : (old : Kernel) (before : Outside) (s : State) → Represents old before s → (time : TimePacket) × IsNow old.clock old.machine.processes.tick time
+time-shown old before s tied = later-packet old.clock.from (seconds_since old.clock old.machine.processes.tick) (is-clock old before s tied).civil
 
 -- a packet that was made for a call is of the time that the clock shows, if the call sets a date
 pub time-for : (clock : Clock) (tick : ℕ) (call : PathCall) (made time : TimePacket) → (sets_date call ≡ true → IsNow clock tick made) → IsNow clock tick time → IsTimeFor call made time

@@ -44,22 +44,23 @@ of-delivery (Some other) None false sig is = cc
 of-delivery (Some other) (Some signal) waits sig is = omega arith
 
 module _ (old : Kernel) (p : Pid) where
-  pub pending-is : (kernel : Kernel) → kernel.chosen ≡ Some p → pending kernel ≡ pending_of kernel.processes p.0
+  pub pending-is : (kernel : Kernel) → kernel.chosen ≡ Some p → pending kernel ≡ pending_of kernel.machine.processes p.0
   pending-is kernel chosen = rw chosen refl
 
   pub attempt-pending : (code : ℕ) → DoesNext old p (Attempt code) → 2 ≤ pending old
   attempt-pending code next =
-      let some = of-attempt (slice_index_or old.processes.own.items p.0 no_own).call (record_at old.processes.table p.0).signal (is_waiting (record_at old.processes.table p.0).life) code next.next in
+      let some = of-attempt (slice_index_or old.machine.processes.own.items p.0 no_own).call (record_at old.machine.processes.table p.0).signal
+      (is_waiting (record_at old.machine.processes.table p.0).life) code next.next in
       omega (arith, some, pending-is old next.chosen)
 
   pub delivery-pending : (signal : ℕ) → DoesNext old p (Delivery signal) → 1 ≤ pending old
   delivery-pending signal next =
-      let some = of-delivery (slice_index_or old.processes.own.items p.0 no_own).call (record_at old.processes.table
-      p.0).signal (is_waiting (record_at old.processes.table p.0).life) signal next.next in
+      let some = of-delivery (slice_index_or old.machine.processes.own.items p.0 no_own).call (record_at old.machine.processes.table
+      p.0).signal (is_waiting (record_at old.machine.processes.table p.0).life) signal next.next in
       omega (arith, some, pending-is old next.chosen)
 
   -- an attempt behind which the process goes on leaves at most a signal
   pub attempt-lowers : (code : ℕ) → DoesNext old p (Attempt code) → (new : Kernel) → new.chosen ≡ old.chosen
-      → (slice_index_or new.processes.own.items p.0 no_own).call ≡ None → pending new < pending old
+      → (slice_index_or new.machine.processes.own.items p.0 no_own).call ≡ None → pending new < pending old
   attempt-lowers code next new same none =
-      omega (arith, pending-is new (same ∙ next.chosen), no_call-few new.processes p.0 none, attempt-pending code next)
+      omega (arith, pending-is new (same ∙ next.chosen), no_call-few new.machine.processes p.0 none, attempt-pending code next)

@@ -24,7 +24,7 @@ abbrev pub ProcessesStart : List ℕ → ℕ → ProcState → Type 0
 ProcessesStart file blocks processes = (m : Processes) × StartsProcesses file blocks m × RepresentsProcesses processes m
 
 pub kernel-starts : (config : Config) (file : List ℕ) (images : List (List ℕ)) (after : Outside) (kernel : Kernel)
-    → ProcessesStart file config.blocks kernel.processes → StartedOn images kernel.files after.drives
+    → ProcessesStart file config.blocks kernel.machine.processes → StartedOn images kernel.machine.files after.drives
     → kernel.clock ≡ first_clock config.time → kernel.chosen ≡ None → kernel.looked_until ≡ 0 → kernel.known.until ≡ 0 → is_time_packet config.time ≡ true
     → 0 < length after.terms → length after.terms ≤ 4 → IsStarted config file images after kernel
 kernel-starts config file images after kernel processes on clock none again none_known civil some few =
@@ -47,7 +47,7 @@ kernel-starts config file images after kernel processes on clock none again none
       s,
       starts,
       record {
-        processes = subst (λ (m : Processes). RepresentsProcesses kernel.processes m) begins.is there;
+        processes = subst (λ (m : Processes). RepresentsProcesses kernel.machine.processes m) begins.is there;
         files = on.stands;
         is = λ i. record {
           processes = m;

@@ -4,7 +4,7 @@ use Rattle.os9_outer.specs.TerminalState.{TerminalState}
 use Rattle.proc_rules.specs.Processes.{Processes}
 use Rattle.io_rules.specs.Arrivals.{Arrivals, ArrivesFrom, Desk}
 use Rattle.io_rules.specs.Io.{Io}
-use Rattle.key_arrivals.specs.Keys.{PollBreaks, desk}
+use Rattle.device_io.specs.Keys.{PollBreaks, desk}
 use Rattle.proc_state.specs.Tie.{Represents as RepresentsProcesses, processes_of}
 use Rattle.proc_state.specs.declared.state.ProcState.{ProcState}
 use Rattle.file_drives.specs.Drives.{DriveView}
@@ -32,7 +32,7 @@ module _ (old : Kernel) (before : Outside) (s : State) (tied : Represents old be
   abbrev pub raised : Processes
   raised = record s.processes { tick = s.processes.tick + 1 }
 
-  pub raised-is : raised ≡ record (processes_of old.processes s.processes.memory) { tick = ticks old + 1 }
+  pub raised-is : raised ≡ record (processes_of old.machine.processes s.processes.memory) { tick = ticks old + 1 }
   raised-is = λ i. record (tied.processes.is i) { tick = (tied.processes.is i).tick + 1 }
 
   tick-is : ticks old + 1 ≡ s.processes.tick + 1
@@ -41,14 +41,13 @@ module _ (old : Kernel) (before : Outside) (s : State) (tied : Represents old be
   terms-are : before.terms ≡ s.terms
   terms-are = sym (ap (λ (s : State). s.terms) tied.is)
 
-  desk-is : desk raised old.files.io before.terms ≡ desk_of s
+  desk-is : desk raised old.machine.files.io before.terms ≡ desk_of s
   desk-is = λ i. record { processes = raised; io = sym tied.files.io i; terms = terms-are i }
 
   -- the kernel then, with these processes and this input and output
   abbrev pub then : ProcState → Io → ℕ → Known → Kernel
   then processes io until known = record {
-    processes = processes;
-    files = with_keys old.files io;
+    machine = record { processes = processes; files = with_keys old.machine.files io };
     clock = old.clock;
     chosen = old.chosen;
     executed = old.executed;
@@ -58,7 +57,7 @@ module _ (old : Kernel) (before : Outside) (s : State) (tied : Represents old be
 
   pub tick-then : (processes : ProcState) (io : Io) (until : ℕ) (known : Known) → IsLooked (then processes io until known)
       → IsKnown (then processes io until known) → (after : Outside) (next : Processes) → after.drives ≡ before.drives
-      → Arrivals (ticks old + 1) (desk raised old.files.io before.terms) (desk next io after.terms)
+      → Arrivals (ticks old + 1) (desk raised old.machine.files.io before.terms) (desk next io after.terms)
       → RepresentsProcesses processes next → (t : State) × Tick s t × Represents (then processes io until known) after t
   tick-then processes io until known looked is_known after next drives arrives there =
       let here : Desk = desk next io after.terms in
@@ -66,12 +65,12 @@ module _ (old : Kernel) (before : Outside) (s : State) (tied : Represents old be
       subst (λ n. Arrivals n (desk_of s) here) tick-is (subst (λ (from : Desk). Arrivals (ticks old + 1) from here) desk-is arrives) in
       let t : State = record s { processes = next; files = with_io s.files io; terms = after.terms } in
       let ticked : Tick s t = (here, arrivals, refl) in
-      let stands : StandsFor (with_keys old.files io) before.drives (with_io s.files io) = stands-with_io old.files before.drives s.files io io refl tied.files in (
+      let stands : StandsFor (with_keys old.machine.files io) before.drives (with_io s.files io) = stands-with_io old.machine.files before.drives s.files io io refl tied.files in (
         t,
         ticked,
         record {
           processes = there;
-          files = subst (λ (views : List DriveView). StandsFor (with_keys old.files io) views (with_io s.files io)) (sym drives) stands;
+          files = subst (λ (views : List DriveView). StandsFor (with_keys old.machine.files io) views (with_io s.files io)) (sym drives) stands;
           is = λ i. record {
             processes = next;
             files = with_io s.files io;
@@ -86,19 +85,19 @@ module _ (old : Kernel) (before : Outside) (s : State) (tied : Represents old be
       )
 
   -- without keys what is known is known at the next tick
-  module _ (processes : ProcState) (io : Io) (one : processes.tick ≡ ticks old + 1) (same_io : io ≡ old.files.io) where
+  module _ (processes : ProcState) (io : Io) (one : processes.tick ≡ ticks old + 1) (same_io : io ≡ old.machine.files.io) where
     pub looked-after : (between : ProcState) → processes ≡ between
-        → ((may : ℕ → Bool) (tick : ℕ) → AreActiveAt may tick old.processes → AreActiveAt may tick between)
+        → ((may : ℕ → Bool) (tick : ℕ) → AreActiveAt may tick old.machine.processes → AreActiveAt may tick between)
         → IsLooked (then processes io old.looked_until old.known)
     looked-after between is same =
-        looked-next old (then processes io old.looked_until old.known) refl (ap (with_keys old.files) same_io) one
+        looked-next old (then processes io old.looked_until old.known) refl (ap (with_keys old.machine.files) same_io) one
         (λ may tick active. subst (λ (state : ProcState). AreActiveAt may tick state) (sym is) (same may tick active)) tied.looked
 
     pub known-after-tick : IsKnown (then processes io old.looked_until old.known)
     known-after-tick = known-later old (then processes io old.looked_until old.known) refl same_io refl (omega (arith, one)) tied.known
 
   pub tick-breaks : (polled : ℕ) (between : Desk) (now : Io) (after : List TerminalState)
-      → ArrivesFrom (ticks old + 1) 0 polled (desk raised old.files.io before.terms) between
+      → ArrivesFrom (ticks old + 1) 0 polled (desk raised old.machine.files.io before.terms) between
       → PollBreaks (ticks old + 1) (0 + polled) between now after → BreaksTick s after
   tick-breaks polled between now after arrives breaks =
       let first : 0 + polled ≡ polled = omega arith in

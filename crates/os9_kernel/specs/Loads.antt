@@ -1,31 +1,19 @@
 -- The outcome of an attempt of a call that may load a file, for the kernel's processes and its files.
 use Rattle.std.specs.Prelude.{ℕ}
-use Rattle.std.specs.declared.alloc.Global.{Global}
-use Rattle.std.specs.declared.dyn_box.DynBox.{DynBox}
 use Rattle.os9_base.specs.declared.call.CallEnd.{CallEnd}
 use Rattle.os9_base.specs.declared.registers.TimePacket.{TimePacket}
-use Rattle.os9_outer.specs.declared.drive.BlockDriver.{Ghosts}
-use Rattle.device_table.specs.declared.devices.DeviceTable.{DeviceTable}
 use Rattle.proc_rules.specs.CallResult.{CallResult}
 use Rattle.proc_rules.specs.Processes.{Processes}
 use Rattle.file_rules.specs.Attempts.{asker_of}
 use Rattle.file_rules.specs.Files.{Asker, Files}
 use Rattle.file_rules.specs.Load.{LoadAttempts}
 use Rattle.file_rules.specs.Program.{ChainAttempts, ForkAttempts}
-use Rattle.file_state.specs.Attempt.{OnEach, Standing, standing}
+use Rattle.file_state.specs.Attempt.{OnEach, Standing}
 use Rattle.load_calls.specs.Attempts.{AttemptsBy}
 use Rattle.os9_kernel.specs.DriverCalls.{service_calls}
 use Rattle.os9_kernel.specs.Services.{load_in_machine}
-use Rattle.os9_kernel.specs.declared.kernel.Kernel.{Kernel}
 use Rattle.os9_kernel.specs.declared.service.LoadCall.{LoadCall}
 use Rattle.os9_kernel.specs.declared.service.LoadCall.TheVariants.{Load, Fork, Chain}
-
--- a kernel's processes and its files, and the drives of a table, as
--- `kernel_standing BlockDriver-box self.old devices.old`
-abbrev pub kernel_standing : {Table : Type 0} {Driver : Table → Type 0} {Terminals : Type 0}
-    → ((drive : DynBox Table Global Driver) → Ghosts (Driver drive.vtable)) → Kernel
-    → DeviceTable (DynBox Table Global Driver) Terminals → Standing
-kernel_standing members kernel devices = standing members kernel.processes kernel.files devices
 
 -- the attempt of the machine
 abbrev pub AttemptsLoad : LoadCall → Processes → Asker → Files → ℕ → ℕ → CallResult → Files → Type 0

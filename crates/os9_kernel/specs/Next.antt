@@ -33,8 +33,8 @@ next_of processes p =
 pub record DoesNext (kernel : Kernel) (p : Pid) (act : Act) : Type 0 where
   pub chosen : kernel.chosen ≡ Some p
   pub process : IsProcess p.0
-  pub lives : IsLiving kernel.processes.table p.0
-  pub next : next_of kernel.processes p.0 ≡ act_in_machine act
+  pub lives : IsLiving kernel.machine.processes.table p.0
+  pub next : next_of kernel.machine.processes p.0 ≡ act_in_machine act
 
 -- a turn of the chosen process, with `left` instructions left
 pub record HasTurn (left : ℕ) (old new : Kernel) (before after : Outside) (turn : Turn) : Type 0 where

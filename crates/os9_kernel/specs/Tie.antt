@@ -20,22 +20,23 @@ use Rattle.os9_kernel.specs.declared.kernel.Kernel.{Kernel}
 -- In each tick before the one that the kernel keeps, exactly the Ready processes are active, if nothing but the tick
 -- changes until then.
 abbrev pub IsLooked : Kernel → Type 0
-IsLooked kernel = (tick : ℕ) → kernel.processes.tick ≤ tick → tick < kernel.looked_until
-    → AreActiveAt (may_go_in kernel.files tick) tick kernel.processes
+IsLooked kernel = (tick : ℕ) → kernel.machine.processes.tick ≤ tick → tick < kernel.looked_until
+    → AreActiveAt (may_go_in kernel.machine.files tick) tick kernel.machine.processes
 
 -- In each tick before another one that the kernel keeps, it is known of each waiting call on a path whether it may go
 -- on, if nothing but the tick changes until then. Of those whom the marks concern nothing is known.
 abbrev pub IsKnown : Kernel → Type 0
 IsKnown kernel =
-    (tick p : ℕ) (cause : Cause) → kernel.processes.tick ≤ tick → tick < kernel.known.until → p < 33
-    → wait_cause kernel.files.io kernel.files.records.locks p ≡ Some cause → ¬ Concerns kernel.known.marks p cause
-    → has_io kernel.known.ready p ≡ may_go_in kernel.files tick p
+    (tick p : ℕ) (cause : Cause) → kernel.machine.processes.tick ≤ tick → tick < kernel.known.until → p < 33
+    → wait_cause kernel.machine.files.io kernel.machine.files.records.locks p ≡ Some cause
+    → ¬ Concerns kernel.known.marks p cause
+    → has_io kernel.known.ready p ≡ may_go_in kernel.machine.files tick p
 
 -- A kernel and its devices represent a state: its processes and its files are those of the machine, everything else is
 -- equal, it is a state of a run, and what the kernel knows of those who are Ready is so.
 pub record Represents (kernel : Kernel) (devices : Outside) (s : State) : Type 0 where
-  pub processes : RepresentsProcesses kernel.processes s.processes
-  pub files : StandsFor kernel.files devices.drives s.files
+  pub processes : RepresentsProcesses kernel.machine.processes s.processes
+  pub files : StandsFor kernel.machine.files devices.drives s.files
   pub is : s
       ≡ record {
         processes = s.processes;
@@ -58,7 +59,7 @@ HasState kernel = (devices : Outside) × Stands kernel devices
 
 -- the chosen process lives
 abbrev pub IsGoing : Kernel → Type 0
-IsGoing kernel = (p : Pid) × (kernel.chosen ≡ Some p) × IsLiving kernel.processes.table p.0
+IsGoing kernel = (p : Pid) × (kernel.chosen ≡ Some p) × IsLiving kernel.machine.processes.table p.0
 
 -- the instructions that the chosen process has executed since it was chosen
 abbrev pub executed : Kernel → ℕ
@@ -66,7 +67,7 @@ executed kernel = kernel.executed
 
 -- the number of slices begun
 abbrev pub ticks : Kernel → ℕ
-ticks kernel = kernel.processes.tick
+ticks kernel = kernel.machine.processes.tick
 
 abbrev pub one_if : Bool → ℕ
 one_if true = 1
@@ -87,4 +88,4 @@ pending kernel = of_chosen kernel.chosen
   where
     of_chosen : Option Pid → ℕ
     of_chosen None = 0
-    of_chosen (Some p) = pending_of kernel.processes p.0
+    of_chosen (Some p) = pending_of kernel.machine.processes p.0

@@ -23,13 +23,13 @@ impl Kernel {
     /// What a process does next: the first of these that applies: the first attempt of its call,
     /// the delivery of a pending signal, a further attempt, an instruction.
     pub(crate) fn act(&self, p: Pid) -> Act
-        requires { IsLiving self.now.processes.table p.0 }
-        ensures next { next_of self.now.processes p.0 ≡ act_in_machine result }
+        requires { IsLiving self.now.machine.processes.table p.0 }
+        ensures next { next_of self.now.machine.processes p.0 ≡ act_in_machine result }
         ensures process { IsProcess p.0 }
     {
-        let waits = self.processes.table.life(p) == Some(Life::Waiting);
-        let call = self.processes.own[p.0 as usize].call;
-        let signal = self.processes.table.due_signal(p);
+        let waits = self.machine.processes.table.life(p) == Some(Life::Waiting);
+        let call = self.machine.processes.own[p.0 as usize].call;
+        let signal = self.machine.processes.table.due_signal(p);
         match (call, signal) {
             (Some(code), Some(signal)) => {
                 if waits {

@@ -1,7 +1,6 @@
 //! Attempts of calls on processes and modules that load nothing, and unknown codes.
 
 ghost use Rattle.std.specs.Prelude.{◌≡◌, ◌<◌, List};
-ghost use Rattle.proc_rules.specs.Codes.{call_of};
 ghost use Rattle.file_drives.specs.Drives.{DriveView};
 ghost use Rattle.file_rules.specs.Files.{Files};
 ghost use Rattle.file_state.specs.Tie.{StandsFor};
@@ -34,7 +33,7 @@ impl Kernel {
         ensures progress { result ≡ EventEnd.Ran → pending self.new < pending self.old }
         ensures executed { executed self.new ≡ executed self.old }
     {
-        let end = call_dispatch::attempt(&mut self.processes, p, call);
+        let end = call_dispatch::attempt(&mut self.machine.processes, p, call);
         self.follow(p, end);
         self.looked_until = 0;
         event_end(end)
@@ -45,9 +44,9 @@ impl Kernel {
     fn follow(&mut self, p: Pid, end: CallEnd)
         requires { p.0 < 33 }
         ensures files { (views : List DriveView) (files : Files)
-            → StandsFor self.old.files views files
-            → StandsFor self.new.files views (files_then end files p.0) }
-        ensures processes { self.new.processes ≡ self.old.processes }
+            → StandsFor self.old.machine.files views files
+            → StandsFor self.new.machine.files views (files_then end files p.0) }
+        ensures processes { self.new.machine.processes ≡ self.old.machine.processes }
         ensures known { IsKnown self.old → IsKnown self.new }
         ensures clock { self.new.clock ≡ self.old.clock }
         ensures chosen { self.new.chosen ≡ self.old.chosen }
@@ -55,7 +54,7 @@ impl Kernel {
     {
         match end {
             CallEnd::Ended => {
-                self.files.end(p);
+                self.machine.files.end(p);
                 self.known.marks = Marks::Everyone;
             }
             CallEnd::Done | CallEnd::Error(_) | CallEnd::Wait | CallEnd::NoMemory => {}
@@ -70,7 +69,7 @@ impl Kernel {
         ensures progress { pending self.new < pending self.old }
         ensures executed { executed self.new ≡ executed self.old }
     {
-        self.processes.refuse(p, E_UNKSVC);
+        self.machine.processes.refuse(p, E_UNKSVC);
         self.looked_until = 0;
         EventEnd::Ran
     }

@@ -54,9 +54,9 @@ impl Kernel {
         self.break_off(p);
         self.looked_until = 0;
         self.known.marks = Marks::Everyone;
-        match self.processes.deliver(p) {
+        match self.machine.processes.deliver(p) {
             CallEnd::Ended => {
-                self.files.end(p);
+                self.machine.files.end(p);
                 EventEnd::Ended
             }
             _ => EventEnd::Ran,
@@ -90,9 +90,9 @@ impl Kernel {
         ensures kept { result.end ≢ EventEnd.NoMemory }
         ensures goes_on { result.end ≢ EventEnd.Waits }
     {
-        let mut regs = self.processes.regs(p);
-        let ran = self.processes.memory.run(p, &mut regs, most);
-        set_regs(&mut self.processes, p, regs);
+        let mut regs = self.machine.processes.regs(p);
+        let ran = self.machine.processes.memory.run(p, &mut regs, most);
+        set_regs(&mut self.machine.processes, p, regs);
         match ran.stop {
             Stop::Next => Turn {
                 count: ran.followed,

@@ -11,9 +11,9 @@ ghost use Rattle.proc_state.specs.Active.{AreActiveAt};
 
 use crate::act::Act;
 use crate::marks::{Known, Marks};
+use device_io::keys::arrive_keys;
 use device_table::devices::Devices;
-use file_state::state::FileState;
-use key_arrivals::keys::arrive_keys;
+use file_state::machine::Machine;
 use machine_model::ends::{EventEnd, SliceEnd};
 use os9_base::call::OutOfMemory;
 use os9_base::limits::LAST_TICK;
@@ -21,15 +21,14 @@ use os9_base::registers::Pid;
 use os9_outer::drive::BlockDriver;
 use os9_outer::terminal::CharDriver;
 use proc_state::choice::dispatch;
-use proc_state::state::ProcState;
 use time_rules::clock::Clock;
 
 /// The kernel and the processes that it runs.
 #[derive(Drop)]
 pub struct Kernel {
-    pub(crate) processes: ProcState,
-    /// Paths, terminals, pipes and the calls pending on them; volumes and directories.
-    pub(crate) files: FileState,
+    /// Its processes and files: paths, terminals and pipes with the calls pending on them, volumes
+    /// and directories.
+    pub(crate) machine: Machine,
     pub(crate) clock: Clock,
     /// The process that was chosen last, if one was Ready.
     pub(crate) chosen: Option<Pid>,
@@ -48,7 +47,7 @@ impl Kernel {
         ensures { (devices : Outside) (s : State) → Represents self.now devices s
             → result ≡ living_count s.processes }
     {
-        self.processes.living()
+        self.machine.processes.living()
     }
 
     /// The number of slices begun.
@@ -57,7 +56,7 @@ impl Kernel {
             → result ≡ s.processes.tick }
         ensures count { result ≡ ticks self.now }
     {
-        self.processes.tick
+        self.machine.processes.tick
     }
 
     /// Begins a slice: the tick, which is below 4,294,000,000, rises by 1, and the keys that are
@@ -75,8 +74,12 @@ impl Kernel {
         ensures terminals { vec_len devices.new.terms ≡ vec_len devices.old.terms }
         ensures drives { vec_len devices.new.drives ≡ vec_len devices.old.drives }
     {
-        self.processes.tick += 1;
-        match arrive_keys(&mut self.processes, &mut self.files.io, devices) {
+        self.machine.processes.tick += 1;
+        match arrive_keys(
+            &mut self.machine.processes,
+            &mut self.machine.files.io,
+            devices,
+        ) {
             Ok(true) => {
                 self.looked_until = 0;
                 self.known.marks = Marks::Everyone;
@@ -95,13 +98,13 @@ impl Kernel {
             × (option_map (λ p. p.0) result ≡ t.chosen) }
         ensures active { (devices : Outside) (s : State) → Represents self.old devices s
             → AreActiveAt
-            (files_may_go s.files s.processes.tick) s.processes.tick self.new.processes }
+            (files_may_go s.files s.processes.tick) s.processes.tick self.new.machine.processes }
         ensures going { IfSome result (λ p. IsGoing self.new) }
         ensures count { ticks self.new ≡ ticks self.old }
         ensures executed { executed self.new ≡ 0 }
     {
         self.look();
-        self.chosen = dispatch(&mut self.processes);
+        self.chosen = dispatch(&mut self.machine.processes);
         self.executed = 0;
         self.chosen
     }

@@ -1,6 +1,7 @@
 //! Attempts of calls that may load a file: F$Load, F$Fork and F$Chain.
 
 ghost use Rattle.std.specs.Prelude.{◌≡◌, ◌<◌, List, vec_len};
+ghost use Rattle.file_state.specs.Context.{seen};
 ghost use Rattle.os9_base.specs.declared.registers.TimePacket.{TimePacket};
 ghost use Rattle.proc_calls.specs.Telling.{LivesOn};
 ghost use Rattle.proc_rules.specs.Records.{IsLiving};
@@ -9,7 +10,7 @@ ghost use Rattle.file_rules.specs.Files.{Files};
 ghost use Rattle.file_state.specs.Tie.{IsSound, StandsFor};
 ghost use Rattle.machine_model.specs.Services.{service_of};
 ghost use Rattle.os9_kernel.specs.Calls.{HasEvent};
-ghost use Rattle.os9_kernel.specs.Loads.{LoadsOnEach, kernel_standing};
+ghost use Rattle.os9_kernel.specs.Loads.{LoadsOnEach};
 ghost use Rattle.os9_kernel.specs.Next.{DoesNext};
 ghost use Rattle.os9_kernel.specs.Outside.{OnDevices, outside};
 ghost use Rattle.os9_kernel.specs.Paths.{MayBegin, files_begun, number_in_a};
@@ -22,6 +23,7 @@ use crate::kernel::Kernel;
 use crate::marks::Marks;
 use crate::service::LoadCall;
 use device_table::devices::Devices;
+use io_state::requester::Requester;
 use load_calls::chain::f_chain;
 use load_calls::fork::f_fork;
 use load_calls::load::f_load;
@@ -61,22 +63,28 @@ impl Kernel {
     /// An attempt of the call. Its process does not have the result yet, and a child has no paths
     /// yet.
     fn try_load(&mut self, p: Pid, call: LoadCall, devices: &mut Devices) -> CallEnd
-        requires lives { IsLiving self.old.processes.table p.0 }
-        requires sound { IsSound self.old.files (drives_seen BlockDriver-box devices.old) }
+        requires lives { IsLiving self.old.machine.processes.table p.0 }
+        requires sound { IsSound self.old.machine.files (drives_seen BlockDriver-box devices.old) }
         ensures call { (now : TimePacket)
             → LoadsOnEach call now (vec_len devices.old.terms) p.0 result
-            (kernel_standing BlockDriver-box self.old devices.old)
-            (kernel_standing BlockDriver-box self.new devices.new) }
-        ensures lives { LivesOn result self.new.processes.table p.0 }
+            (seen BlockDriver-box self.old.machine devices.old)
+            (seen BlockDriver-box self.new.machine devices.new) }
+        ensures lives { LivesOn result self.new.machine.processes.table p.0 }
         ensures clock { self.new.clock ≡ self.old.clock }
         ensures chosen { self.new.chosen ≡ self.old.chosen }
         ensures executed { executed self.new ≡ executed self.old }
         ensures terms_kept { devices.new.terms ≡ devices.old.terms }
     {
+        // These calls set no date, so any time is right.
+        let by = Requester {
+            p,
+            regs: self.machine.processes.table.regs(p),
+            now: self.clock.from,
+        };
         match call {
-            LoadCall::Load => f_load(&mut self.processes, &mut self.files, p, devices),
-            LoadCall::Fork => f_fork(&mut self.processes, &mut self.files, p, devices),
-            LoadCall::Chain => f_chain(&mut self.processes, &mut self.files, p, devices),
+            LoadCall::Load => f_load(&mut self.machine, devices, by),
+            LoadCall::Fork => f_fork(&mut self.machine, devices, by),
+            LoadCall::Chain => f_chain(&mut self.machine, devices, by),
         }
     }
 
@@ -85,12 +93,13 @@ impl Kernel {
     fn begin(&mut self, p: Pid, call: LoadCall, end: CallEnd)
         requires process { p.0 < 33 }
         requires begins { call ≡ LoadCall.Fork → end ≡ CallEnd.Done
-            → IsLiving self.old.processes.table p.0
-            × MayBegin self.old.files.io (number_in_a self.old.processes.table p.0) }
+            → IsLiving self.old.machine.processes.table p.0
+            × MayBegin self.old.machine.files.io
+            (number_in_a self.old.machine.processes.table p.0) }
         ensures files { (views : List DriveView) (files : Files)
-            → StandsFor self.old.files views files → StandsFor self.new.files views
-            (files_begun call end files p.0 (number_in_a self.old.processes.table p.0)) }
-        ensures processes { self.new.processes ≡ self.old.processes }
+            → StandsFor self.old.machine.files views files → StandsFor self.new.machine.files views
+            (files_begun call end files p.0 (number_in_a self.old.machine.processes.table p.0)) }
+        ensures processes { self.new.machine.processes ≡ self.old.machine.processes }
         ensures clock { self.new.clock ≡ self.old.clock }
         ensures chosen { self.new.chosen ≡ self.old.chosen }
         ensures executed { executed self.new ≡ executed self.old }
@@ -98,7 +107,7 @@ impl Kernel {
         match (call, end) {
             (LoadCall::Fork, CallEnd::Done) => {
                 let child = Pid(self.number_in_a(p));
-                self.files.start(p, child);
+                self.machine.files.start(p, child);
             }
             (LoadCall::Fork, CallEnd::Error(_) | CallEnd::Wait | CallEnd::Ended | CallEnd::NoMemory)
             | (LoadCall::Load | LoadCall::Chain, _) => {}
@@ -107,10 +116,10 @@ impl Kernel {
 
     /// The number in A of a process.
     fn number_in_a(&self, p: Pid) -> u8
-        requires { IsLiving self.now.processes.table p.0 }
-        ensures number { result ≡ number_in_a self.now.processes.table p.0 }
+        requires { IsLiving self.now.machine.processes.table p.0 }
+        ensures number { result ≡ number_in_a self.now.machine.processes.table p.0 }
         ensures process { p.0 < 33 }
     {
-        self.processes.regs(p).a
+        self.machine.processes.regs(p).a
     }
 }

@@ -28,15 +28,15 @@ impl Kernel {
             → Represents self.new devices s }
         ensures active { (devices : Outside) (s : State) → Represents self.old devices s
             → AreActiveAt
-            (files_may_go s.files s.processes.tick) s.processes.tick self.new.processes }
+            (files_may_go s.files s.processes.tick) s.processes.tick self.new.machine.processes }
         ensures count { ticks self.new ≡ ticks self.old }
     {
-        let tick = self.processes.tick;
+        let tick = self.machine.processes.tick;
         if tick < self.looked_until {
             return;
         }
         self.known = self.asked();
-        settle(&mut self.processes, &self.known.ready);
+        settle(&mut self.machine.processes, &self.known.ready);
         self.looked_until = self.next_sleep().min(self.known.until);
     }
 
@@ -45,9 +45,9 @@ impl Kernel {
     /// everyone is marked, so that no attempt looks up whom it concerns.
     fn asked(&self) -> Known
         ensures may_go { IsKnown self.now → (p : ℕ) → p < 33
-            → has_io result.ready p ≡ may_go_in self.now.files (ticks self.now) p }
+            → has_io result.ready p ≡ may_go_in self.now.machine.files (ticks self.now) p }
         ensures waits { (p : ℕ) → p < 33 → EndsNotBefore (ticks self.now) result.until
-            (option_and_then (λ wait. wait.until) (awaited self.now.files p)) }
+            (option_and_then (λ wait. wait.until) (awaited self.now.machine.files p)) }
         ensures fits { result.until < 2 ^ 32 }
     {
         let mut ready = IoReady::none();
@@ -55,9 +55,9 @@ impl Kernel {
         let mut marks = Marks::Everyone;
         for number in 0..PROCESS_PLACES {
             let p = Pid(number);
-            let wait = self.files.waits_for(p);
+            let wait = self.machine.files.waits_for(p);
             ready = with(ready, p, self.goes(p, wait));
-            until = until.min(later(self.processes.tick, until_of(wait)));
+            until = until.min(later(self.machine.processes.tick, until_of(wait)));
             marks = marks_beside(marks, wait);
         }
         Known {
@@ -70,8 +70,9 @@ impl Kernel {
     /// May the call on a path of a process that waits for this go on in this tick?
     fn goes(&self, p: Pid, wait: Option<Wait>) -> bool
         requires process { p.0 < 33 }
-        requires waits { wait ≡ awaited self.now.files p.0 }
-        ensures { IsKnown self.now → result ≡ may_go_in self.now.files (ticks self.now) p.0 }
+        requires waits { wait ≡ awaited self.now.machine.files p.0 }
+        ensures { IsKnown self.now
+            → result ≡ may_go_in self.now.machine.files (ticks self.now) p.0 }
     {
         match wait {
             None => false,
@@ -90,27 +91,28 @@ impl Kernel {
         ensures early { result ≡ true → ticks self.now < self.now.known.until }
         ensures apart { result ≡ true → Concerns self.now.known.marks p.0 cause → ⊥ }
     {
-        self.processes.tick < self.known.until && !self.known.marks.concerns(p, cause)
+        self.machine.processes.tick < self.known.until && !self.known.marks.concerns(p, cause)
     }
 
     /// May the waiting call of a process on a path go on in this tick?
     fn may_go(&self, p: Pid) -> bool
         requires { p.0 < 33 }
-        ensures { result ≡ may_go_in self.now.files (ticks self.now) p.0 }
+        ensures { result ≡ may_go_in self.now.machine.files (ticks self.now) p.0 }
     {
-        self.files.io.may_go(p) || self.files.records.locks().may_go(p, self.processes.tick)
+        let files = &self.machine.files;
+        files.io.may_go(p) || files.records.locks().may_go(p, self.machine.processes.tick)
     }
 
     /// The next tick that ends a sleep, or the largest number if there is none.
     fn next_sleep(&self) -> u32
         ensures sleeps { (p : ℕ) → p < 33 → EndsNotBefore (ticks self.now) result
-            (slice_index_or self.now.processes.own.items p no_own).until }
+            (slice_index_or self.now.machine.processes.own.items p no_own).until }
         ensures fits { result < 2 ^ 32 }
     {
         let mut least = u32::MAX;
         for number in 0..PROCESS_PLACES {
-            let end = self.processes.own(Pid(number)).until;
-            least = least.min(later(self.processes.tick, end));
+            let end = self.machine.processes.own(Pid(number)).until;
+            least = least.min(later(self.machine.processes.tick, end));
         }
         least
     }

@@ -13,6 +13,7 @@ use cold_start::fault::StartFault;
 use cold_start::files::start_files;
 use cold_start::start;
 use device_table::devices::Devices;
+use file_state::machine::Machine;
 use machine_model::ends::BootFault;
 use os9_base::registers::TimePacket;
 use os9_outer::drive::BlockDriver;
@@ -81,8 +82,7 @@ impl Kernel {
                         since: 0,
                     };
                     Ok(Kernel {
-                        processes,
-                        files,
+                        machine: Machine { processes, files },
                         clock,
                         chosen: None,
                         executed: 0,

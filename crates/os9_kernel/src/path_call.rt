@@ -2,11 +2,9 @@
 
 ghost use Rattle.std.specs.Prelude.{◌≡◌, ◌<◌, ℕ, true, Some, IfSome, vec_len};
 ghost use Rattle.proc_calls.specs.Telling.{LivesOn, WaitsFor};
-ghost use Rattle.proc_state.specs.Tie.{Comes, Represents};
-ghost use Rattle.proc_rules.specs.Attempts.{after_attempt, attempt_end};
-ghost use Rattle.proc_rules.specs.CallResult.{CallResult};
+ghost use Rattle.proc_state.specs.Tie.{Represents};
 ghost use Rattle.proc_rules.specs.Processes.{Processes};
-ghost use Rattle.path_dispatch.specs.Dates.{sets_date as sets_date_model};
+ghost use Rattle.call_dispatch.specs.Dates.{sets_date as sets_date_model};
 ghost use Rattle.file_state.specs.Attempt.{records_settled};
 ghost use Rattle.machine_model.specs.Services.{on_paths, service_of};
 ghost use Rattle.file_rules.specs.Attempts.{asker_of};
@@ -14,7 +12,7 @@ ghost use Rattle.file_rules.specs.Files.{Asker};
 ghost use Rattle.io_model.specs.Path.{ArePaths};
 ghost use Rattle.os9_base.specs.declared.registers.TimePacket.{TimePacket as TimePacketModel};
 ghost use Rattle.os9_kernel.specs.Calls.{HasEvent};
-ghost use Rattle.os9_kernel.specs.Causes.{awaited};
+ghost use Rattle.os9_kernel.specs.Causes.{GivesEnd, awaited};
 ghost use Rattle.os9_kernel.specs.Marks.{Concerns, named_cause};
 ghost use Rattle.os9_kernel.specs.Next.{DoesNext};
 ghost use Rattle.os9_kernel.specs.Outside.{OnDevices, outside};
@@ -30,17 +28,18 @@ use crate::calls::event_end;
 use crate::kernel::Kernel;
 use crate::marks::Marks;
 use call_dispatch::clock::now;
+use call_dispatch::path_calls::{attempt, sets_date};
 use device_table::devices::Devices;
 use file_rules::path_call::PathCall;
 use io_model::path::Target;
 use io_rules::modes::STANDARD_ERROR;
+use io_state::requester::Requester;
 use machine_model::ends::EventEnd;
 use os9_base::call::CallEnd;
 use os9_base::registers::{Pid, Regs, TimePacket};
 use os9_outer::drive::BlockDriver;
 use os9_outer::terminal::CharDriver;
 use os9_sched::{Cause, Wait};
-use path_dispatch::calls::{attempt, sets_date};
 use proc_calls::telling::tell;
 use record_locks::records::Records;
 
@@ -70,9 +69,13 @@ impl Kernel {
         ensures drives { vec_len devices.new.drives ≡ vec_len devices.old.drives }
     {
         self.known.marks = self.marks_with(p, call);
-        let time = self.time_for(call);
-        let end = attempt(&mut self.processes, &mut self.files, p, call, time, devices);
-        forget_request(&mut self.files.records, p, end);
+        let by = Requester {
+            p,
+            regs: self.machine.processes.table.regs(p),
+            now: self.time_for(call),
+        };
+        let end = attempt(&mut self.machine, devices, by, call);
+        forget_request(&mut self.machine.files.records, p, end);
         self.tell_end(p, end);
         self.looked_until = 0;
         event_end(end)
@@ -81,19 +84,21 @@ impl Kernel {
     /// The marks, and whom an attempt of this call of a process concerns. The path of the call is
     /// looked up only if not everyone is marked.
     fn marks_with(&self, p: Pid, call: PathCall) -> Marks
-        requires { IsLiving self.now.processes.table p.0 }
+        requires { IsLiving self.now.machine.processes.table p.0 }
         ensures kept { (q : ℕ) (cause : CauseModel) → Concerns self.now.known.marks q cause
             → Concerns result q cause }
         ensures own { (cause : CauseModel) → Concerns result p.0 cause }
         ensures waiters { (m : Processes) (now : TimePacketModel) (q : ℕ) (cause : CauseModel)
-            → Represents self.now.processes m
-            → named_cause self.now.files.io p.0 (number_in_model call (asker_of m p.0 now))
+            → Represents self.now.machine.processes m
+            → named_cause self.now.machine.files.io p.0 (number_in_model call (asker_of m p.0 now))
             ≡ Some cause
             → Concerns result q cause }
-        ensures paths { ArePaths self.now.files.io.paths }
+        ensures paths { ArePaths self.now.machine.files.io.paths }
     {
         // Each path that a number names is there.
-        prove!(self.files.io.pending(p).is_none() || self.files.io.pending(p).is_some());
+        prove!(
+            self.machine.files.io.pending(p).is_none() || self.machine.files.io.pending(p).is_some()
+        );
         match self.known.marks {
             Marks::Everyone => Marks::Everyone,
             Marks::Nobody | Marks::Waiters { .. } => {
@@ -104,24 +109,25 @@ impl Kernel {
 
     /// What calls wait for on the path that a call of a process names by its number.
     fn cause_named(&self, p: Pid, call: PathCall) -> Option<Cause>
-        requires { IsLiving self.now.processes.table p.0 }
-        ensures is { (m : Processes) (now : TimePacketModel) → Represents self.now.processes m
-            → result ≡ named_cause self.now.files.io p.0
+        requires { IsLiving self.now.machine.processes.table p.0 }
+        ensures is { (m : Processes) (now : TimePacketModel)
+            → Represents self.now.machine.processes m
+            → result ≡ named_cause self.now.machine.files.io p.0
             (number_in_model call (asker_of m p.0 now)) }
     {
-        let number = number_in(call, self.processes.regs(p));
-        let (_, desc) = self.files.io.open_path(p, number)?;
+        let number = number_in(call, self.machine.processes.regs(p));
+        let (_, desc) = self.machine.files.io.open_path(p, number)?;
         cause_on(desc.target)
     }
 
     /// The time for a call that sets a date. For any other call, any time is right.
     fn time_for(&self, call: PathCall) -> TimePacket
-        requires { IsClock self.now.clock self.now.processes.tick }
+        requires { IsClock self.now.clock self.now.machine.processes.tick }
         ensures { sets_date_model call ≡ true
-            → IsNow self.now.clock self.now.processes.tick result }
+            → IsNow self.now.clock self.now.machine.processes.tick result }
     {
         if sets_date(call) {
-            now(&self.clock, self.processes.tick)
+            now(&self.clock, self.machine.processes.tick)
         } else {
             self.clock.from
         }
@@ -130,30 +136,30 @@ impl Kernel {
     /// Gives a process the result of its call, if it lives. If it waits, it waits on what its path
     /// was opened on; if it does not, no cause is needed.
     pub(crate) fn tell_end(&mut self, p: Pid, end: CallEnd)
-        requires lives { LivesOn end self.old.processes.table p.0 }
+        requires lives { LivesOn end self.old.machine.processes.table p.0 }
         requires process { p.0 < 33 }
-        ensures told { (m : Processes) (call : CallResult) → Comes m p.0 call end self.old.processes
-            → Represents self.new.processes (after_attempt m p.0 call) × (end ≡ attempt_end call) }
-        ensures lives { LivesOn end self.new.processes.table p.0 }
-        ensures waits { end ≡ CallEnd.Wait → IfSome (awaited self.old.files p.0)
-            (λ wait. WaitsFor self.old.processes self.new.processes p.0 wait) }
-        ensures files { self.new.files ≡ self.old.files }
+        ensures told { GivesEnd end p.0 self.old.machine.processes self.new.machine.processes }
+        ensures lives { LivesOn end self.new.machine.processes.table p.0 }
+        ensures waits { end ≡ CallEnd.Wait → IfSome (awaited self.old.machine.files p.0) (λ wait.
+            WaitsFor self.old.machine.processes self.new.machine.processes p.0 wait) }
+        ensures files { self.new.machine.files ≡ self.old.machine.files }
         ensures known { self.new.known ≡ self.old.known }
         ensures clock { self.new.clock ≡ self.old.clock }
         ensures chosen { self.new.chosen ≡ self.old.chosen }
         ensures executed { executed self.new ≡ executed self.old }
     {
         let wait = self.wait_at(p, end);
-        tell(&mut self.processes, p, end, wait);
+        tell(&mut self.machine.processes, p, end, wait);
     }
 
     /// What a process waits for, if its call ended so that it waits.
     fn wait_at(&self, p: Pid, end: CallEnd) -> Wait
         requires { p.0 < 33 }
-        ensures { end ≡ CallEnd.Wait → IfSome (awaited self.now.files p.0) (λ wait. result ≡ wait) }
+        ensures { end ≡ CallEnd.Wait → IfSome (awaited self.now.machine.files p.0)
+            (λ wait. result ≡ wait) }
     {
         match end {
-            CallEnd::Wait => self.files.waits_for(p).unwrap_or(NO_WAIT),
+            CallEnd::Wait => self.machine.files.waits_for(p).unwrap_or(NO_WAIT),
             CallEnd::Done | CallEnd::Error(_) | CallEnd::Ended | CallEnd::NoMemory => NO_WAIT,
         }
     }

@@ -21,20 +21,20 @@ use proc_rules::own::Own;
 impl Kernel {
     /// A process has executed a system call with this code.
     pub(crate) fn begin_call(&mut self, p: Pid, code: u8)
-        requires lives { IsLiving self.old.processes.table p.0 }
-        ensures tied { (m : Processes) → Represents self.old.processes m
-            → Represents self.new.processes
+        requires lives { IsLiving self.old.machine.processes.table p.0 }
+        ensures tied { (m : Processes) → Represents self.old.machine.processes m
+            → Represents self.new.machine.processes
             (with_own m p.0 (record (own_at m p.0) { call = Some code })) }
         ensures chosen { self.new.chosen ≡ self.old.chosen }
-        ensures records { self.new.processes.table ≡ self.old.processes.table }
-        ensures count { self.new.processes.tick ≡ self.old.processes.tick }
+        ensures records { self.new.machine.processes.table ≡ self.old.machine.processes.table }
+        ensures count { self.new.machine.processes.tick ≡ self.old.machine.processes.tick }
         ensures executed { executed self.new ≡ executed self.old }
         ensures known { self.new.known ≡ self.old.known }
-        ensures files { self.new.files ≡ self.old.files }
+        ensures files { self.new.machine.files ≡ self.old.machine.files }
         ensures clock { self.new.clock ≡ self.old.clock }
     {
-        let own = self.processes.own(p);
-        self.processes.set_own(
+        let own = self.machine.processes.own(p);
+        self.machine.processes.set_own(
             p,
             Own {
                 call: Some(code),
@@ -46,39 +46,39 @@ impl Kernel {
     /// Breaks off the call of a process that waits on a terminal or a pipe or for a record, if it
     /// does: Y has what the call has moved, if it answers a count.
     pub(crate) fn break_off(&mut self, p: Pid)
-        requires lives { IsLiving self.old.processes.table p.0 }
-        ensures tied { (m : Processes) → Represents self.old.processes m → Represents
-            self.new.processes (broken_off m p.0 (interrupted_count self.old.files.io p.0)) }
-        ensures files { (views : List DriveView) (files : Files)
-            → StandsFor self.old.files views files
-            → StandsFor self.new.files views (files_interrupted files p.0) }
+        requires lives { IsLiving self.old.machine.processes.table p.0 }
+        ensures tied { (m : Processes) → Represents self.old.machine.processes m → Represents
+            self.new.machine.processes (broken_off m p.0 (interrupted_count
+            self.old.machine.files.io p.0)) }
+        ensures files { (views : List DriveView) (files : Files) → StandsFor self.old.machine.files
+            views files → StandsFor self.new.machine.files views (files_interrupted files p.0) }
         ensures clock { self.new.clock ≡ self.old.clock }
         ensures chosen { self.new.chosen ≡ self.old.chosen }
-        ensures lives { IsLiving self.new.processes.table p.0 }
+        ensures lives { IsLiving self.new.machine.processes.table p.0 }
         ensures executed { executed self.new ≡ executed self.old }
-        ensures signal { (record_at self.new.processes.table p.0).signal
-            ≡ (record_at self.old.processes.table p.0).signal }
+        ensures signal { (record_at self.new.machine.processes.table p.0).signal ≡ (record_at
+            self.old.machine.processes.table p.0).signal }
     {
-        let regs = self.processes.regs(p);
-        if let Some(y) = self.files.interrupt(p) {
-            self.processes.set_regs(p, Regs { y, ..regs });
+        let regs = self.machine.processes.regs(p);
+        if let Some(y) = self.machine.files.interrupt(p) {
+            self.machine.processes.set_regs(p, Regs { y, ..regs });
         }
     }
 
     /// A process ends with this status, its paths are closed, and it no longer has a directory.
     pub(crate) fn end_process(&mut self, p: Pid, status: u8)
-        requires lives { IsLiving self.old.processes.table p.0 }
+        requires lives { IsLiving self.old.machine.processes.table p.0 }
         requires process { p.0 < 33 }
-        ensures tied { (m : Processes) → Represents self.old.processes m
-            → Represents self.new.processes (ended m p.0 status) }
+        ensures tied { (m : Processes) → Represents self.old.machine.processes m
+            → Represents self.new.machine.processes (ended m p.0 status) }
         ensures files { (views : List DriveView) (files : Files)
-            → StandsFor self.old.files views files
-            → StandsFor self.new.files views (files_ended files p.0) }
+            → StandsFor self.old.machine.files views files
+            → StandsFor self.new.machine.files views (files_ended files p.0) }
         ensures clock { self.new.clock ≡ self.old.clock }
         ensures chosen { self.new.chosen ≡ self.old.chosen }
         ensures executed { executed self.new ≡ executed self.old }
     {
-        self.processes.end(p, status);
-        self.files.end(p);
+        self.machine.processes.end(p, status);
+        self.machine.files.end(p);
     }
 }

@@ -25,7 +25,7 @@ impl Kernel {
         ensures progress { result ≡ EventEnd.Ran → pending self.new < pending self.old }
         ensures executed { executed self.new ≡ executed self.old }
     {
-        let end = attempt(&mut self.processes, &mut self.clock, p, call);
+        let end = attempt(&mut self.machine.processes, &mut self.clock, p, call);
         self.tell_end(p, end);
         self.looked_until = 0;
         event_end(end)

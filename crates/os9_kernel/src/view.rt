@@ -41,9 +41,9 @@ impl Kernel {
         ensures { (devices : Outside) (s : State) → Represents self.now devices s
             → result ≡ living_regs s.processes p.0 }
     {
-        match self.processes.table.life(p) {
+        match self.machine.processes.table.life(p) {
             None | Some(Life::Ended(_)) => None,
-            Some(_) => Some(self.processes.regs(p)),
+            Some(_) => Some(self.machine.processes.regs(p)),
         }
     }
 
@@ -53,7 +53,7 @@ impl Kernel {
         ensures { (devices : Outside) (s : State) → Represents self.now devices s
             → result ≡ user_cell (cells_at s.processes p.0) at }
     {
-        self.processes.memory.byte(p, at, 0)
+        self.machine.processes.memory.byte(p, at, 0)
     }
 
     /// The history of reads and writes under record locks, oldest entry first. Each read for update
@@ -63,7 +63,7 @@ impl Kernel {
             → result.now ≡ s.files.records.history }
         ensures atomic { AtomicPairs result.now }
     {
-        self.files.records.history()
+        self.machine.files.records.history()
     }
 
     /// The record locks with their history, of a kernel that is not used any more.
@@ -71,7 +71,7 @@ impl Kernel {
         ensures { (devices : Outside) (s : State) → Represents self devices s
             → result ≡ s.files.records }
     {
-        let files = self.files;
+        let files = self.machine.files;
         files.records
     }
 
@@ -82,7 +82,7 @@ impl Kernel {
         ensures { (devices : Outside) (s : State) → Represents self.now devices s
             → result ≡ wakes_by_clock_model s p.0 }
     {
-        self.sleeps_by_clock(p) || has_limit(self.files.records.locks().request_of(p))
+        self.sleeps_by_clock(p) || has_limit(self.machine.files.records.locks().request_of(p))
     }
 
     /// Does a process sleep until a tick that is set?
@@ -91,8 +91,8 @@ impl Kernel {
         ensures { (devices : Outside) (s : State) → Represents self.now devices s
             → result ≡ sleeps_by_clock_model s.processes p.0 }
     {
-        let waits = matches!(self.processes.table.life(p), Some(Life::Waiting));
-        let own = self.processes.own(p);
+        let waits = matches!(self.machine.processes.table.life(p), Some(Life::Waiting));
+        let own = self.machine.processes.own(p);
         waits && is_call(own.call, F_SLEEP) && own.until.is_some()
     }
 }

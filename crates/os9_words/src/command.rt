@@ -40,6 +40,16 @@ pub struct RunWords {
     pub history: Option<Word>,
 }
 
+// The words for a machine that runs programs: the files with the keys of its terminals and with its
+// slices, the number of its memory blocks, and its date and time at the start.
+#[derive(Clone, Copy)]
+struct MachineWords<'a> {
+    script: Option<&'a str>,
+    slices: &'a str,
+    blocks: u16,
+    start: TimePacket,
+}
+
 /// A command line.
 #[derive(Debug, Drop)]
 pub enum Command {
@@ -260,7 +270,13 @@ pub(crate) fn run_given(alloc: Global, given: &GivenWords<'_>) -> Result<RunWord
     else {
         return Err(WordsFault::Refused);
     };
-    match run_words(alloc, modules, given.value("script"), slices, blocks, start) {
+    let machine = MachineWords {
+        script: given.value("script"),
+        slices,
+        blocks,
+        start,
+    };
+    match run_words(alloc, modules, machine) {
         Ok(run) => Ok(run),
         Err(_) => Err(WordsFault::OutOfMemory),
     }
@@ -284,7 +300,13 @@ fn boot_of(alloc: Global, given: &GivenWords<'_>) -> Result<Command, WordsFault>
     if !has_images(given) {
         return Err(WordsFault::Refused);
     }
-    match boot_words(alloc, given, script, slices, blocks, start) {
+    let machine = MachineWords {
+        script: Some(script),
+        slices,
+        blocks,
+        start,
+    };
+    match boot_words(alloc, given, machine) {
         Ok(boot) => Ok(Command::Boot(boot)),
         Err(_) => Err(WordsFault::OutOfMemory),
     }
@@ -301,26 +323,23 @@ fn has_images(given: &GivenWords<'_>) -> bool
 fn boot_words(
     alloc: Global,
     given: &GivenWords<'_>,
-    script: &str,
-    slices: &str,
-    blocks: u16,
-    start: TimePacket,
+    machine: MachineWords<'_>,
 ) -> Result<RunWords, AllocError>
     ensures { IfOk result (λ run. run ≡ record {
       files = take most_images given.now.arguments;
-      script = Some script.now;
-      slices = slices.now;
-      blocks = blocks;
-      start = start;
+      script = option_map (λ script. script.now) machine.entry.script;
+      slices = machine.entry.slices.now;
+      blocks = machine.entry.blocks;
+      start = machine.entry.start;
       history = value_of given.now (codes "history");
     }) }
 {
     Ok(RunWords {
         files: image_words(alloc, given)?,
-        script: Some(Word::copy_of(alloc, script)?),
-        slices: Word::copy_of(alloc, slices)?,
-        blocks,
-        start,
+        script: copy_if_given(alloc, machine.script)?,
+        slices: Word::copy_of(alloc, machine.slices)?,
+        blocks: machine.blocks,
+        start: machine.start,
         history: copy_if_given(alloc, given.value("history"))?,
     })
 }
@@ -372,27 +391,24 @@ fn stress_of(given: &GivenWords<'_>) -> Result<Command, WordsFault>
 fn run_words(
     alloc: Global,
     modules: &str,
-    script: Option<&str>,
-    slices: &str,
-    blocks: u16,
-    start: TimePacket,
+    machine: MachineWords<'_>,
 ) -> Result<RunWords, AllocError>
     ensures { IfOk result (λ run. run ≡ record {
       files = modules.now ∷ [];
-      script = option_map (λ script. script.now) script.entry;
-      slices = slices.now;
-      blocks = blocks;
-      start = start;
+      script = option_map (λ script. script.now) machine.entry.script;
+      slices = machine.entry.slices.now;
+      blocks = machine.entry.blocks;
+      start = machine.entry.start;
       history = None;
     }) }
 {
     let modules = Word::copy_of(alloc, modules)?;
     Ok(RunWords {
         files: Words::one(alloc, modules)?,
-        script: copy_if_given(alloc, script)?,
-        slices: Word::copy_of(alloc, slices)?,
-        blocks,
-        start,
+        script: copy_if_given(alloc, machine.script)?,
+        slices: Word::copy_of(alloc, machine.slices)?,
+        blocks: machine.blocks,
+        start: machine.start,
         history: None,
     })
 }

@@ -6,7 +6,7 @@ ghost use Rattle.rbf_access.specs.Mounted.{IsMounted, Represents};
 ghost use Rattle.rbf_alloc.specs.Grown.{Grows, OnVolume, AreTaken, NoFault, growth_calls};
 
 use crate::marks::write_marks;
-use crate::returned::give_back;
+use crate::returned::{ClusterRange, give_back};
 use crate::taken::gain;
 use os9_outer::drive::BlockDriver;
 use rbf_access::{FileFault, Volume};
@@ -47,12 +47,15 @@ pub fn grow(
     }
     let k = volume.ident.cluster;
     let longer = gain(&mut volume.map, k, segs, count)?;
-    let first = segs.sectors();
+    let gained = ClusterRange {
+        first: segs.sectors(),
+        count,
+    };
     let mut written = [false; 256];
-    match write_marks(volume, d, &longer, first, count, &mut written) {
+    match write_marks(volume, d, &longer, gained, &mut written) {
         Ok(()) => Ok(longer),
         Err(fault) => {
-            give_back(&mut volume.map, k, &longer, first, count, &written);
+            give_back(&mut volume.map, k, &longer, gained, &written);
             Err(fault)
         }
     }

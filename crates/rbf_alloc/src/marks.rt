@@ -8,37 +8,36 @@ ghost use Rattle.rbf_access.specs.Mounted.{kept, IsSound};
 ghost use Rattle.rbf_alloc.specs.Gained.{ArePlaces, AreSizes, is_written, clusters_from};
 ghost use Rattle.rbf_alloc.specs.Marked.{WritesMapSector, MarksMore, IsMarking, AllWritten, AreWanted, unwritten};
 
-use crate::returned::cluster_of;
+use crate::returned::{ClusterRange, cluster_of};
 use os9_outer::drive::BlockDriver;
 use rbf_access::{FileFault, Volume};
 use rbf_segs::Segs;
 
 // Writes the sectors of the map that have a mark of these clusters, each once.
 pub fn write_marks(
-    volume: &mut Volume,
+    v: &mut Volume,
     d: &mut dyn BlockDriver,
     segs: &Segs,
-    first: u32,
-    count: u32,
+    range: ClusterRange,
     written: &mut [bool; 256],
 ) -> Result<(), FileFault>
-    requires marking { IsMarking (kept volume.old) (media d.old) written.old }
-    requires places { ArePlaces volume.old.ident.cluster volume.old.map segs.now first count }
-    requires cached { IsCacheOf (media d.old) volume.old.cache }
-    ensures on { MarksMore (media d.old) (media d.new) (kept volume.old) written.old written.new }
-    ensures all { OnOk result
-        (AllWritten (clusters_from volume.old.ident.cluster segs.now first count) written.new) }
+    requires marking { IsMarking (kept v.old) (media d.old) written.old }
+    requires places { ArePlaces v.old.ident.cluster v.old.map segs.now range.first range.count }
+    requires cached { IsCacheOf (media d.old) v.old.cache }
+    ensures on { MarksMore (media d.old) (media d.new) (kept v.old) written.old written.new }
+    ensures all { OnOk result (AllWritten (clusters_from v.old.ident.cluster segs.now range.first
+        range.count) written.new) }
     ensures device { OnErr result (IsSome (file_fault result)) }
-    ensures volume_kept { kept volume.new ≡ kept volume.old }
-    ensures cached { IsCacheOf (media d.new) volume.new.cache }
-    ensures counts { (wanted : ℕ → Bool) (n : ℕ)
-        → AreWanted volume.old.ident.cluster segs.now first count wanted n → Counts BlockDriver-dyn
-        (file_fault result) (min count (unwritten wanted written.old n)) d.old d.new }
+    ensures volume_kept { kept v.new ≡ kept v.old }
+    ensures cached { IsCacheOf (media d.new) v.new.cache }
+    ensures counts { (wanted : ℕ → Bool) (n : ℕ) → AreWanted v.old.ident.cluster segs.now
+        range.first range.count wanted n → Counts BlockDriver-dyn (file_fault result) (min
+        range.count (unwritten wanted written.old n)) d.old d.new }
 {
-    let k = volume.ident.cluster;
-    for i in 0..count {
-        let cluster = cluster_of(segs, k, first + i * u32::from(k));
-        write_mark(volume, d, cluster, written)?;
+    let k = v.ident.cluster;
+    for i in 0..range.count {
+        let cluster = cluster_of(segs, k, range.first + i * u32::from(k));
+        write_mark(v, d, cluster, written)?;
     }
     Ok(())
 }

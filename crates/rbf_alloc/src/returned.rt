@@ -5,22 +5,23 @@ ghost use Rattle.rbf_alloc.specs.Gained.{AreSizes, ArePlaces, ReturnsOne, IsGive
 use rbf_map::RbfMap;
 use rbf_segs::Segs;
 
-/// Gives clusters back to a map: those of `count` places, a cluster's sectors apart, from `first`
-/// on, except those with their mark in a sector of the map that was written.
-pub fn give_back(
-    map: &mut RbfMap,
-    k: u16,
-    segs: &Segs,
-    first: u32,
-    count: u32,
-    written: &[bool; 256],
-)
+/// Clusters that follow one another in a list of segments: the place of the first one's first
+/// sector, and their number.
+#[derive(Clone, Copy)]
+pub struct ClusterRange {
+    pub first: u32,
+    pub count: u32,
+}
+
+/// Gives gained clusters back to a map, except those with their mark in a sector of the map that
+/// was written.
+pub fn give_back(map: &mut RbfMap, k: u16, segs: &Segs, range: ClusterRange, written: &[bool; 256])
     requires sizes { AreSizes k map.old }
-    requires places { ArePlaces k map.old segs.now first count }
-    ensures { IsGivenBack k segs.now first count written.now map.old map.new }
+    requires places { ArePlaces k map.old segs.now range.first range.count }
+    ensures { IsGivenBack k segs.now range.first range.count written.now map.old map.new }
 {
-    for i in 0..count {
-        let cluster = cluster_of(segs, k, first + i * u32::from(k));
+    for i in 0..range.count {
+        let cluster = cluster_of(segs, k, range.first + i * u32::from(k));
         return_one(map, cluster, written);
     }
 }

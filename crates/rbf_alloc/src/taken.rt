@@ -6,7 +6,7 @@ ghost use Rattle.rbf_map.specs.Runs.{is_clear};
 ghost use Rattle.rbf_access.specs.Faults.{file_fault};
 ghost use Rattle.rbf_alloc.specs.Gained.{AreSizes, AreApart, SameMap, last_cluster, GainsOne, IsOneFull, IsChosenGain, IsTooMany};
 
-use crate::returned::give_back;
+use crate::returned::{ClusterRange, give_back};
 use rbf_access::FileFault;
 use rbf_map::RbfMap;
 use rbf_segs::{Segs, SegsFull};
@@ -40,7 +40,11 @@ pub fn gain(map: &mut RbfMap, k: u16, segs: &Segs, count: u32) -> Result<Segs, F
         match gain_one(map, k, &mut longer, count - taken) {
             Ok(()) => {}
             Err(_full) => {
-                give_back(map, k, &longer, first, taken, &[false; 256]);
+                let gained = ClusterRange {
+                    first,
+                    count: taken,
+                };
+                give_back(map, k, &longer, gained, &[false; 256]);
                 return Err(FileFault::TooManyRuns);
             }
         }

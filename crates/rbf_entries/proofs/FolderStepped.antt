@@ -58,14 +58,15 @@ no_place m0 m1 same d name attr user now e answer v file on is = by_error e (ans
 
 -- a place that was found by a search to read
 pub reading_place : (media : Option (List ℕ)) (name : List ℕ) (found : NewPlace) → IsPlaceFor media name found
-    → found.execute ≡ false → OnFile media found.dir.number (λ file. AnswersPlace file name found.user false (Ok found.place))
-reading_place media name found place reading v file on is = subst (λ x. IsNewPlace file name found.user x found.place) reading (place.new v file on is)
+    → found.by.execute ≡ false → OnFile media found.dir.number (λ file. AnswersPlace file name found.by.user false (Ok found.place))
+reading_place media name found place reading v file on is = subst (λ x. IsNewPlace file name found.by.user x found.place) reading (place.new v file on is)
 
 -- the parent's number is one of a sector
 pub parent_low : (media : Option (List ℕ)) (d : ℕ) → HasFile media d → d < 16777216
 parent_low media d has = number_below_all media has.content has.on d has.file has.is
 
-module _ (m0 : Option (List ℕ)) (d place : ℕ) (name : List ℕ) (attr user : ℕ) (now : TimePacket) (has : HasFile m0 d) (found : OnFile m0 d (λ file. AnswersPlace file name user false (Ok place))) where
+module _ (m0 : Option (List ℕ)) (d place : ℕ) (name : List ℕ) (attr user : ℕ) (now : TimePacket) (has : HasFile m0 d)
+    (found : OnFile m0 d (λ file. AnswersPlace file name user false (Ok place))) where
   spot : IsNewPlace has.file name user false place
   spot = found has.content has.file has.on has.is
 
@@ -214,7 +215,7 @@ module _ (m0 : Option (List ℕ)) (d place : ℕ) (name : List ℕ) (attr user :
 module _ (m0 m1 : Option (List ℕ)) (same : m1 ≡ m0) (d : ℕ) (name : List ℕ) (user : ℕ) (found : NewPlace) (is : IsFoundFor m0 d user false found) where
   pub answer_there : (attr : ℕ) (now : TimePacket) (r : Result ℕ FileFault) (m2 : Option (List ℕ))
       → ((v : DiskVolume) (file : DiskFile) → Represents m1 v → v.files found.dir.number ≡ Some file
-      → AnswersEntering v file (folder_request found.dir.number name attr found.user now) m1 m2 (widened r))
+      → AnswersEntering v file (folder_request found.dir.number name attr found.by.user now) m1 m2 (widened r))
       → Answered m0 m2 d name attr user now (widened r)
   answer_there attr now r m2 = asked m0 m1 same d name user false found is (λ m n u x v file. AnswersEntering v file (folder_request n name attr u now) m m2 (widened r))
 

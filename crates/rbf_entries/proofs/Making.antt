@@ -13,7 +13,7 @@ use Rattle.os9_base.specs.declared.registers.TimePacket.{TimePacket}
 use Rattle.os9_outer.specs.Drive.{sector_count, with_sector}
 use Rattle.rbf_model.specs.Fields.{segments_field, size_field}
 use Rattle.rbf_model.specs.File.{DiskFile, file_at, file_from, is_directory, segment_bytes}
-use Rattle.rbf_model.specs.Geometry.{Geometry, IsNumber, LieWithin, geometry, image_geometry, is_within, sector, map_sectors}
+use Rattle.rbf_model.specs.Geometry.{Geometry, LieWithin, geometry, image_geometry, is_within, sector, map_sectors}
 use Rattle.rbf_model.specs.Laws.{IsUnseen, idle, IsReady}
 use Rattle.rbf_model.specs.Segments.{AreDistinct, has, sectors_of}
 use Rattle.rbf_model.specs.Space.{is_marked, is_whole, own_sectors, has_cluster}

@@ -208,7 +208,7 @@ module _ (m0 : Option (List ℕ)) (d place : ℕ) (name : List ℕ) (attr user :
 module _ (m0 m1 : Option (List ℕ)) (same : m1 ≡ m0) (d : ℕ) (name : List ℕ) (user : ℕ) (execute : Bool) (found : NewPlace) (is : IsFoundFor m0 d user execute found) where
   pub answer_there : (attr : ℕ) (now : TimePacket) (r : Result ℕ FileFault) (m2 : Option (List ℕ))
       → ((v : DiskVolume) (file : DiskFile) → Represents m1 v → v.files found.dir.number ≡ Some file
-      → AnswersEntering v file (request found.dir.number name attr found.user found.execute now) m1 m2 (widened r))
+      → AnswersEntering v file (request found.dir.number name attr found.by.user found.by.execute now) m1 m2 (widened r))
       → Answered m0 m2 d name attr user execute now (widened r)
   answer_there attr now r m2 = asked m0 m1 same d name user execute found is (λ m n u x v file. AnswersEntering v file (request n name attr u x now) m m2 (widened r))
 

@@ -20,6 +20,7 @@ use Rattle.rbf_access.specs.Mounted.{Represents}
 use Rattle.rbf_access.specs.declared.faults.FileFault.{FileFault}
 use Rattle.rbf_access.specs.declared.faults.FileFault.TheVariants.{Device, NoCluster, TooManyRuns}
 use Rattle.rbf_entries.specs.Rooms.{HasRoom}
+use Rattle.rbf_entries.specs.declared.place.NewPlace.{NewPlace}
 
 -- an entry that is written into a place of a directory, at a time
 pub record EntryWrite : Type 0 where
@@ -27,6 +28,11 @@ pub record EntryWrite : Type 0 where
   pub place : ℕ
   pub entry : List ℕ
   pub now : TimePacket
+
+-- this entry, at the place that was found for it
+abbrev pub entry_at : NewPlace → List ℕ → TimePacket → EntryWrite
+entry_at found entry now =
+    record { directory = found.dir.number; place = found.place; entry = entry; now = now }
 
 -- the place of a new entry in directory d, and the entry of a new file, which is on the disk, by a name that is not in
 -- the directory

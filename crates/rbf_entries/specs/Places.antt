@@ -39,14 +39,14 @@ AnswersPlace dir name user execute (Err (File TooManyRuns)) = ⊥
 -- the place was found in directory d for a user, and the directory's descriptor has been read
 pub record IsFoundFor (media : Option (List ℕ)) (d user : ℕ) (execute : Bool) (found : NewPlace) : Type 0 where
   pub read : IsLoaded media d found.dir
-  pub user_is : found.user ≡ user
-  pub execute_is : found.execute ≡ execute
+  pub user_is : found.by.user ≡ user
+  pub execute_is : found.by.execute ≡ execute
 
 -- it is a place of its directory, in which its user may enter the name
 pub record IsPlaceFor (media : Option (List ℕ)) (name : List ℕ) (found : NewPlace) : Type 0 where
   pub file : HasFile media found.dir.number
   pub read : IsLoaded media found.dir.number found.dir
-  pub new : OnFile media found.dir.number (λ file. IsNewPlace file name found.user found.execute found.place)
+  pub new : OnFile media found.dir.number (λ file. IsNewPlace file name found.by.user found.by.execute found.place)
 
 -- the place that was found
 abbrev pub place_found : Result NewPlace DirError → Result ℕ DirError

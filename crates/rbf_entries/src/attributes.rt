@@ -17,6 +17,15 @@ use rbf_access::{FileFault, Volume};
 use rbf_sector::{Fd, read_fd};
 use rbf_walk::DirError;
 
+/// A change of attributes that is asked for: the new attributes, the user who asks, and the
+/// date.
+#[derive(Clone, Copy, Debug)]
+pub struct NewAttributes {
+    pub attr: u8,
+    pub user: u16,
+    pub date: TimePacket,
+}
+
 /// Sets the attributes of a file or directory (SS.Attr, this project's own argument): bit 7, its
 /// kind, is unchanged, and the date of its last change is `now`.
 ///
@@ -59,28 +68,26 @@ pub fn set_attr(
     v: &mut Volume,
     d: &mut dyn BlockDriver,
     fd: u32,
-    attr: u8,
-    user: u16,
-    now: TimePacket,
+    asked: NewAttributes,
 ) -> Result<(), DirError>
     requires mounted { IsMounted v.old (media d.old) }
     requires file { HasFile (media d.old) fd }
     ensures ok { OnOk result (Becomes (media d.old) (media d.new) (λ old new.
-        SetsAttributes old new fd attr now)) }
-    ensures answer { OnFile (media d.old) fd (λ file. AnswersOwner file user result) }
+        SetsAttributes old new fd asked.attr asked.date)) }
+    ensures answer { OnFile (media d.old) fd (λ file. AnswersOwner file asked.user result) }
     ensures written { OnOk result (media d.new
-        ≡ with_new_attributes (media d.old) fd attr now) }
+        ≡ with_new_attributes (media d.old) fd asked.attr asked.date) }
     ensures media_kept { OnErr result (media d.new ≡ media d.old) }
     ensures mounted { IsMounted v.new (media d.new) }
     ensures volume_kept { kept v.new ≡ kept v.old }
     ensures counts { OnFile (media d.old) fd (λ file. Counts BlockDriver-dyn
-        (directory_fault result) (attribute_calls file user) d.old d.new) }
+        (directory_fault result) (attribute_calls file asked.user) d.old d.new) }
 {
     let mut bytes = v.load(d, fd)?;
-    if !owns(&read_fd(&bytes), user) {
+    if !owns(&read_fd(&bytes), asked.user) {
         return Err(DirError::NotAllowed);
     }
-    put_attributes(&mut bytes, attr, now);
+    put_attributes(&mut bytes, asked.attr, asked.date);
     v.store(d, fd, &bytes)?;
     Ok(())
 }

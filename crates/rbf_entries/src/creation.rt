@@ -7,13 +7,11 @@ ghost use Rattle.rbf_entries.specs.Entering.{AnswersEntering, entering_calls};
 ghost use Rattle.rbf_entries.specs.Places.{place_calls};
 ghost use Rattle.rbf_entries.specs.Creating.{request};
 
-use crate::find_place;
 use crate::placed::create_at;
-use os9_base::name::Name;
-use os9_base::registers::TimePacket;
+use crate::{NewFile, find_place};
 use os9_outer::drive::BlockDriver;
 use rbf_access::Volume;
-use rbf_walk::DirError;
+use rbf_walk::{DirError, Searcher};
 
 /// Creates a file without contents in a directory, for a user, and returns the number of its
 /// descriptor (OS-9 Technical Reference, I$Create). Its entry is put into the first free place of
@@ -32,24 +30,22 @@ pub fn create(
     v: &mut Volume,
     d: &mut dyn BlockDriver,
     dir: u32,
-    name: &Name,
-    attr: u8,
-    user: u16,
-    execute: bool,
-    now: TimePacket,
+    file: &NewFile,
+    by: Searcher,
 ) -> Result<u32, DirError>
     requires mounted { IsMounted v.old (media d.old) }
     requires file { HasFile (media d.old) dir }
-    requires attributes { attr < 128 }
-    ensures answer { OnVolumeFile (media d.old) dir (λ on file. AnswersEntering on file
-        (request dir name.now attr user execute now) (media d.old) (media d.new) result) }
+    requires attributes { file.now.attr < 128 }
+    ensures answer { OnVolumeFile (media d.old) dir (λ on folder. AnswersEntering on folder
+        (request dir file.now.name file.now.attr by.user by.execute file.now.date)
+        (media d.old) (media d.new) result) }
     ensures mounted { IsMounted v.new (media d.new) }
-    ensures counts { OnVolumeFile (media d.old) dir (λ on file.
+    ensures counts { OnVolumeFile (media d.old) dir (λ on folder.
         Counts BlockDriver-dyn (directory_fault result)
-        (place_calls file name.now user execute + entering_calls on file 2 result)
+        (place_calls folder file.now.name by.user by.execute + entering_calls on folder 2 result)
         d.old d.new) }
 {
-    let found = find_place(v, d, dir, name, user, execute)?;
-    let n = create_at(v, d, &found, name, attr, now)?;
+    let found = find_place(v, d, dir, &file.name, by)?;
+    let n = create_at(v, d, &found, file)?;
     Ok(n)
 }

@@ -14,7 +14,7 @@ use os9_base::name::Name;
 use os9_outer::drive::BlockDriver;
 use rbf_access::Volume;
 use rbf_sector::Fd;
-use rbf_walk::{DirError, Searched, is_open, may, search};
+use rbf_walk::{DirError, Searched, Searcher, is_open, may, search};
 
 const WRITE: u8 = 2;
 
@@ -42,13 +42,12 @@ pub fn delete_name(
     d: &mut dyn BlockDriver,
     dir: u32,
     name: &Name,
-    user: u16,
-    execute: bool,
+    by: Searcher,
 ) -> Result<Deletable, DirError>
     requires mounted { IsMounted v.old (media d.old) }
     requires file { HasFile (media d.old) dir }
     ensures answer { OnVolumeFile (media d.old) dir (λ on file. AnswersWalk
-        (deletion_end on.files file name.now user execute) (descriptor_found result)) }
+        (deletion_end on.files file name.now by.user by.execute) (descriptor_found result)) }
     ensures ok { OnOk result (Becomes (media d.old) (media d.new) (λ old new.
         FreesName old new dir name.now)) }
     ensures written { IfOk result (FreesOn (media d.old) (media d.new) dir name.now) }
@@ -56,9 +55,9 @@ pub fn delete_name(
     ensures mounted { IsMounted v.new (media d.new) }
     ensures volume_kept { kept v.new ≡ kept v.old }
     ensures counts { OnVolumeFile (media d.old) dir (λ on f. Counts BlockDriver-dyn
-        (directory_fault result) (freeing_calls on f name.now user execute) d.old d.new) }
+        (directory_fault result) (freeing_calls on f name.now by.user by.execute) d.old d.new) }
 {
-    let found = find_deletable(v, d, dir, name, user, execute)?;
+    let found = find_deletable(v, d, dir, name, by)?;
     free_entry(v, d, &found)?;
     Ok(found)
 }
@@ -78,29 +77,28 @@ pub fn find_deletable(
     d: &mut dyn BlockDriver,
     dir: u32,
     name: &Name,
-    user: u16,
-    execute: bool,
+    by: Searcher,
 ) -> Result<Deletable, DirError>
     requires mounted { IsMounted v.old (media d.old) }
     requires file { HasFile (media d.old) dir }
     ensures answer { OnVolumeFile (media d.old) dir (λ on file. AnswersWalk
-        (deletion_end on.files file name.now user execute) (descriptor_found result)) }
+        (deletion_end on.files file name.now by.user by.execute) (descriptor_found result)) }
     ensures ok { IfOk result (IsDeletable (media d.old) dir name.now) }
     ensures mounted { IsMounted v.new (media d.new) }
     ensures media_kept { media d.new ≡ media d.old }
     ensures volume_kept { kept v.new ≡ kept v.old }
     ensures counts { OnFile (media d.old) dir (λ file. Counts BlockDriver-dyn
-        (directory_fault result) (deletion_calls file name.now user execute) d.old d.new) }
+        (directory_fault result) (deletion_calls file name.now by.user by.execute) d.old d.new) }
 {
     let fd = v.fd(d, dir)?;
-    if !may_change(&fd, user, execute) {
+    if !may_change(&fd, by) {
         return Err(DirError::NotAllowed);
     }
     match search(v, d, &fd, name)? {
         Searched::Absent { .. } => Err(DirError::NotFound),
         Searched::Found { place, descriptor } => {
             let file = v.fd(d, descriptor)?;
-            if !may_delete(&file, user) {
+            if !may_delete(&file, by.user) {
                 return Err(DirError::NotAllowed);
             }
             let lsn = fd.segs.lsn_of(place / 8).unwrap();
@@ -115,10 +113,11 @@ pub fn find_deletable(
 }
 
 // Whether it is a directory that a user may search and change.
-fn may_change(fd: &Fd, user: u16, execute: bool) -> bool
-    ensures { (file : DiskFile) → IsFdOf file fd.now → result ≡ model.may_change file user execute }
+fn may_change(fd: &Fd, by: Searcher) -> bool
+    ensures { (file : DiskFile) → IsFdOf file fd.now
+        → result ≡ model.may_change file by.user by.execute }
 {
-    is_open(fd, user, execute) && may(fd, user, WRITE)
+    is_open(fd, by) && may(fd, by.user, WRITE)
 }
 
 // Whether it is a file, not a directory, that a user may delete.

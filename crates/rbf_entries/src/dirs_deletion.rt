@@ -12,7 +12,7 @@ use crate::found::delete_at;
 use os9_base::name::Name;
 use os9_outer::drive::BlockDriver;
 use rbf_access::Volume;
-use rbf_walk::DirError;
+use rbf_walk::{DirError, Searcher};
 
 /// Deletes a file by its name in a directory, for a user (OS-9 Technical Reference, I$Delete): its
 /// entry is made free, and then its clusters are. It makes at most these calls of the drive: those
@@ -30,23 +30,22 @@ pub fn delete(
     d: &mut dyn BlockDriver,
     dir: u32,
     name: &Name,
-    user: u16,
-    execute: bool,
+    by: Searcher,
 ) -> Result<(), DirError>
     requires mounted { IsMounted v.old (media d.old) }
     requires file { HasFile (media d.old) dir }
     ensures answer { OnVolumeFile (media d.old) dir (λ on file.
-        AnswersDeletion (deletion_end on.files file name.now user execute) result) }
+        AnswersDeletion (deletion_end on.files file name.now by.user by.execute) result) }
     ensures ok { (on : DiskVolume) → Represents (media d.old) on
         → OnOk result (IsDeletedBy on dir name.now (media d.old) (media d.new)) }
-    ensures fault { (on : DiskVolume) → Represents (media d.old) on
-        → OnErr result (DeletionStops on dir name.now user execute (media d.old) (media d.new)) }
+    ensures fault { (on : DiskVolume) → Represents (media d.old) on → OnErr result (DeletionStops on
+        dir name.now by.user by.execute (media d.old) (media d.new)) }
     ensures refused { OnErr result (IsNone (directory_fault result) → media d.new ≡ media d.old) }
     ensures mounted { IsMounted v.new (media d.new) }
     ensures counts { OnVolumeFile (media d.old) dir (λ on f. Counts BlockDriver-dyn
-        (directory_fault result) (deletion_total on f name.now user execute) d.old d.new) }
+        (directory_fault result) (deletion_total on f name.now by.user by.execute) d.old d.new) }
 {
-    let found = find_deletable(v, d, dir, name, user, execute)?;
+    let found = find_deletable(v, d, dir, name, by)?;
     delete_at(v, d, &found)?;
     Ok(())
 }

@@ -7,14 +7,14 @@ ghost use Rattle.rbf_access.specs.Reading.{OnVolumeFile};
 ghost use Rattle.rbf_entries.specs.Entries.{MayFill};
 ghost use Rattle.rbf_write.specs.Files.{IsLoaded};
 ghost use Rattle.rbf_entries.specs.Entering.{entry_calls};
-ghost use Rattle.rbf_entries.specs.NewEntry.{MayEnter, AnswersEntry};
+ghost use Rattle.rbf_entries.specs.NewEntry.{MayEnter, AnswersEntry, entry_at};
 
+use crate::NewPlace;
 use crate::append::append_entry;
 use crate::sector::put_entry;
 use os9_base::registers::TimePacket;
 use os9_outer::drive::BlockDriver;
 use rbf_access::{FileFault, Volume};
-use rbf_write::Loaded;
 
 /// Writes the entry of a new file into its place in a directory whose descriptor has been read: the
 /// first free place, or the one after the last entry, for which the directory may gain a cluster.
@@ -27,26 +27,24 @@ use rbf_write::Loaded;
 pub fn enter_file(
     v: &mut Volume,
     d: &mut dyn BlockDriver,
-    dir: &Loaded,
-    place: u32,
+    found: &NewPlace,
     entry: &[u8; 32],
     now: TimePacket,
 ) -> Result<(), FileFault>
     requires mounted { IsMounted v.old (media d.old) }
-    requires read { IsLoaded (media d.old) dir.now.number dir.now }
-    requires place { MayEnter (media d.old) dir.now.number place entry.now }
-    ensures answer { OnVolumeFile (media d.old) dir.now.number (λ on file. AnswersEntry on file
-        (record { directory = dir.now.number; place = place; entry = entry.now; now = now })
-        (media d.old) (media d.new) result) }
+    requires read { IsLoaded (media d.old) found.now.dir.number found.now.dir }
+    requires place { MayEnter (media d.old) found.now.dir.number found.now.place entry.now }
+    ensures answer { OnVolumeFile (media d.old) found.now.dir.number (λ on file. AnswersEntry on
+        file (entry_at found.now entry.now now) (media d.old) (media d.new) result) }
     ensures device { OnErr result (IsSome (file_fault result)) }
     ensures mounted { IsMounted v.new (media d.new) }
-    ensures counts { OnVolumeFile (media d.old) dir.now.number (λ on file.
+    ensures counts { OnVolumeFile (media d.old) found.now.dir.number (λ on file.
         Counts BlockDriver-dyn (file_fault result) (entry_calls on file) d.old d.new) }
 {
-    if place < dir.file.size / 32 {
-        fill_place(v, d, dir, place, entry)
+    if found.place < found.dir.file.size / 32 {
+        fill_place(v, d, found, entry)
     } else {
-        append_entry(v, d, dir, place, entry, now)
+        append_entry(v, d, found, entry, now)
     }
 }
 
@@ -54,21 +52,19 @@ pub fn enter_file(
 fn fill_place(
     v: &mut Volume,
     d: &mut dyn BlockDriver,
-    dir: &Loaded,
-    place: u32,
+    found: &NewPlace,
     entry: &[u8; 32],
 ) -> Result<(), FileFault>
     requires mounted { IsMounted v.old (media d.old) }
-    requires read { IsLoaded (media d.old) dir.now.number dir.now }
-    requires place { MayFill (media d.old) dir.now.number place entry.now }
-    ensures answer { (now : TimePacket) → OnVolumeFile (media d.old) dir.now.number (λ on file.
-        AnswersEntry on file
-        (record { directory = dir.now.number; place = place; entry = entry.now; now = now })
-        (media d.old) (media d.new) result) }
+    requires read { IsLoaded (media d.old) found.now.dir.number found.now.dir }
+    requires place { MayFill (media d.old) found.now.dir.number found.now.place entry.now }
+    ensures answer { (now : TimePacket) → OnVolumeFile (media d.old) found.now.dir.number (λ on
+        file. AnswersEntry on file (entry_at found.now entry.now now) (media d.old) (media d.new)
+        result) }
     ensures device { OnErr result (IsSome (file_fault result)) }
     ensures mounted { IsMounted v.new (media d.new) }
     ensures counts { Counts BlockDriver-dyn (file_fault result) 2 d.old d.new }
 {
-    let lsn = dir.file.segs.lsn_of(place / 8).unwrap();
-    put_entry(v, d, lsn, place, entry)
+    let lsn = found.dir.file.segs.lsn_of(found.place / 8).unwrap();
+    put_entry(v, d, lsn, found.place, entry)
 }

@@ -15,6 +15,16 @@ use rbf_access::{FileFault, Volume};
 use rbf_alloc::grow;
 use rbf_segs::Segs;
 
+/// A directory that is to be made, before it has a name: its attributes, its owner, the number of
+/// its parent's descriptor and the date of its creation.
+#[derive(Clone, Copy, Debug)]
+pub struct NewFolder {
+    pub attr: u8,
+    pub owner: u16,
+    pub parent: u32,
+    pub date: TimePacket,
+}
+
 /// Makes a directory without a name in a parent directory, and returns the number of its
 /// descriptor, which is the first sector of a free cluster. The directory holds two entries, `..`
 /// and `.`; their sector is the next one, or a cluster of its own if clusters have one sector. The
@@ -28,15 +38,13 @@ use rbf_segs::Segs;
 pub fn create_folder(
     volume: &mut Volume,
     d: &mut dyn BlockDriver,
-    attr: u8,
-    owner: u16,
-    parent: u32,
-    now: TimePacket,
+    folder: NewFolder,
 ) -> Result<u32, FileFault>
     requires mounted { IsMounted volume.old (media d.old) }
-    requires parent { parent < 16777216 }
+    requires parent { folder.parent < 16777216 }
     ensures makes { (v : DiskVolume) → Represents (media d.old) v
-        → MakesFolder v parent (directory_plan attr owner now parent)
+        → MakesFolder v folder.parent
+        (directory_plan folder.attr folder.owner folder.date folder.parent)
         (media d.old) (media d.new) result }
     ensures refused { OnErr result (IsNone (file_fault result) → media d.new ≡ media d.old) }
     ensures mounted { IsMounted volume.new (media d.new) }
@@ -48,8 +56,13 @@ pub fn create_folder(
     let space = grow(volume, d, &Segs::empty(), new_clusters(k))?;
     let n = space.lsn_of(0).unwrap();
     let first = space.lsn_of(1).unwrap();
-    volume.store(d, first, &listing(n, parent))?;
-    let file = new_directory(attr, owner, &now, first_segs(k, first));
+    volume.store(d, first, &listing(n, folder.parent))?;
+    let file = new_directory(
+        folder.attr,
+        folder.owner,
+        &folder.date,
+        first_segs(k, first),
+    );
     volume.store(d, n, &descriptor(&file))?;
     Ok(n)
 }

@@ -9,14 +9,12 @@ ghost use Rattle.rbf_entries.specs.Places.{IsPlaceFor, place_calls};
 ghost use Rattle.rbf_entries.specs.Asked.{folder_request};
 ghost use Rattle.rbf_entries.specs.FolderMade.{folder_calls};
 
-use crate::folder::create_folder;
+use crate::folder::{NewFolder, create_folder};
 use crate::folder_parts::new_clusters;
-use crate::{NewPlace, check_room, enter_file, find_place, new_entry};
-use os9_base::name::Name;
-use os9_base::registers::TimePacket;
+use crate::{NewFile, NewPlace, check_room, enter_file, find_place, new_entry};
 use os9_outer::drive::BlockDriver;
 use rbf_access::{FileFault, Volume};
-use rbf_walk::DirError;
+use rbf_walk::{DirError, Searcher};
 
 /// Makes a directory in another one, for a user, and returns the number of its descriptor (OS-9
 /// Technical Reference, I$MakDir). Its entry is put into the first free place of its parent, or
@@ -36,23 +34,26 @@ pub fn make_dir(
     v: &mut Volume,
     d: &mut dyn BlockDriver,
     dir: u32,
-    name: &Name,
-    attr: u8,
+    file: &NewFile,
     user: u16,
-    now: TimePacket,
 ) -> Result<u32, DirError>
     requires mounted { IsMounted v.old (media d.old) }
     requires file { HasFile (media d.old) dir }
-    ensures answer { OnVolumeFile (media d.old) dir (λ on file. AnswersEntering on file
-        (folder_request dir name.now attr user now) (media d.old) (media d.new) result) }
+    ensures answer { OnVolumeFile (media d.old) dir (λ on parent. AnswersEntering on parent
+        (folder_request dir file.now.name file.now.attr user file.now.date)
+        (media d.old) (media d.new) result) }
     ensures mounted { IsMounted v.new (media d.new) }
-    ensures counts { OnVolumeFile (media d.old) dir (λ on file.
+    ensures counts { OnVolumeFile (media d.old) dir (λ on parent.
         Counts BlockDriver-dyn (directory_fault result)
-        (place_calls file name.now user false
-        + entering_calls on file (folder_calls on (media d.new) result) result) d.old d.new) }
+        (place_calls parent file.now.name user false
+        + entering_calls on parent (folder_calls on (media d.new) result) result) d.old d.new) }
 {
-    let found = find_place(v, d, dir, name, user, false)?;
-    let n = make_dir_at(v, d, &found, name, attr, now)?;
+    let by = Searcher {
+        user,
+        execute: false,
+    };
+    let found = find_place(v, d, dir, &file.name, by)?;
+    let n = make_dir_at(v, d, &found, file)?;
     Ok(n)
 }
 
@@ -67,25 +68,29 @@ pub fn make_dir_at(
     v: &mut Volume,
     d: &mut dyn BlockDriver,
     found: &NewPlace,
-    name: &Name,
-    attr: u8,
-    now: TimePacket,
+    file: &NewFile,
 ) -> Result<u32, FileFault>
     requires mounted { IsMounted v.old (media d.old) }
-    requires place { IsPlaceFor (media d.old) name.now found.now }
-    requires reading { found.now.execute ≡ false }
-    ensures answer { OnVolumeFile (media d.old) found.now.dir.number (λ on file. AnswersEntering on
-        file (folder_request found.now.dir.number name.now attr found.now.user now)
-        (media d.old) (media d.new) (widened result)) }
+    requires place { IsPlaceFor (media d.old) file.now.name found.now }
+    requires reading { found.now.by.execute ≡ false }
+    ensures answer { OnVolumeFile (media d.old) found.now.dir.number (λ on parent. AnswersEntering
+        on parent (folder_request found.now.dir.number file.now.name file.now.attr found.now.by.user
+        file.now.date) (media d.old) (media d.new) (widened result)) }
     ensures mounted { IsMounted v.new (media d.new) }
-    ensures counts { OnVolumeFile (media d.old) found.now.dir.number (λ on file.
+    ensures counts { OnVolumeFile (media d.old) found.now.dir.number (λ on parent.
         Counts BlockDriver-dyn (file_fault result)
-        (entering_calls on file (folder_calls on (media d.new) result) (widened result))
+        (entering_calls on parent (folder_calls on (media d.new) result) (widened result))
         d.old d.new) }
 {
     let clusters = new_clusters(v.ident.cluster);
     check_room(v, &found.dir.file, found.place, clusters)?;
-    let n = create_folder(v, d, attr, found.user, found.dir.number, now)?;
-    enter_file(v, d, &found.dir, found.place, &new_entry(name, n), now)?;
+    let folder = NewFolder {
+        attr: file.attr,
+        owner: found.by.user,
+        parent: found.dir.number,
+        date: file.date,
+    };
+    let n = create_folder(v, d, folder)?;
+    enter_file(v, d, found, &new_entry(&file.name, n), file.date)?;
     Ok(n)
 }

@@ -12,7 +12,7 @@ use os9_base::name::Name;
 use os9_outer::drive::BlockDriver;
 use rbf_access::Volume;
 use rbf_sector::Fd;
-use rbf_walk::{DirError, Searched, is_open, may, search};
+use rbf_walk::{DirError, Searched, Searcher, is_open, may, search};
 use rbf_write::{Loaded, load_file};
 
 const WRITE: u8 = 2;
@@ -23,8 +23,7 @@ const WRITE: u8 = 2;
 pub struct NewPlace {
     pub dir: Loaded,
     pub place: u32,
-    pub user: u16,
-    pub execute: bool,
+    pub by: Searcher,
 }
 
 /// Finds the place in a directory of a new entry with a name, for a user: the first free one, or
@@ -43,25 +42,24 @@ pub fn find_place(
     d: &mut dyn BlockDriver,
     dir: u32,
     name: &Name,
-    user: u16,
-    execute: bool,
+    by: Searcher,
 ) -> Result<NewPlace, DirError>
     requires mounted { IsMounted v.old (media d.old) }
     requires file { HasFile (media d.old) dir }
     ensures answer { OnFile (media d.old) dir (λ file.
-        AnswersPlace file name.now user execute (place_found result)) }
-    ensures read { IfOk result (IsFoundFor (media d.old) dir user execute) }
+        AnswersPlace file name.now by.user by.execute (place_found result)) }
+    ensures read { IfOk result (IsFoundFor (media d.old) dir by.user by.execute) }
     ensures mounted { IsMounted v.new (media d.new) }
     ensures media_kept { media d.new ≡ media d.old }
     ensures volume_kept { kept v.new ≡ kept v.old }
     ensures counts { OnFile (media d.old) dir (λ file. Counts BlockDriver-dyn
-        (directory_fault result) (place_calls file name.now user execute) d.old d.new) }
+        (directory_fault result) (place_calls file name.now by.user by.execute) d.old d.new) }
 {
     if is_dots(name) {
         return Err(DirError::BadPath);
     }
     let loaded = load_file(v, d, dir)?;
-    if !may_change(&loaded.file, user, execute) {
+    if !may_change(&loaded.file, by) {
         return Err(DirError::NotAllowed);
     }
     match search(v, d, &loaded.file, name)? {
@@ -69,8 +67,7 @@ pub fn find_place(
         Searched::Absent { free } => Ok(NewPlace {
             dir: loaded,
             place: free,
-            user,
-            execute,
+            by,
         }),
     }
 }
@@ -88,8 +85,9 @@ fn is_dots(name: &Name) -> bool
 }
 
 // Whether it is a directory that a user may search and change.
-fn may_change(fd: &Fd, user: u16, execute: bool) -> bool
-    ensures { (file : DiskFile) → IsFdOf file fd.now → result ≡ model.may_change file user execute }
+fn may_change(fd: &Fd, by: Searcher) -> bool
+    ensures { (file : DiskFile) → IsFdOf file fd.now
+        → result ≡ model.may_change file by.user by.execute }
 {
-    is_open(fd, user, execute) && may(fd, user, WRITE)
+    is_open(fd, by) && may(fd, by.user, WRITE)
 }

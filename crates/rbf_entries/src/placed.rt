@@ -7,9 +7,7 @@ ghost use Rattle.rbf_entries.specs.Entering.{AnswersEntering, entering_calls, wi
 ghost use Rattle.rbf_entries.specs.Places.{IsPlaceFor};
 ghost use Rattle.rbf_entries.specs.Creating.{request};
 
-use crate::{NewPlace, check_room, create_fd, enter_file, new_entry};
-use os9_base::name::Name;
-use os9_base::registers::TimePacket;
+use crate::{NewFile, NewPlace, check_room, create_fd, enter_file, new_entry};
 use os9_outer::drive::BlockDriver;
 use rbf_access::{FileFault, Volume};
 
@@ -28,23 +26,21 @@ pub fn create_at(
     v: &mut Volume,
     d: &mut dyn BlockDriver,
     found: &NewPlace,
-    name: &Name,
-    attr: u8,
-    now: TimePacket,
+    file: &NewFile,
 ) -> Result<u32, FileFault>
     requires mounted { IsMounted v.old (media d.old) }
-    requires place { IsPlaceFor (media d.old) name.now found.now }
-    requires attributes { attr < 128 }
-    ensures answer { OnVolumeFile (media d.old) found.now.dir.number (λ on file. AnswersEntering on
-        file (request found.now.dir.number name.now attr found.now.user found.now.execute now)
-        (media d.old) (media d.new) (widened result)) }
+    requires place { IsPlaceFor (media d.old) file.now.name found.now }
+    requires attributes { file.now.attr < 128 }
+    ensures answer { OnVolumeFile (media d.old) found.now.dir.number (λ on dir. AnswersEntering on
+        dir (request found.now.dir.number file.now.name file.now.attr found.now.by.user
+        found.now.by.execute file.now.date) (media d.old) (media d.new) (widened result)) }
     ensures mounted { IsMounted v.new (media d.new) }
-    ensures counts { OnVolumeFile (media d.old) found.now.dir.number (λ on file.
+    ensures counts { OnVolumeFile (media d.old) found.now.dir.number (λ on dir.
         Counts BlockDriver-dyn (file_fault result)
-        (entering_calls on file 2 (widened result)) d.old d.new) }
+        (entering_calls on dir 2 (widened result)) d.old d.new) }
 {
     check_room(v, &found.dir.file, found.place, 1)?;
-    let n = create_fd(v, d, attr, found.user, now)?;
-    enter_file(v, d, &found.dir, found.place, &new_entry(name, n), now)?;
+    let n = create_fd(v, d, file.attr, found.by.user, file.date)?;
+    enter_file(v, d, found, &new_entry(&file.name, n), file.date)?;
     Ok(n)
 }

@@ -5,7 +5,7 @@
 pub use directory::{Searched, search};
 pub use error::DirError;
 pub use path::walk;
-pub use permission::{is_open, may};
+pub use permission::{Searcher, is_open, may};
 
 mod directory;
 mod error;

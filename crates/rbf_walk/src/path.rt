@@ -6,7 +6,7 @@ ghost use Rattle.rbf_walk.specs.Walk.{OnVolume, AnswersWalk, directory_fault, st
 
 use crate::directory::{Searched, search};
 use crate::error::DirError;
-use crate::permission::is_open;
+use crate::permission::{Searcher, is_open};
 use os9_base::name::Name;
 use os9_outer::drive::BlockDriver;
 use rbf_access::Volume;
@@ -24,23 +24,22 @@ pub fn walk(
     d: &mut dyn BlockDriver,
     from: u32,
     names: &[Name],
-    user: u16,
-    execute: bool,
+    by: Searcher,
 ) -> Result<u32, DirError>
     requires mounted { IsMounted v.old (media d.old) }
     requires file { HasFile (media d.old) from }
     ensures walked { OnVolume (media d.old) (λ on.
-        AnswersWalk (model.walk on.files user execute from names.now) result) }
+        AnswersWalk (model.walk on.files by.user by.execute from names.now) result) }
     ensures file { IfOk result (HasFile (media d.old)) }
     ensures mounted { IsMounted v.new (media d.new) }
     ensures media_kept { media d.new ≡ media d.old }
     ensures volume_kept { kept v.new ≡ kept v.old }
-    ensures counts { OnVolume (media d.old) (λ on. Counts BlockDriver-dyn
-        (directory_fault result) (walk_calls on.files user execute from names.now) d.old d.new) }
+    ensures counts { OnVolume (media d.old) (λ on. Counts BlockDriver-dyn (directory_fault result)
+        (walk_calls on.files by.user by.execute from names.now) d.old d.new) }
 {
     let mut at = from;
     for name in names {
-        at = step(v, d, at, name, user, execute)?;
+        at = step(v, d, at, name, by)?;
     }
     Ok(at)
 }
@@ -51,22 +50,21 @@ fn step(
     d: &mut dyn BlockDriver,
     dir: u32,
     name: &Name,
-    user: u16,
-    execute: bool,
+    by: Searcher,
 ) -> Result<u32, DirError>
     requires mounted { IsMounted v.old (media d.old) }
     requires file { HasFile (media d.old) dir }
     ensures walked { OnVolume (media d.old) (λ on.
-        AnswersWalk (model.step (on.files dir) user execute name.now) result) }
+        AnswersWalk (model.step (on.files dir) by.user by.execute name.now) result) }
     ensures file { IfOk result (HasFile (media d.old)) }
     ensures mounted { IsMounted v.new (media d.new) }
     ensures media_kept { media d.new ≡ media d.old }
     ensures volume_kept { kept v.new ≡ kept v.old }
-    ensures counts { OnVolume (media d.old) (λ on. Counts BlockDriver-dyn
-        (directory_fault result) (step_calls (on.files dir) user execute name.now) d.old d.new) }
+    ensures counts { OnVolume (media d.old) (λ on. Counts BlockDriver-dyn (directory_fault result)
+        (step_calls (on.files dir) by.user by.execute name.now) d.old d.new) }
 {
     let fd = v.fd(d, dir)?;
-    if !is_open(&fd, user, execute) {
+    if !is_open(&fd, by) {
         return Err(DirError::NotAllowed);
     }
     match search(v, d, &fd, name)? {

@@ -16,6 +16,7 @@ use Rattle.rbf_change.specs.Tidy.{KeepsMapEnd, KeepsListEnd}
 use Rattle.rbf_access.specs.declared.faults.FileFault.{FileFault}
 use Rattle.rbf_access.specs.declared.faults.FileFault.TheVariants.{Device, NoCluster, TooManyRuns}
 use Rattle.rbf_access.specs.Mounted.{Represents}
+use Rattle.rbf_write.specs.declared.new_bytes.NewBytes.{NewBytes}
 
 -- bytes that are laid over file n from a place on, at a time
 pub record Laying : Type 0 where
@@ -24,8 +25,8 @@ pub record Laying : Type 0 where
   pub bytes : List ℕ
   pub now : TimePacket
 
-abbrev pub laying_of : ℕ → ℕ → List ℕ → TimePacket → Laying
-laying_of n at bytes now = record { number = n; at = at; bytes = bytes; now = now }
+abbrev pub laying_of : ℕ → NewBytes → Laying
+laying_of n write = record { number = n; at = write.at; bytes = write.bytes.now; now = write.now }
 
 -- the resulting contents
 abbrev pub laid_contents : List ℕ → Laying → List ℕ

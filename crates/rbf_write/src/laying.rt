@@ -9,19 +9,16 @@ ghost use Rattle.rbf_write.specs.Laying.{AnswersLaying, laying_of};
 ghost use Rattle.rbf_write.specs.Outcomes.{IsRefusal, OnMarked, laying_calls};
 
 use crate::clusters::clusters_for;
-use crate::loaded::Loaded;
+use crate::new_fields::{NewFields, store_fields};
 use crate::resized::resize;
-use crate::{fill, minute, with_descriptor};
-use os9_base::registers::TimePacket;
+use crate::{FileData, Loaded, NewBytes, fill};
 use os9_outer::drive::BlockDriver;
 use rbf_access::{FileFault, Volume};
 use rbf_alloc::grow;
-use rbf_sector::Fd;
-use rbf_segs::Segs;
 
-/// Lays bytes over those of a file from `at` on, with zeros between its end and that place. The
-/// file gains the clusters that it needs, then its sectors are written upwards, and its descriptor
-/// is written last, if its size has changed.
+/// Lays bytes over those of a file, with zeros between its end and their place. The file gains the
+/// clusters that it needs, then its sectors are written upwards, and its descriptor is written
+/// last, if its size has changed.
 ///
 /// # Errors
 ///
@@ -30,31 +27,34 @@ pub fn lay_over(
     volume: &mut Volume,
     d: &mut dyn BlockDriver,
     loaded: &Loaded,
-    at: u32,
-    from: &[u8],
-    now: TimePacket,
+    write: NewBytes<'_>,
 ) -> Result<(), FileFault>
     requires mounted { IsMounted volume.old (media d.old) }
     requires file { HasDataFile (media d.old) loaded.now.number }
     requires loaded { IsLoaded (media d.old) loaded.now.number loaded.now }
-    requires some { min loaded.now.file.size at < at + length from.now }
+    requires some { min loaded.now.file.size write.at < write.at + length write.bytes.now }
     ensures answer { OnVolumeFile (media d.old) loaded.now.number (λ v file. AnswersLaying v file
-        (laying_of loaded.now.number at from.now now) (media d.old) (media d.new) result) }
+        (laying_of loaded.now.number write.entry) (media d.old) (media d.new) result) }
     ensures calls_kept { OnErr result (IsRefusal result → drive_calls d.new ≡ drive_calls d.old) }
     ensures mounted { IsMounted volume.new (media d.new) }
     ensures counts { OnMarked (media d.old) (media d.new) loaded.now.number result (λ v file marks.
         Counts BlockDriver-dyn (file_fault result)
-        (laying_calls v file marks at (at + length from.now)) d.old d.new) }
+        (laying_calls v file marks write.entry.at
+        (write.entry.at + length write.entry.bytes.now)) d.old d.new) }
 {
-    let end = at as usize + from.len();
+    let end = write.at as usize + write.bytes.len();
     let Some(count) = clusters_for(volume.ident.cluster, &loaded.file.segs, end) else {
         return Err(FileFault::NoCluster);
     };
     if count != 0 {
-        return lay_longer(volume, d, loaded, count, at, from, now);
+        return lay_longer(volume, d, loaded, count, write);
     }
-    fill(volume, d, &loaded.file.segs, loaded.file.size, at, from)?;
-    resize(volume, d, loaded, end as u32, now)?;
+    let file = FileData {
+        segs: &loaded.file.segs,
+        size: loaded.file.size,
+    };
+    fill(volume, d, file, write)?;
+    resize(volume, d, loaded, end as u32, write.now)?;
     Ok(())
 }
 
@@ -64,62 +64,59 @@ fn lay_longer(
     d: &mut dyn BlockDriver,
     loaded: &Loaded,
     count: u32,
-    at: u32,
-    from: &[u8],
-    now: TimePacket,
+    write: NewBytes<'_>,
 ) -> Result<(), FileFault>
     requires mounted { IsMounted volume.old (media d.old) }
     requires loaded { IsLoadedFile (media d.old) loaded.now }
-    requires some { min loaded.now.file.size at < at + length from.now }
-    requires count { IsClusterCount
-        volume.old.ident.cluster loaded.now.file.segs (at + length from.now) count }
+    requires some { min loaded.now.file.size write.at < write.at + length write.bytes.now }
+    requires count { IsClusterCount volume.old.ident.cluster loaded.now.file.segs (write.at + length
+        write.bytes.now) count }
     ensures answer { OnVolumeFile (media d.old) loaded.now.number (λ v file. AnswersLaying v file
-        (laying_of loaded.now.number at from.now now) (media d.old) (media d.new) result) }
+        (laying_of loaded.now.number write.entry) (media d.old) (media d.new) result) }
     ensures calls_kept { OnErr result (IsRefusal result → drive_calls d.new ≡ drive_calls d.old) }
     ensures mounted { IsMounted volume.new (media d.new) }
     ensures counts { OnMarked (media d.old) (media d.new) loaded.now.number result (λ v file marks.
-        Counts BlockDriver-dyn (file_fault result)
-        (laying_calls v file marks at (at + length from.now)) d.old d.new) }
+        Counts BlockDriver-dyn (file_fault result) (laying_calls v file marks write.entry.at
+        (write.entry.at + length write.entry.bytes.now)) d.old d.new) }
 {
-    let end = at as usize + from.len();
+    let end = write.at as usize + write.bytes.len();
     let longer = grow(volume, d, &loaded.file.segs, count)?;
-    fill(volume, d, &longer, loaded.file.size, at, from)?;
-    finish(volume, d, loaded, &longer, end as u32, now)?;
+    let grown = FileData {
+        segs: &longer,
+        size: loaded.file.size,
+    };
+    let new = NewFields {
+        segs: &longer,
+        size: end as u32,
+        now: write.now,
+    };
+    fill(volume, d, grown, write)?;
+    finish(volume, d, loaded, new)?;
     Ok(())
 }
 
-// Writes the descriptor of a file with these segments, if its bytes now have another end.
+// Writes the descriptor of a file with these fields, if its bytes now have another end.
 fn finish(
     volume: &mut Volume,
     d: &mut dyn BlockDriver,
     loaded: &Loaded,
-    longer: &Segs,
-    end: u32,
-    now: TimePacket,
+    new: NewFields<'_>,
 ) -> Result<(), FileFault>
-    requires may { MayFinish (media d.old) loaded.now longer.now
-        (IsFinished loaded.now longer.now end now (media d.old)) }
+    requires may { MayFinish (media d.old) loaded.now new.segs.now (IsFinished loaded.now
+        new.segs.now new.size new.now (media d.old)) }
     requires cached { IsCacheOf (media d.old) volume.old.cache }
-    ensures done { OnOk result
-        (IsFinished loaded.now longer.now end now (media d.old) (media d.new)) }
+    ensures done { OnOk result (IsFinished loaded.now new.entry.segs.now new.entry.size
+        new.entry.now (media d.old) (media d.new)) }
     ensures media_kept { OnErr result (media d.new ≡ media d.old) }
-    ensures later { OnErr result (loaded.now.file.size < end) }
+    ensures later { OnErr result (loaded.now.file.size < new.entry.size) }
     ensures device { OnErr result (IsSome (file_fault result)) }
     ensures volume_kept { kept volume.new ≡ kept volume.old }
     ensures cached { IsCacheOf (media d.new) volume.new.cache }
-    ensures counts { Counts BlockDriver-dyn (file_fault result)
-        (if nat_lt loaded.now.file.size end then 1 else 0) d.old d.new }
+    ensures counts { Counts BlockDriver-dyn (file_fault result) (if nat_lt loaded.now.file.size
+        new.entry.size then 1 else 0) d.old d.new }
 {
-    if end <= loaded.file.size {
+    if new.size <= loaded.file.size {
         return Ok(());
     }
-    let file = Fd {
-        size: end,
-        modified: minute(&now),
-        segs: *longer,
-        ..loaded.file
-    };
-    let bytes = with_descriptor(&loaded.descriptor, &loaded.file.segs, &file);
-    volume.store(d, loaded.number, &bytes)?;
-    Ok(())
+    store_fields(volume, d, loaded, new)
 }

@@ -2,10 +2,11 @@
 //! descriptors, over a drive that may fail.
 #![tactic(auto)]
 
-pub use data::fill;
+pub use data::{FileData, fill};
 pub use descriptor::{minute, with_descriptor};
 pub use laying::lay_over;
 pub use loaded::{Loaded, load_file};
+pub use new_bytes::NewBytes;
 pub use size::set_size;
 pub use write::write_at;
 
@@ -15,6 +16,8 @@ mod descriptor;
 mod kept;
 mod laying;
 mod loaded;
+mod new_bytes;
+mod new_fields;
 mod resized;
 mod sector;
 mod shorter;

@@ -7,7 +7,7 @@ ghost use Rattle.rbf_write.specs.Outcomes.{OnMarked};
 ghost use Rattle.rbf_write.specs.Sizes.{AnswersSize, size_calls};
 
 use crate::shorter::cut;
-use crate::{lay_over, load_file};
+use crate::{NewBytes, lay_over, load_file};
 use os9_base::registers::TimePacket;
 use os9_outer::drive::BlockDriver;
 use rbf_access::{FileFault, Volume};
@@ -49,5 +49,10 @@ pub fn set_size(
     if size < loaded.file.size {
         return cut(volume, d, &loaded, size, now);
     }
-    lay_over(volume, d, &loaded, size, &[], now)
+    let write = NewBytes {
+        at: size,
+        bytes: &[],
+        now,
+    };
+    lay_over(volume, d, &loaded, write)
 }

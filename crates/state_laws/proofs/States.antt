@@ -27,7 +27,7 @@ module _ (kernel : Kernel) (devices : Outside) (s t : State) (stands : Represent
   memory = t.processes.memory
 
   same_files : t.files ≡ s.files
-  same_files = files-one kernel.files devices.drives t.files s.files stands_too.files stands.files
+  same_files = files-one kernel.machine.files devices.drives t.files s.files stands_too.files stands.files
 
   rest : t ≡ record s { processes = with_memory s.processes memory }
   rest =
@@ -39,8 +39,8 @@ module _ (kernel : Kernel) (devices : Outside) (s t : State) (stands : Represent
 
   pub representation-is-unique : DifferInNumbersAlone s t
   representation-is-unique = record {
-    memory = memories-differ kernel.processes.memory.pool kernel.processes.memory.maps.items
-        kernel.processes.memory.dir kernel.processes.memory.sound s.processes.memory memory stands.processes.memory
+    memory = memories-differ kernel.machine.processes.memory.pool kernel.machine.processes.memory.maps.items
+        kernel.machine.processes.memory.dir kernel.machine.processes.memory.sound s.processes.memory memory stands.processes.memory
         stands_too.processes.memory;
     rest = rest;
   }

@@ -2,7 +2,7 @@
 
 ghost use Rattle.std.specs.Prelude.{◌≡◌, ◌<◌, IfOk};
 ghost use Rattle.file_drives.specs.Drives.{drives_seen};
-ghost use Rattle.boot_run.specs.Outcome.{setup_of};
+ghost use Rattle.boot_run.specs.Machine.{setup_of};
 ghost use Rattle.boot_run.specs.Ready.{AreEmptyAgain, AreFree, CanStart};
 ghost use Rattle.boot_run.specs.World.{world_of};
 ghost use Rattle.os9_kernel.specs.Outside.{outside};

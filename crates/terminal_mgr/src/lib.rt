@@ -6,5 +6,6 @@ mod driver;
 pub mod term;
 mod type_ahead;
 mod typist;
+mod unfinished;
 
 pub use io_model::terminal::{Arrival, Progress};

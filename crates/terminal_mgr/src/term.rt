@@ -8,21 +8,20 @@ use crate::arrival::poll;
 use crate::driver::{line_len, put_bytes, put_line};
 use crate::type_ahead::TypeAhead;
 use crate::typist::{read_keys, refused};
+use crate::unfinished::Unfinished;
 use io_model::terminal::{Arrival, Progress, ReadKind, Reading};
-use line_edit::line::Line;
 use os9_base::call::OutOfMemory;
 use os9_base::registers::Pid;
 use os9_outer::terminal::CharDriver;
 use std::alloc::Global;
 use std::marker::Model;
 
-/// A terminal: its type-ahead, the line of its unfinished read and its last user (Level Two manual,
-/// SCF). Its driver is lent to each call that uses it.
+/// A terminal: its type-ahead, its unfinished read and its last user (Level Two manual, SCF). Its
+/// driver is lent to each call that uses it.
 #[derive(Drop)]
 pub struct Term {
     ahead: TypeAhead,
-    line: Line,
-    reading: Option<Reading>,
+    unfinished: Unfinished,
     user: Option<Pid>,
 }
 
@@ -32,9 +31,9 @@ impl Model for Term {
 
     ghost Value = { Terminal };
 
-    ghost view = { λ t. terminal_of t.ahead t.line t.reading t.user };
+    ghost view = { λ t. terminal_of t.ahead t.unfinished.line t.unfinished.reading t.user };
 
-    ghost invariant = { λ t. IsTerminal (terminal_of t.ahead t.line t.reading t.user) };
+    ghost invariant = { λ t. IsTerminal (terminal_of t.ahead t.unfinished.line t.unfinished.reading t.user) };
 }
 
 impl Term {
@@ -44,8 +43,7 @@ impl Term {
     {
         Ok(Term {
             ahead: TypeAhead::new(alloc)?,
-            line: Line::new(),
-            reading: None,
+            unfinished: Unfinished::none(),
             user: None,
         })
     }
@@ -73,7 +71,7 @@ impl Term {
     pub fn reader(&self) -> Option<Pid>
         ensures { result ≡ reader self.now }
     {
-        match self.reading {
+        match self.unfinished.reading {
             Some(reading) => Some(reading.process),
             None => None,
         }
@@ -151,19 +149,12 @@ impl Term {
         ensures stored { into.new ≡ stored_over (stored_bytes result request self.old) into.old }
     {
         self.user = Some(request.process);
-        if let Some(reading) = self.reading {
+        if let Some(reading) = self.unfinished.reading {
             if reading.process != request.process {
                 return Progress::Wait;
             }
         }
-        read_keys(
-            &mut self.ahead,
-            &mut self.line,
-            &mut self.reading,
-            request,
-            into,
-            d,
-        )
+        read_keys(&mut self.ahead, &mut self.unfinished, request, into, d)
     }
 
     /// I$Write of at most 65,535 bytes: puts them. It never waits. If a byte is refused, the bytes
@@ -177,8 +168,7 @@ impl Term {
         match put_bytes(d, bytes) {
             Ok(()) => Progress::Done(bytes.len() as u16),
             Err(refusal) => {
-                self.line.clear();
-                self.reading = None;
+                self.unfinished.drop_read();
                 refused(refusal)
             }
         }
@@ -195,8 +185,7 @@ impl Term {
         match put_line(d, bytes) {
             Ok(()) => Progress::Done(line_len(bytes) as u16),
             Err(refusal) => {
-                self.line.clear();
-                self.reading = None;
+                self.unfinished.drop_read();
                 refused(refusal)
             }
         }
@@ -206,10 +195,9 @@ impl Term {
     pub fn release(&mut self, p: Pid)
         ensures { self.new ≡ released p self.old }
     {
-        if let Some(reading) = self.reading {
+        if let Some(reading) = self.unfinished.reading {
             if reading.process == p {
-                self.line.clear();
-                self.reading = None;
+                self.unfinished.drop_read();
             }
         }
     }

@@ -9,6 +9,7 @@ ghost use Rattle.terminal_mgr.specs.Typing.{IsTyped, TypingBreaksOff, Comes, ref
 
 use crate::driver::put_bytes;
 use crate::type_ahead::TypeAhead;
+use crate::unfinished::Unfinished;
 use io_model::terminal::{Progress, ReadKind, Reading};
 use line_edit::LineEnd;
 use line_edit::copy::copy;
@@ -69,42 +70,38 @@ pub(crate) fn type_keys(
 // it unfinished.
 pub(crate) fn read_keys(
     ahead: &mut TypeAhead,
-    line: &mut Line,
-    reading: &mut Option<Reading>,
+    unfinished: &mut Unfinished,
     request: Reading,
     into: &mut [u8],
     d: &mut dyn CharDriver,
 ) -> Progress
     requires most { request.most ≤ 256 }
-    requires room { length line.old.bytes < request.most }
+    requires room { length unfinished.old.line.bytes < request.most }
     requires buffer { request.most ≤ length into.old }
     ensures outcome { Comes request result
-        (terminal_of ahead.old line.old reading.old (Some request.process))
-        (terminal_of ahead.new line.new reading.new (Some request.process))
+        (terminal_of ahead.old unfinished.old.line unfinished.old.reading (Some request.process))
+        (terminal_of ahead.new unfinished.new.line unfinished.new.reading (Some request.process))
         (lent_terminal_state CharDriver-dyn d.old)
         (lent_terminal_state CharDriver-dyn d.new) into.old into.new }
-    ensures shape { HasLine line.new reading.new }
+    ensures shape { HasLine unfinished.new.line unfinished.new.reading }
     ensures within { length ahead.new ≤ 256 }
 {
-    match type_keys(ahead, line, request, d) {
+    match type_keys(ahead, &mut unfinished.line, request, d) {
         Ok(None) => {
-            *reading = Some(request);
+            unfinished.reading = Some(request);
             Progress::Wait
         }
         Ok(Some(LineEnd::EndOfFile)) => {
-            line.clear();
-            *reading = None;
+            unfinished.drop_read();
             Progress::End
         }
         Ok(Some(LineEnd::Line)) => {
-            let count = store(line, into);
-            line.clear();
-            *reading = None;
+            let count = store(&unfinished.line, into);
+            unfinished.drop_read();
             Progress::Done(count)
         }
         Err(refusal) => {
-            line.clear();
-            *reading = None;
+            unfinished.drop_read();
             refused(refusal)
         }
     }

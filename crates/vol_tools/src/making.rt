@@ -12,7 +12,8 @@ use crate::way::way_to;
 use os9_base::registers::TimePacket;
 use os9_outer::drive::BlockDriver;
 use rbf_access::Volume;
-use rbf_entries::{create, make_dir};
+use rbf_entries::{NewFile, create, make_dir};
+use rbf_walk::Searcher;
 
 /// The attributes of a file made by `put`: its owner may read and write it, others may read it.
 const FILE_ATTRIBUTES: u8 = 0x0b;
@@ -37,7 +38,16 @@ pub fn make_file(
     ensures fault { Faults BlockDriver-dyn (tool_fault result) d.old d.new }
 {
     let dir = way_to(v, d, &place.way)?;
-    let n = create(v, d, dir, &place.name, FILE_ATTRIBUTES, 0, false, now)?;
+    let file = NewFile {
+        name: place.name,
+        attr: FILE_ATTRIBUTES,
+        date: now,
+    };
+    let by = Searcher {
+        user: 0,
+        execute: false,
+    };
+    let n = create(v, d, dir, &file, by)?;
     Ok(n)
 }
 
@@ -57,6 +67,11 @@ pub fn make_folder(
     ensures fault { Faults BlockDriver-dyn (tool_fault result) d.old d.new }
 {
     let dir = way_to(v, d, &place.way)?;
-    let n = make_dir(v, d, dir, &place.name, DIRECTORY_ATTRIBUTES, 0, now)?;
+    let file = NewFile {
+        name: place.name,
+        attr: DIRECTORY_ATTRIBUTES,
+        date: now,
+    };
+    let n = make_dir(v, d, dir, &file, 0)?;
     Ok(n)
 }

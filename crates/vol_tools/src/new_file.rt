@@ -14,7 +14,7 @@ use os9_base::errors::E_BPNAM;
 use os9_base::registers::TimePacket;
 use os9_outer::drive::BlockDriver;
 use rbf_access::Volume;
-use rbf_write::write_at;
+use rbf_write::{NewBytes, write_at};
 use std::alloc::Global;
 
 /// A file to be made: its path from the root, and its bytes.
@@ -75,6 +75,6 @@ fn put_at(
     ensures fault { Faults BlockDriver-dyn (tool_fault result) d.old d.new }
 {
     let n = make_file(v, d, place, now)?;
-    write_at(v, d, n, 0, bytes, now)?;
+    write_at(v, d, n, NewBytes { at: 0, bytes, now })?;
     Ok(())
 }

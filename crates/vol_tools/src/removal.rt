@@ -16,6 +16,7 @@ use os9_base::errors::E_BPNAM;
 use os9_outer::drive::BlockDriver;
 use rbf_access::Volume;
 use rbf_entries::delete;
+use rbf_walk::Searcher;
 use std::alloc::Global;
 
 /// Deletes a file by its path, for user 0 (this project's own).
@@ -62,6 +63,10 @@ fn remove_at(v: &mut Volume, d: &mut dyn BlockDriver, place: &Place) -> Result<(
     ensures fault { Faults BlockDriver-dyn (tool_fault result) d.old d.new }
 {
     let dir = way_to(v, d, &place.way)?;
-    delete(v, d, dir, &place.name, 0, false)?;
+    let by = Searcher {
+        user: 0,
+        execute: false,
+    };
+    delete(v, d, dir, &place.name, by)?;
     Ok(())
 }

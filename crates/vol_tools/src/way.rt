@@ -9,7 +9,7 @@ use crate::fault::ToolFault;
 use os9_base::name::Name;
 use os9_outer::drive::BlockDriver;
 use rbf_access::Volume;
-use rbf_walk::walk;
+use rbf_walk::{Searcher, walk};
 
 /// Walks from the root along names, for user 0, and returns the descriptor at their end.
 pub fn way_to(v: &mut Volume, d: &mut dyn BlockDriver, names: &[Name]) -> Result<u32, ToolFault>
@@ -21,6 +21,10 @@ pub fn way_to(v: &mut Volume, d: &mut dyn BlockDriver, names: &[Name]) -> Result
     ensures fault { Faults BlockDriver-dyn (tool_fault result) d.old d.new }
 {
     let root = v.root();
-    let n = walk(v, d, root, names, 0, false)?;
+    let by = Searcher {
+        user: 0,
+        execute: false,
+    };
+    let n = walk(v, d, root, names, by)?;
     Ok(n)
 }

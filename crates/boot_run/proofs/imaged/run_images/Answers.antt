@@ -1,12 +1,11 @@
-use Rattle.std.proofs.Common.{◌≡◌, ◌∙◌, length, ap, sym, arith}
+use Rattle.std.proofs.Common.{◌≡◌, ◌∙◌, length, ap, refl, sym, arith}
 use Rattle.std.proofs.lemmas.List.{length-map}
 use Rattle.device_table.specs.Seen.{terminal_states}
 use Rattle.file_drives.specs.Drives.{boxed_seen, drive_views}
 use Rattle.cold_start.specs.Start.{HaveImages}
 use Rattle.os9_kernel.specs.Outside.{outside}
-use Rattle.boot_run.specs.Machine.{Setup, history_left}
+use Rattle.boot_run.specs.Machine.{history_left, setup_of}
 use Rattle.boot_run.specs.World.{world_of}
-use Rattle.boot_run.specs.Outcome.{setup_of}
 use Rattle.boot_run.proofs.ImageRunLemmas.{have-images, have-volumes, runs-between}
 use Rattle.boot_run.proofs.imaged.run_images.Goals as goal
 
@@ -21,7 +20,7 @@ run_machine-outcome-requires g c =
       least = c.requires.start.least;
       most = c.requires.start.most;
       time = c.requires.start.time;
-      few = rw c.as_slice-3.ensures.value c.requires.start.few;
+      few = c.requires.start.few;
       terminals = rw c.insert_images.ensures.terms_kept c.requires.devices.terminals;
       enough = omega (arith, c.len.ensures, c.insert_images.ensures.count, many, c.requires.devices.room.enough);
       few_drives = omega (arith, many, c.requires.devices.room.few);
@@ -35,25 +34,6 @@ returns-clause-run g c =
     let inside = outside (λ box. (g.dyn-1.0.entry box.vtable).1) (λ box. (g.dyn-2.0.entry box.vtable).1) c.insert_images.new.devices in
     let ran = world_of g.H.Host c.run_machine-outcome.new.host (outside (λ box. (g.dyn-1.0.entry box.vtable).1) (λ box. (g.dyn-2.0.entry box.vtable).1) c.run_machine-outcome.new.devices) in
     let left = outside (λ box. (g.dyn-1.0.entry box.vtable).1) (λ box. (g.dyn-2.0.entry box.vtable).1) c.eject_images.new.devices in
-    let given : Setup = record {
-      file = c.as_slice.result.now;
-      blocks = c.args.start.now.blocks;
-      time =
-          c.args.start.now.time;
-      images = c.args.images.now;
-      keys = c.as_slice-2.result.now;
-      slices =
-          c.as_slice-3.result.now;
-    } in
-    let same : given ≡ setup_of c.args.start.now c.args.images.now = λ i. record {
-      file = c.as_slice.ensures.value i;
-      blocks = c.args.start.now.blocks;
-      time = c.args.start.now.time;
-      images = c.args.images.now;
-      keys =
-          c.as_slice-2.ensures.value i;
-      slices = c.as_slice-3.ensures.value i;
-    } in
     let items : length c.run_machine-outcome.new.devices.drives.items ≡ length c.args.devices.now.drives.items = omega (
       arith,
       c.run_machine-outcome.ensures.drives,
@@ -72,7 +52,8 @@ returns-clause-run g c =
     ) (have-images c.args.images.now _ c.requires.devices.room.enough) in
     let terms_put = ap (λ terms. terminal_states (λ box. (g.dyn-2.0.entry box.vtable).1) terms.items) c.insert_images.ensures.terms_kept in
     let terms_left = ap (λ terms. terminal_states (λ box. (g.dyn-2.0.entry box.vtable).1) terms.items) c.eject_images.ensures.terms_kept in
-    runs-between (setup_of c.args.start.now c.args.images.now) given before ran inside left c.eject_images.new.images
+    let setup = setup_of c.args.start.now c.args.images.now in
+    runs-between setup setup before ran inside left c.eject_images.new.images
     c.requires.devices.room (c.eject_images.ensures.count ∙ c.insert_images.ensures.count) many
-    c.eject_images.ensures.taken (history_left c.run_machine-outcome.result.records) c.run_machine-outcome.result.end same c.insert_images.ensures.held terms_put terms_left
+    c.eject_images.ensures.taken (history_left c.run_machine-outcome.result.records) c.run_machine-outcome.result.end refl c.insert_images.ensures.held terms_put terms_left
     (c.run_machine-outcome.ensures.call c.args.images.now have)

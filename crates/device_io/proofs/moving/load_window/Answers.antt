@@ -10,8 +10,8 @@ load-requires-clause-fits c =
     let rest : List ℕ = drop moved c.args.into.now in
     let room : few ≤ length rest = omega (arith, length-drop moved c.args.into.now, c.min-few.ensures, c.requires.left, c.requires.room) in
     let long : length (take (moved + few - moved) rest) ≡ moved + few - moved = length-take-le (moved + few - moved) rest (omega (arith, room)) in
-    let cells = cells_of c.args.memory.now c.args.p.0 in
-    let at = c.args.at in (
+    let cells = cells_of c.args.memory.now c.args.by.p.0 in
+    let at = c.args.by.regs.x in (
       omega (arith, long, c.min-few.ensures, c.requires.left, c.requires.fits.0),
       λ k less. subst (λ (n : ℕ). IsSome (cells n)) (let e : at + (moved + k) ≡ at + moved + k = omega arith in e)
           (c.requires.fits.1 (moved + k) (omega (arith, less, long, c.min-few.ensures, c.requires.left))),
@@ -27,6 +27,6 @@ returns-clause-window c =
     let room : few ≤ length rest = omega (arith, length-drop moved into, c.min-few.ensures, c.requires.left, c.requires.room) in
     let part : length (take (moved + few - moved) rest) ≡ moved + few - moved = length-take-le (moved + few - moved) rest (omega (arith, room)) in
     let long : length new ≡ few = omega (arith, part) in
-    window-read (cells_of c.args.memory.now c.args.p.0) c.args.at moved c.args.count few (moved + few - moved) into
+    window-read (cells_of c.args.memory.now c.args.by.p.0) c.args.by.regs.x moved c.args.count few (moved + few - moved) into
     new c.requires.left c.requires.room (omega (arith, c.min-few.ensures)) (omega arith) long c.requires.fits.0
     c.load.ensures.loaded

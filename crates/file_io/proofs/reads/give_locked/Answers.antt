@@ -4,11 +4,10 @@ use Rattle.io_rules.specs.Io.{with_call}
 use Rattle.lock_model.specs.Laws.{MayHold}
 use Rattle.lock_model.specs.Records.{Records, holding}
 use Rattle.lock_model.specs.declared.lock.Held.{Held}
-use Rattle.proc_rules.specs.Records.{record_at}
 use Rattle.file_rules.specs.Read.{lock_by}
 use Rattle.file_state.specs.declared.state.FileState.{FileState}
 use Rattle.file_io.proofs.ClaimLemmas.{read-held}
-use Rattle.file_io.proofs.EndingLemmas.{done-as, on-ok}
+use Rattle.file_io.proofs.EndingLemmas.{gives-of, on-ok}
 use Rattle.file_io.proofs.ReadingLemmas.{given-bytes}
 use Rattle.file_io.specs.Ending.{with_bytes}
 use Rattle.file_io.specs.Opened.{moved_to}
@@ -17,25 +16,25 @@ use Rattle.file_io.proofs.reads.give_locked.Goals as goal
 
 pub hold-requires-clause-may : goal.hold-requires-clause-may
 hold-requires-clause-may c =
-    let kind = c.args.kind in
-    let lock = c.args.lock in
+    let kind = c.args.reading.kind in
+    let lock = c.args.reading.lock in
     let n = c.part_length-y.result in
     let bytes : List ℕ = take n c.deref-2.result.now in
-    let few : length bytes ≤ (record_at c.args.s.now.table c.args.p.0).regs.y =
+    let few : length bytes ≤ c.args.by.regs.y =
     omega (arith, length-take n c.deref-2.result.now, length-take c.args.count c.deref.result.now) in
-    subst (MayHold c.args.files.now.records.locks) (sym c.lock_of_read-held.ensures)
-    (read-held c.args.files.now.records.locks lock bytes c.requires.granted (λ last is. let far = c.requires.room.covers last is in omega (arith, far, few)) kind)
+    subst (MayHold c.args.machine.now.files.records.locks) (sym c.lock_of_read-held.ensures)
+    (read-held c.args.machine.now.files.records.locks lock bytes c.requires.granted (λ last is. let far = c.requires.room.covers last is in omega (arith, far, few)) kind)
 
 pub returns-clause-call : goal.returns-clause-call
 returns-clause-call c m tied =
-    let p = c.args.p.0 in
-    let kind = c.args.kind in
+    let p = c.args.by.p.0 in
+    let kind = c.args.reading.kind in
     let count = c.args.count in
-    let lock = c.args.lock in
+    let lock = c.args.reading.lock in
     let opened = c.args.opened.now in
-    let files = c.args.files.now in
-    let regs = c.regs-regs.result in
-    let buffer : List ℕ = c.args.s.now.buffer.items in
+    let files = c.args.machine.now.files in
+    let regs = c.args.by.regs in
+    let buffer : List ℕ = c.args.machine.now.processes.buffer.items in
     let n = c.part_length-y.result in
     let given : List ℕ = part_of kind (take count buffer) in
     let within : n ≤ length (take count buffer) = subst (λ (b : List ℕ). n ≤ length (take count b)) c.deref.ensures.value c.part_length-y.ensures.within in
@@ -50,12 +49,14 @@ returns-clause-call c m tied =
     ∙ ap (λ (b : List ℕ). holding files.records opened.path.0 (lock_by kind lock given) b) bytes in
     record {
       done = λ some.
-          done-as (take n buffer) given n lock.range.start regs (record_at c.args.s.now.table p).regs opened m p files.io c.answer_at.result
-          c.answer_at.new.s c.answer_at.new.io are.0 are.1 c.regs-regs.ensures.regs (record {
+          gives-of (take n buffer) given n lock.range.start regs opened m p files.io c.answer_at.result
+          c.answer_at.new.machine.processes c.answer_at.new.machine.files.io are.0 are.1 (record {
             end_is = c.answer_at.ensures.end;
             tied = c.answer_at.ensures.tied (with_bytes m p regs.x (take n buffer)) (c.store_front.ensures.tied m tied);
             io_is = c.answer_at.ensures.io ∙ ap (λ (k : ℕ). with_call (moved_to files.io opened (lock.range.start + k)) p None) c.from.ensures;
           });
-      entered = λ some. ap (λ (records : Records). let it : FileState = record files { io = c.answer_at.new.io; records = records } in it) records;
+      entered = λ some.
+          c.answer_at.ensures.rest
+          ∙ ap (λ (records : Records). let it : FileState = record files { io = c.answer_at.new.machine.files.io; records = records } in it) records;
       lacks = λ none. let e : Done ≡ NoMemory = sym c.answer_at.ensures.end ∙ none in cc;
     }

@@ -1,8 +1,6 @@
-use Rattle.std.proofs.Common.{◌≡◌, Option, IfSome, ap, refl, subst, sym}
+use Rattle.std.proofs.Common.{Option, ap, refl, rules}
 use Rattle.std.specs.Option.{option_map_or}
-use Rattle.os9_base.specs.declared.registers.Regs.{Regs}
 use Rattle.io_rules.specs.declared.io_call.IoCall.TheVariants as Device
-use Rattle.lock_model.specs.Locks.{request_of}
 use Rattle.file_rules.specs.Attempts.{asker_of}
 use Rattle.file_rules.specs.Files.{OpenFile}
 use Rattle.file_rules.specs.declared.path_call.PathCall.TheVariants as Call
@@ -19,26 +17,28 @@ use Rattle.file_io.proofs.reads.read.Goals as goal
 pub read_opened-requires-clause-opened : goal.read_opened-requires-clause-opened
 read_opened-requires-clause-opened g c = record {
   path = c.requires.opened.path;
-  file = has-file c.args.files.now _ c.requires.sound c.args.p.0 _ c.args.opened.now c.requires.opened;
+  file = has-file c.args.machine.now.files _ c.requires.sound c.args.by.p.0 _ c.args.opened.now c.requires.opened;
 }
 
-pub read_opened-requires-clause-no_read : goal.read_opened-requires-clause-no_read
-read_opened-requires-clause-no_read g c =
-    again-no_read c.args.files.now.io c.args.p.0 _ c.args.opened.now Device.Read _ c.requires.again.again refl
-    (is-named c.args.files.now _ c.requires.sound c.args.p.0 _ c.args.opened.now c.requires.opened)
+pub read_opened-requires-clause-calls : goal.read_opened-requires-clause-calls
+read_opened-requires-clause-calls g c = record {
+  lives = search rules;
+  regs = search rules;
+  no_read =
+      again-no_read c.args.machine.now.files.io c.args.by.p.0 _ c.args.opened.now Device.Read _ c.requires.again.again refl
+      (is-named c.args.machine.now.files _ c.requires.sound c.args.by.p.0 _ c.args.opened.now c.requires.opened);
+}
 
 pub read_opened-requires-clause-may : goal.read_opened-requires-clause-may
 read_opened-requires-clause-may g c = record {
-  asks = may-ask c.args.files.now _ c.args.p.0 _ c.args.opened.now c.requires.sound c.requires.opened c.requires.again.kept;
-  count =
-      subst (λ (r : Regs). IfSome (request_of c.args.files.now.records.locks c.args.p.0) (λ request. request.count ≡ r.y)) (sym c.regs-regs.ensures.regs)
-      (kept-request Device.Read _ c.args.files.now c.args.p.0 c.requires.again);
+  asks = may-ask c.args.machine.now.files _ c.args.by.p.0 _ c.args.opened.now c.requires.sound c.requires.opened c.requires.again.kept;
+  count = kept-request Device.Read _ c.args.machine.now.files c.args.by.p.0 c.requires.again;
 }
 
 pub returns-clause-call : goal.returns-clause-call
 returns-clause-call g c now terms m was tied stands kinds =
-    let p = c.args.p.0 in
-    let it = known-a c.args.files.now _ was p c.args.opened.now stands kinds c.args.s.now m tied c.requires.opened in
+    let p = c.args.by.p.0 in
+    let it = known-a c.args.machine.now.files _ was p c.args.opened.now stands kinds c.args.machine.now.processes m c.args.by.regs c.requires.calls.regs tied c.requires.opened in
     let asker = asker_of m p now in
     let found = found_on c.args.opened.now it.volume it.file in
     tries-in m was now p c.read_opened.result _ _ terms Call.Read (read_opened Bytes (asker_of m p now) was found)

@@ -1,4 +1,4 @@
-use Rattle.std.proofs.Common.{◌≡◌, ◌∙◌, Bool, Option, not, sym, ap, refl, arith}
+use Rattle.std.proofs.Common.{◌≡◌, ◌∙◌, Bool, Option, not, sym, ap, refl, arith, rules}
 use Rattle.std.specs.Option.{option_map_or}
 use Rattle.os9_base.specs.declared.errors.TheConstants.{E_BMODE}
 use Rattle.os9_base.specs.declared.registers.Regs.{Regs}
@@ -25,59 +25,64 @@ use Rattle.file_io.proofs.writes.write_error.Goals as goal
 
 pub write_file-requires-clause-file : goal.write_file-requires-clause-file
 write_file-requires-clause-file g c =
-    may-be-written c.args.files.now _ c.requires.sound c.args.p.0 STANDARD_ERROR c.args.opened.now c.requires.opened (sym c.can_write.ensures ∙ c.if-not-can_write.false)
+    may-be-written c.args.machine.now.files _ c.requires.sound c.args.by.p.0 STANDARD_ERROR c.args.opened.now c.requires.opened (sym c.can_write.ensures ∙ c.if-not-can_write.false)
 
-pub write_file-requires-clause-no_read : goal.write_file-requires-clause-no_read
-write_file-requires-clause-no_read g c =
-    again-no_read c.args.files.now.io c.args.p.0 STANDARD_ERROR c.args.opened.now Device.PErr _ c.requires.again.again
-    refl (is-named c.args.files.now _ c.requires.sound c.args.p.0 STANDARD_ERROR c.args.opened.now
-    c.requires.opened)
+pub write_file-requires-clause-calls : goal.write_file-requires-clause-calls
+write_file-requires-clause-calls g c = record {
+  lives = search rules;
+  regs = search rules;
+  no_read =
+      again-no_read c.args.machine.now.files.io c.args.by.p.0 STANDARD_ERROR c.args.opened.now Device.PErr _ c.requires.again.again
+      refl (is-named c.args.machine.now.files _ c.requires.sound c.args.by.p.0 STANDARD_ERROR c.args.opened.now
+      c.requires.opened);
+}
 
 pub refuse-requires-clause-no_read : goal.refuse-requires-clause-no_read
 refuse-requires-clause-no_read g c =
-    again-no_read c.args.files.now.io c.args.p.0 STANDARD_ERROR c.args.opened.now Device.PErr _ c.requires.again.again
-    refl (is-named c.args.files.now _ c.requires.sound c.args.p.0 STANDARD_ERROR c.args.opened.now
+    again-no_read c.args.machine.now.files.io c.args.by.p.0 STANDARD_ERROR c.args.opened.now Device.PErr _ c.requires.again.again
+    refl (is-named c.args.machine.now.files _ c.requires.sound c.args.by.p.0 STANDARD_ERROR c.args.opened.now
     c.requires.opened)
 
 pub write_file-requires-clause-asks : goal.write_file-requires-clause-asks
 write_file-requires-clause-asks g c =
-    may-ask c.args.files.now _ c.args.p.0 STANDARD_ERROR c.args.opened.now c.requires.sound c.requires.opened c.requires.again.kept
+    may-ask c.args.machine.now.files _ c.args.by.p.0 STANDARD_ERROR c.args.opened.now c.requires.sound c.requires.opened c.requires.again.kept
 
 pub write_file-requires-clause-sends : goal.write_file-requires-clause-sends
 write_file-requires-clause-sends g c = record { moves = refl; some = omega arith }
 
 pub returns-then-not-can_write-clause-call : goal.returns-then-not-can_write-clause-call
 returns-then-not-can_write-clause-call g c terms m was tied stands kinds =
-    let p = c.args.p.0 in
-    let now = c.args.now in
+    let p = c.args.by.p.0 in
+    let now = c.args.by.now in
     let asker = asker_of m p now in
-    let it = known c.args.files.now _ was p c.args.opened.now stands kinds STANDARD_ERROR c.requires.opened in
+    let it = known c.args.machine.now.files _ was p c.args.opened.now stands kinds STANDARD_ERROR c.requires.opened in
     let found = found_on c.args.opened.now it.volume it.file in
-    let new : FileState = record c.args.files.now { io = c.refuse.new.io } in
+    let new : FileState = record c.args.machine.now.files { io = c.refuse.new.io } in
     let next = write_file F_PERR (error_line (regs_at m p).b) (regs_at m p) asker was found in
     tries-in m was now p c.refuse.result _ _ terms Call.PErr (refuses (not (can_write c.args.opened.now.desc.mode)) E_BMODE next) (error-step asker was found it.found) _ _ refl
-    (ends-refuses-true m was now p c.refuse.result c.args.s.now new _ terms
+    (ends-refuses-true m was now p c.refuse.result c.args.machine.now.processes new _ terms
     (not (can_write c.args.opened.now.desc.mode)) E_BMODE next
     (ap (λ (b : Bool). not b) (sym c.can_write.ensures ∙ c.if-not-can_write.true))
-    (tries-refused m was now p c.refuse.result c.args.s.now c.args.files.now new.io _ terms stands E_BMODE (record { end_is = c.refuse.ensures.end; tied = tied; io_is = c.refuse.ensures.io })))
+    (tries-refused m was now p c.refuse.result c.args.machine.now.processes c.args.machine.now.files new.io _ terms stands E_BMODE
+    (record { end_is = c.refuse.ensures.end; tied = tied; io_is = c.refuse.ensures.io })))
 
 pub returns-clause-call : goal.returns-clause-call
 returns-clause-call g c terms m was tied stands kinds =
-    let p = c.args.p.0 in
-    let now = c.args.now in
+    let p = c.args.by.p.0 in
+    let now = c.args.by.now in
     let asker = asker_of m p now in
-    let it = known c.args.files.now _ was p c.args.opened.now stands kinds STANDARD_ERROR c.requires.opened in
+    let it = known c.args.machine.now.files _ was p c.args.opened.now stands kinds STANDARD_ERROR c.requires.opened in
     let found = found_on c.args.opened.now it.volume it.file in
-    let same : c.regs-regs.result ≡ regs_at m p = c.regs-regs.ensures.regs ∙ regs-tied c.args.s.now m p tied in
+    let same : c.args.by.regs ≡ regs_at m p = c.requires.calls.regs ∙ regs-tied c.args.machine.now.processes m p tied in
     let next = write_file F_PERR (error_line (regs_at m p).b) (regs_at m p) asker was found in
     tries-in m was now p c.write_file.result _ _ terms Call.PErr
     (refuses (not (can_write c.args.opened.now.desc.mode)) E_BMODE next) (error-step asker was found it.found)
     (writing_attempt_calls 11 asker was found) _
     (ap (λ (o : Option OpenFile). option_map_or (writing_attempt_calls 11 asker was) o 0) it.found)
-    (ends-refuses-false m was now p c.write_file.result c.write_file.new.s c.write_file.new.files _ terms
+    (ends-refuses-false m was now p c.write_file.result c.write_file.new.machine.processes c.write_file.new.machine.files _ terms
     (not (can_write c.args.opened.now.desc.mode)) E_BMODE next
     (ap (λ (b : Bool). not b) (sym c.can_write.ensures ∙ c.if-not-can_write.false))
-    (ends-write_file m was now p c.write_file.result c.write_file.new.s c.write_file.new.files _ terms F_PERR _
-    (error_line (regs_at m p).b) c.regs-regs.result (regs_at m p) found (c.put_error_line.ensures.line ∙ ap
+    (ends-write_file m was now p c.write_file.result c.write_file.new.machine.processes c.write_file.new.machine.files _ terms F_PERR _
+    (error_line (regs_at m p).b) c.args.by.regs (regs_at m p) found (c.put_error_line.ensures.line ∙ ap
     (λ (r : Regs). error_line r.b) same) same
     (c.write_file.ensures.call m was it.volume it.file terms (c.put_error_line.ensures.same.represents m tied) stands it.is it.there)))

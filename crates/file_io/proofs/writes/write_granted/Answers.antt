@@ -1,52 +1,44 @@
-use Rattle.std.proofs.Common.{◌≡◌, ◌+◌, ◌<◌, ◌^◌, ℕ, List, length, take, sym, ap, refl, subst, arith}
+use Rattle.std.proofs.Common.{◌≡◌, ◌∙◌, ◌+◌, ◌<◌, ◌^◌, ℕ, List, Ok, Err, length, take, ap, refl, subst, arith}
 use Rattle.std.proofs.lemmas.List.{length-take-le}
+use Rattle.os9_base.specs.declared.call.CallEnd.{CallEnd}
 use Rattle.proc_rules.specs.Processes.{user_at}
-use Rattle.file_drives.specs.Calls.{writing_calls}
-use Rattle.file_drives.specs.Changed.{file_answer}
-use Rattle.file_rules.specs.Change.{writes}
-use Rattle.file_state.proofs.CountLemmas.{has-changed-in}
-use Rattle.file_state.proofs.RequestLemmas.{stands-restored}
 use Rattle.file_state.specs.declared.state.FileState.{FileState}
-use Rattle.file_io.proofs.WritingLemmas.{changed-same, write-ends, write-fits}
+use Rattle.file_io.proofs.WritingLemmas.{write-behind, write-fits}
 use Rattle.file_io.proofs.writes.write_granted.Goals as goal
 
-pub end_write-requires-clause-free : goal.end_write-requires-clause-free
-end_write-requires-clause-free g c = c.requires.granted.free
+pub enter_write-requires-clause-free : goal.enter_write-requires-clause-free
+enter_write-requires-clause-free g c = c.requires.granted.free
 
-pub end_write-requires-clause-fits : goal.end_write-requires-clause-fits
-end_write-requires-clause-fits g c ok =
+pub enter_write-requires-clause-fits : goal.enter_write-requires-clause-fits
+enter_write-requires-clause-fits g c =
     let has = c.requires.file.has in
     let place = c.args.opened.now.place in
-    let at = c.args.lock.range.start in
-    let count = c.args.sent.count in
+    let at = c.args.writing.lock.range.start in
+    let count = c.args.writing.count in
     let all : List ℕ = c.deref.result.now in
-    let room : length all ≡ length c.args.s.now.buffer.items = ap (λ (it : List ℕ). length it) c.deref.ensures.value in
+    let room : length all ≡ length c.args.machine.now.processes.buffer.items = ap (λ (it : List ℕ). length it) c.deref.ensures.value in
     let long : length (take count all) ≡ count = length-take-le count all (omega (arith, room)) in
-    let it = c.write_at-written.ensures.changed 0 has.volumes has.volume has.file has.mounted has.is has.there in
+    let it = c.in-Ok.ensures.changed 0 has.volumes has.volume has.file has.mounted has.is has.there in
     subst (λ (n : ℕ). at + n < 2 ^ 32) long
-    (write-fits place.number at (take count all) 0 c.args.now c.write_at-written.result _ has.volume has.file place.drive has.volumes _ c.write_at-written.new.self _ has.is it (omega arith) ok)
+    (write-fits place.number at (take count all) 0 c.args.by.now (Ok tt) _ has.volume has.file place.drive has.volumes _ c.write_at.new.self _ has.is it (omega arith) refl)
 
-pub returns-clause-call : goal.returns-clause-call
-returns-clause-call g c m was v file terms tied stands is there =
-    let p = c.args.p.0 in
-    let opened = c.args.opened.now in
-    let place = opened.place in
-    let lock = c.args.lock in
-    let at = lock.range.start in
-    let count = c.args.sent.count in
-    let written = c.write_at-written.result in
-    let all : List ℕ = c.deref.result.now in
-    let bytes : List ℕ = take count c.args.s.now.buffer.items in
-    let same : take count all ≡ bytes = ap (λ (it : List ℕ). take count it) c.deref.ensures.value in
-    let long : length bytes ≡ count = length-take-le count c.args.s.now.buffer.items (omega arith) in
-    let old : FileState = record c.args.files.now { records = was.records } in
-    let mid : FileState = record c.args.files.now { disks = c.write_at-written.new.self } in
-    let changed = has-changed-in old (record mid { records = was.records }) _ _ was place v file
-    (record { change = writes place.number at (take count all); user = user_at m p; now = c.args.now })
-    (file_answer written) (writing_calls place.number at (length (take count all)) written)
-    (stands-restored p c.args.files.now _ was stands) is there refl refl refl (c.write_at-written.ensures.changed
-    (user_at m p)) in
-    write-ends lock m was v file c.args.now p opened bytes c.args.sent.done c.end_write.result c.end_write.new.s mid
-    c.end_write.new.files _ _ terms is there stands.drives (sym stands.records) count long written
-    (changed-same place.number at (take count all) bytes (user_at m p) c.args.now written v file place.drive was (record mid { records = was.records }) _ _ same changed)
-    (c.end_write.ensures.call m tied)
+pub returns-in-Ok-clause-call : goal.returns-in-Ok-clause-call
+returns-in-Ok-clause-call g c m was v file terms tied stands is there =
+    let p = c.args.by.p.0 in
+    let count = c.args.writing.count in
+    let old = c.args.machine.now in
+    let left = c.enter_write.new.machine in
+    write-behind c.args.writing.lock m was v file c.args.by.now p c.args.opened.now (take count c.deref.result.now) (take count old.processes.buffer.items) c.args.writing.done
+    c.enter_write.result left.processes old.files c.write_at.new.self left.files _ _ terms count (Ok tt) (ap (λ (it : List ℕ). take count it) c.deref.ensures.value)
+    (length-take-le count old.processes.buffer.items (omega arith)) stands is there (c.in-Ok.ensures.changed (user_at m p)) (c.enter_write.ensures.call m tied)
+
+pub returns-in-Err-clause-call : goal.returns-in-Err-clause-call
+returns-in-Err-clause-call g c m was v file terms tied stands is there =
+    let p = c.args.by.p.0 in
+    let count = c.args.writing.count in
+    let old = c.args.machine.now in
+    let new : FileState = record old.files { disks = c.write_at.new.self; io = c.refuse.new.io } in
+    write-behind c.args.writing.lock m was v file c.args.by.now p c.args.opened.now (take count c.deref.result.now) (take count old.processes.buffer.items) c.args.writing.done
+    c.refuse.result old.processes old.files c.write_at.new.self new _ _ terms count (Err c.in-Err.fault) (ap (λ (it : List ℕ). take count it) c.deref.ensures.value)
+    (length-take-le count old.processes.buffer.items (omega arith)) stands is there (c.in-Err.ensures.changed (user_at m p))
+    (record { end_is = c.refuse.ensures.end ∙ ap (λ (n : ℕ). CallEnd.Error n) c.number.ensures; tied = tied; io_is = c.refuse.ensures.io }, refl)

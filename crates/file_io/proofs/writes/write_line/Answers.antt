@@ -1,4 +1,4 @@
-use Rattle.std.proofs.Common.{◌≡◌, ◌≢◌, ◌∙◌, ℕ, Option, Some, None, List, length, take, ap, sym, refl, subst, arith}
+use Rattle.std.proofs.Common.{◌≡◌, ◌∙◌, ℕ, Option, Some, None, List, length, take, ap, refl, subst, arith, rules}
 use Rattle.std.specs.Option.{option_map_or}
 use Rattle.std.proofs.lemmas.List.{length-take-le}
 use Rattle.os9_base.specs.declared.calls.TheConstants.{I_WRITLN}
@@ -8,8 +8,6 @@ use Rattle.proc_rules.specs.Processes.{cells_at, regs_at}
 use Rattle.io_rules.specs.declared.io_call.IoCall.TheVariants as Device
 use Rattle.lock_model.specs.Locks.{request_of}
 use Rattle.lock_model.specs.Records.{Records}
-use Rattle.proc_rules.specs.Records.{record_at}
-use Rattle.proc_rules.specs.declared.record.Record.{Record}
 use Rattle.file_rules.specs.Attempts.{asker_of}
 use Rattle.file_rules.specs.Files.{OpenFile, open_file}
 use Rattle.file_rules.specs.Locking.{pending_request}
@@ -30,49 +28,51 @@ pub line_count-requires-clause-kept : goal.line_count-requires-clause-kept
 line_count-requires-clause-kept g c = c.requires.again.kept
 
 pub send-requires-clause-file : goal.send-requires-clause-file
-send-requires-clause-file g c = may-be-written c.args.files.now _ c.requires.sound c.args.p.0 _ c.args.opened.now c.requires.opened
+send-requires-clause-file g c = may-be-written c.args.machine.now.files _ c.requires.sound c.args.by.p.0 _ c.args.opened.now c.requires.opened
 
-pub send-requires-clause-no_read : goal.send-requires-clause-no_read
-send-requires-clause-no_read g c =
-    again-no_read c.args.files.now.io c.args.p.0 _ c.args.opened.now Device.WritLn _ c.requires.again.again refl
-    (is-named c.args.files.now _ c.requires.sound c.args.p.0 _ c.args.opened.now c.requires.opened)
+pub send-requires-clause-calls : goal.send-requires-clause-calls
+send-requires-clause-calls g c = record {
+  lives = search rules;
+  regs = search rules;
+  no_read =
+      again-no_read c.args.machine.now.files.io c.args.by.p.0 _ c.args.opened.now Device.WritLn _ c.requires.again.again refl
+      (is-named c.args.machine.now.files _ c.requires.sound c.args.by.p.0 _ c.args.opened.now c.requires.opened);
+}
 
 pub refuse-requires-clause-no_read : goal.refuse-requires-clause-no_read
 refuse-requires-clause-no_read g c =
-    again-no_read c.args.files.now.io c.args.p.0 _ c.args.opened.now Device.WritLn _ c.requires.again.again refl
-    (is-named c.args.files.now _ c.requires.sound c.args.p.0 _ c.args.opened.now c.requires.opened)
+    again-no_read c.args.machine.now.files.io c.args.by.p.0 _ c.args.opened.now Device.WritLn _ c.requires.again.again refl
+    (is-named c.args.machine.now.files _ c.requires.sound c.args.by.p.0 _ c.args.opened.now c.requires.opened)
 
 pub send-requires-clause-may : goal.send-requires-clause-may
 send-requires-clause-may g c =
-    let same : c.regs-regs.result ≡ (record_at c.line_count.new.s.table c.args.p.0).regs =
-    c.regs-regs.ensures.regs ∙ ap (λ (table : List (Option Record)). (record_at table c.args.p.0).regs) (sym c.line_count.ensures.same.table) in
     record {
-      asks = may-ask c.args.files.now _ c.args.p.0 _ c.args.opened.now c.requires.sound c.requires.opened c.requires.again.kept;
+      asks = may-ask c.args.machine.now.files _ c.args.by.p.0 _ c.args.opened.now c.requires.sound c.requires.opened c.requires.again.kept;
       sends = λ some. record {
         moves = refl;
-        some = c.in-Some.ensures.some (subst (λ (r : Regs). r.y ≢ 0) (sym same) some);
+        some = c.in-Some.ensures.some some;
       };
-      done = ap (λ (r : Regs). record r { y = c.in-Some.count }) same;
+      done = refl;
     }
 
 pub returns-in-None-clause-call : goal.returns-in-None-clause-call
 returns-in-None-clause-call g c terms m was tied stands kinds =
-    let p = c.args.p.0 in
-    let now = c.args.now in
+    let p = c.args.by.p.0 in
+    let now = c.args.by.now in
     let asker = asker_of m p now in
-    let it = known-a c.args.files.now _ was p c.args.opened.now stands kinds c.args.s.now m tied c.requires.opened in
+    let it = known-a c.args.machine.now.files _ was p c.args.opened.now stands kinds c.args.machine.now.processes m c.args.by.regs c.requires.calls.regs tied c.requires.opened in
     let found = found_on c.args.opened.now it.volume it.file in
     let s = c.line_count.new.s in
-    let request = request_of c.args.files.now.records.locks p in
-    let new : FileState = record c.args.files.now { io = c.refuse.new.io } in
-    let same : c.regs-regs.result ≡ regs_at m p = c.regs-regs.ensures.regs ∙ regs-tied c.args.s.now m p tied in
+    let request = request_of c.args.machine.now.files.records.locks p in
+    let new : FileState = record c.args.machine.now.files { io = c.refuse.new.io } in
+    let same : c.args.by.regs ≡ regs_at m p = c.requires.calls.regs ∙ regs-tied c.args.machine.now.processes m p tied in
     let line = line_moved asker (pending_request asker was) in
     let absent : line ≡ None =
     line-moved asker was found request (ap (λ (records : Records). request_of records.locks p) stands.records)
     ∙ subst (λ (r : Regs). line_of request (cells_at m p) r ≡ None) same (c.in-None.ensures.line m tied) in
     tries-in m was now p c.refuse.result _ _ terms Call.WritLn (needs line E_BPADDR (sends_bytes asker was found I_WRITLN)) (write_line-step asker was found it.found) _ _ refl
     (ends-needs-none m was now p c.refuse.result s new _ terms line E_BPADDR (sends_bytes asker was found I_WRITLN) absent
-    (tries-refused m was now p c.refuse.result s c.args.files.now new.io _ terms stands E_BPADDR
+    (tries-refused m was now p c.refuse.result s c.args.machine.now.files new.io _ terms stands E_BPADDR
     (record {
       end_is = c.refuse.ensures.end;
       tied = c.line_count.ensures.same.represents m tied;
@@ -83,16 +83,16 @@ returns-in-None-clause-call g c terms m was tied stands kinds =
 pub returns-in-Some-clause-call : goal.returns-in-Some-clause-call
 unfolding write_opened
 returns-in-Some-clause-call g c terms m was tied stands kinds =
-    let p = c.args.p.0 in
-    let now = c.args.now in
+    let p = c.args.by.p.0 in
+    let now = c.args.by.now in
     let asker = asker_of m p now in
-    let it = known-a c.args.files.now _ was p c.args.opened.now stands kinds c.args.s.now m tied c.requires.opened in
+    let it = known-a c.args.machine.now.files _ was p c.args.opened.now stands kinds c.args.machine.now.processes m c.args.by.regs c.requires.calls.regs tied c.requires.opened in
     let found = found_on c.args.opened.now it.volume it.file in
     let s = c.line_count.new.s in
     let count = c.in-Some.count in
     let bytes : List ℕ = take count s.buffer.items in
-    let request = request_of c.args.files.now.records.locks p in
-    let same : c.regs-regs.result ≡ regs_at m p = c.regs-regs.ensures.regs ∙ regs-tied c.args.s.now m p tied in
+    let request = request_of c.args.machine.now.files.records.locks p in
+    let same : c.args.by.regs ≡ regs_at m p = c.requires.calls.regs ∙ regs-tied c.args.machine.now.processes m p tied in
     let line = line_moved asker (pending_request asker was) in
     let present : line ≡ Some bytes =
     line-moved asker was found request (ap (λ (records : Records). request_of records.locks p) stands.records)
@@ -104,5 +104,5 @@ returns-in-Some-clause-call g c terms m was tied stands kinds =
     tries-in m was now p c.send.result _ _ terms Call.WritLn
     (needs line E_BPADDR (sends_bytes asker was found I_WRITLN)) (write_line-step asker was found it.found)
     (writing_attempt_calls count asker was found) _ few
-    (ends-needs-some m was now p c.send.result c.send.new.s c.send.new.files _ terms line bytes E_BPADDR (sends_bytes asker was found I_WRITLN) present
+    (ends-needs-some m was now p c.send.result c.send.new.machine.processes c.send.new.machine.files _ terms line bytes E_BPADDR (sends_bytes asker was found I_WRITLN) present
     (c.send.ensures.call m was it.volume it.file terms (c.line_count.ensures.same.represents m tied) stands it.is it.there))

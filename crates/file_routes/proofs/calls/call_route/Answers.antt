@@ -6,7 +6,7 @@ use Rattle.guest_memory.proofs.Seen.{cells_of-seen}
 use Rattle.os9_base.specs.Cells.{Cells}
 use Rattle.proc_model.specs.ModuleList.{ModuleEntry, module_entry_at}
 use Rattle.proc_state.proofs.Primaries.{ArePrimaries-kept}
-use Rattle.file_routes.specs.Ways.{Asks, RouteIs, leads, way_for}
+use Rattle.file_routes.specs.Routes.{Asks, RouteIs, leads, route_for}
 use Rattle.file_routes.proofs.calls.call_route.Goals as goal
 
 pub invariant_of-s-clause-primaries : goal.invariant_of-s-clause-primaries
@@ -21,7 +21,7 @@ returns-clause-route g c m now files execute views tied asks =
     let p = c.args.query.process.0 in
     let same : cells_of c.args.s.now.memory p ≡ cells_at m p = cells_of-seen c.args.s.now.memory p c.requires m.memory tied.memory in
     subst (λ (cells : Cells). RouteIs cells (asker_of m p now) (leads (asker_of m p now) c.args.query.refusal
-    (way_for c.args.query.purpose (asker_of m p now) files (vec_len c.args.devices.now.terms) execute))
+    (route_for c.args.query.purpose (asker_of m p now) files (vec_len c.args.devices.now.terms) execute))
     c.find_route.result) same
     (c.find_route.ensures.route (asker_of m p now) files execute views
     (subst (λ (cells : Cells). Asks c.args.query cells c.args.disks.now views (vec_len c.args.devices.now.drives) (asker_of m p now) files execute) (sym same) asks))

@@ -19,4 +19,4 @@ pub returns-clause-walks : goal.returns-clause-walks
 returns-clause-walks g c m names tied stand =
     let p = c.args.walker.process.0 in
     let same : cells_of c.args.s.now.memory p ≡ cells_at m p = cells_of-seen c.args.s.now.memory p c.requires.process m.memory tied.memory in
-    c.walk.ensures.walks names (subst (λ (cells : Cells). NamesFrom cells c.args.first names) (sym same) stand)
+    c.walk.ensures.walks names (subst (λ (cells : Cells). NamesFrom cells c.args.start.first names) (sym same) stand)

@@ -8,17 +8,17 @@ use Rattle.file_routes.proofs.walk.reach_last.Given as goal
 
 abbrev pub invariant-names : goal.invariant-names
 invariant-names g l = record {
-  walked : (names : List (List ℕ)) → NamesStand (cells_of l.initial.memory l.walker.process.0) l.first names
-      → IsWalkedTo (cells_of l.initial.memory l.walker.process.0) l.walker l.fn.from names l.directory l.at
+  walked : (names : List (List ℕ)) → NamesStand (cells_of l.initial.memory l.walker.process.0) l.fn.first.at names
+      → IsWalkedTo (cells_of l.initial.memory l.walker.process.0) l.walker l.fn.first.directory names l.place.directory l.place.at
       l.initial.disks (drive_views (λ box. (g.dyn-1.0.entry box.vtable).1) l.initial.devices.drives.items) l.disks
       (drive_views (λ box. (g.dyn-1.0.entry box.vtable).1) l.devices.drives.items);
-  there : IsThere l.fn.from l.directory l.initial.disks (drive_views (λ box. (g.dyn-1.0.entry box.vtable).1)
+  there : IsThere l.fn.first.directory l.place.directory l.initial.disks (drive_views (λ box. (g.dyn-1.0.entry box.vtable).1)
       l.initial.devices.drives.items) l.disks (drive_views (λ box. (g.dyn-1.0.entry box.vtable).1)
       l.devices.drives.items);
-  within : l.at < 65536;
+  within : l.place.at < 65536;
   same : IsSame l.initial.memory l.memory;
   terms : l.devices.terms ≡ l.initial.devices.terms;
 }
 
 abbrev pub decreases-names : goal.decreases-names
-decreases-names g l = 65536 - l.at
+decreases-names g l = 65536 - l.place.at

@@ -15,7 +15,7 @@ returns-in-None-clause-steps g c names stand =
 
 pub returns-in-Some-clause-steps : goal.returns-in-Some-clause-steps
 returns-in-Some-clause-steps g c names stand =
-    steps-onward (cells_of c.args.memory.now c.args.walker.process.0) c.args.walker c.args.directory names
+    steps-onward (cells_of c.args.memory.now c.args.walker.process.0) c.args.walker c.args.place.directory names
     c.in-Ok.named c.in-Some.next c.walk_by.result c.onward.result c.args.disks.now _ c.walk_by.new.disks _
     (first-of (cells_of c.args.memory.now c.args.walker.process.0) names c.read_name.result c.in-Ok.named c.in-Ok.is
     (c.read_name.ensures.first names stand)) c.in-Some.is c.onward.ensures c.walk_by.ensures.walks

@@ -1,4 +1,4 @@
-use Rattle.std.proofs.Common.{◌≡◌, ◌∙◌, not, None, [], ap, sym, subst, refl, eq-eqb}
+use Rattle.std.proofs.Common.{◌≡◌, ◌∙◌, not, None, [], ap, sym, subst, refl, eq-eqb, rules}
 use Rattle.std.proofs.lemmas.Bool.{ne_eqb}
 use Rattle.os9_base.specs.declared.call.CallEnd.{CallEnd}
 use Rattle.os9_base.specs.declared.registers.Regs.{Regs}
@@ -15,6 +15,7 @@ use Rattle.file_rules.specs.Status.{lock_claim}
 use Rattle.file_state.proofs.AskingLemmas.{granted-holds}
 use Rattle.file_state.specs.Asking.{asked}
 use Rattle.file_state.specs.declared.state.FileState.{FileState}
+use Rattle.file_status.proofs.AttemptLemmas.{regs-tied}
 use Rattle.file_status.proofs.AskedLemmas.{answer-is, goes-on, granted-by, lock-requested, locking-asked, locking-failed, locking-held, locking-lacking, no-read-on}
 use Rattle.file_status.proofs.DropLemmas.{lock-ended}
 use Rattle.file_status.proofs.SetLemmas.{lock-stopped}
@@ -24,44 +25,45 @@ use Rattle.file_status.proofs.sets.set_lock.Goals as goal
 
 pub returns-then-not-is_for_update-clause-call : goal.returns-then-not-is_for_update-clause-call
 returns-then-not-is_for_update-clause-call g c now m was it terms tied stands open_is =
-    lock-stopped m was now c.args.p.0 c.refuse.result c.args.s.now c.args.files.now c.refuse.new.files _ terms c.args.opened.now it _ stands open_is c.refuse.ensures.files c.refuse.ensures.end tied
+    lock-stopped m was now c.args.by.p.0 c.refuse.result c.args.machine.now.processes c.args.machine.now.files c.refuse.new.files _ terms c.args.opened.now it _ stands
+    open_is c.refuse.ensures.files c.refuse.ensures.end tied
     (ap not (sym c.is_for_update.ensures ∙ c.if-not-is_for_update.true))
 
 pub returns-then-count-eq0-clause-call : goal.returns-then-count-eq0-clause-call
 returns-then-count-eq0-clause-call g c now m was it terms tied stands open_is =
-    let p = c.args.p.0 in
-    let same : c.regs-regs.result ≡ regs_at m p = c.regs-regs.ensures.tied m tied in
+    let p = c.args.by.p.0 in
+    let same : c.args.by.regs ≡ regs_at m p = c.requires.calls.regs ∙ regs-tied c.args.machine.now.processes m c.args.by.p.0 tied in
     let none : long_of (regs_at m p) ≡ 0 = ap long_of (sym same) ∙ sym c.long_of-count.ensures ∙ c.if-count-eq0.true in
-    lock-ended 1 m was now p c.end_lock.result c.end_lock.new.s c.args.files.now c.end_lock.new.files _ terms c.args.opened.now it stands open_is
+    lock-ended 1 m was now p c.end_lock.result c.end_lock.new.machine.processes c.args.machine.now.files c.end_lock.new.machine.files _ terms c.args.opened.now it stands open_is
     (sym c.is_for_update.ensures ∙ c.if-not-is_for_update.false) (eq-eqb (long_of (regs_at m p)) 0 none)
     c.end_lock.ensures.files c.end_lock.ensures.end
-    (subst (λ (r : Regs). Represents c.end_lock.new.s (with_regs_of m p r)) same (c.end_lock.ensures.tied m tied))
+    (subst (λ (r : Regs). Represents c.end_lock.new.machine.processes (with_regs_of m p r)) same (c.end_lock.ensures.tied m tied))
 
 pub returns-in-Err-clause-call : goal.returns-in-Err-clause-call
 returns-in-Err-clause-call g c now m was it terms tied stands open_is =
-    let p = c.args.p.0 in
-    let same : c.regs-regs.result ≡ regs_at m p = c.regs-regs.ensures.tied m tied in
+    let p = c.args.by.p.0 in
+    let same : c.args.by.regs ≡ regs_at m p = c.requires.calls.regs ∙ regs-tied c.args.machine.now.processes m c.args.by.p.0 tied in
     let some : long_of (regs_at m p) ≡ 0 → ⊥ = λ none. c.if-count-eq0.false (c.long_of-count.ensures ∙ ap long_of same ∙ none) in
-    locking-failed m was now p c.refuse-in-Err.result c.args.s.now c.args.files.now c.refuse-in-Err.new.files _ _ terms c.fd.new.self c.args.opened.now it stands open_is
+    locking-failed m was now p c.refuse-in-Err.result c.args.machine.now.processes c.args.machine.now.files c.refuse-in-Err.new.files _ _ terms c.fd.new.self c.args.opened.now it stands open_is
     (sym c.is_for_update.ensures ∙ c.if-not-is_for_update.false) (ne_eqb (long_of (regs_at m p)) 0 some)
     c.in-Err.fault c.in-Err.ensures.drive c.in-Err.ensures.device (c.refuse-in-Err.ensures.end ∙ ap (λ n. CallEnd.Error n) c.number.ensures) tied c.refuse-in-Err.ensures.files
 
 pub returns-in-Some-clause-call : goal.returns-in-Some-clause-call
 returns-in-Some-clause-call g c now m was it terms tied stands open_is =
-    let p = c.args.p.0 in
+    let p = c.args.by.p.0 in
     let request = c.request_now-request.result in
     let fd : IsFdOf it.file c.in-Ok.fd = c.in-Ok.ensures.ok was.volumes it.volume it.file stands.mounted open_is.volume_is open_is.file_is in
-    let locks : was.records.locks ≡ c.args.files.now.records.locks = ap (λ (r : Records). r.locks) stands.records in
-    let tick : m.tick ≡ c.args.s.now.tick = ap (λ (i : Processes). i.tick) tied.is in
-    let count : c.long_of-count.result ≡ long_of (regs_at m p) = c.long_of-count.ensures ∙ ap long_of (c.regs-regs.ensures.tied m tied) in
+    let locks : was.records.locks ≡ c.args.machine.now.files.records.locks = ap (λ (r : Records). r.locks) stands.records in
+    let tick : m.tick ≡ c.args.machine.now.processes.tick = ap (λ (i : Processes). i.tick) tied.is in
+    let count : c.long_of-count.result ≡ long_of (regs_at m p) = c.long_of-count.ensures ∙ ap long_of (c.requires.calls.regs ∙ regs-tied c.args.machine.now.processes m c.args.by.p.0 tied) in
     let some : long_of (regs_at m p) ≡ 0 → ⊥ = λ none. c.if-count-eq0.false (count ∙ none) in
     let same : request_now (asker_of m p now) was it (lock_claim it (long_of (regs_at m p))) ≡ request =
-    lock-requested m was now c.args.p c.args.opened.now it c.args.files.now.records.locks c.args.s.now.tick open_is
+    lock-requested m was now c.args.by.p c.args.opened.now it c.args.machine.now.files.records.locks c.args.machine.now.processes.tick open_is
     locks tick c.in-Ok.fd fd c.long_of-count.result count c.status_claim-claim.result request
     c.request_now-request.ensures.request c.range_locked.result c.range_locked.ensures c.status_claim-claim.ensures in
-    let answer : answer_to (asker_of m p now) was request ≡ answer_in c.args.files.now.records.locks p c.args.s.now.tick request =
-    answer-is m was now c.args.p c.args.opened.now it c.args.files.now.records.locks c.args.s.now.tick open_is locks tick request in
-    locking-asked m was now p c.in-Some.end c.args.s.now c.args.files.now c.ask.new.self _ _ terms c.fd.new.self
+    let answer : answer_to (asker_of m p now) was request ≡ answer_in c.args.machine.now.files.records.locks p c.args.machine.now.processes.tick request =
+    answer-is m was now c.args.by.p c.args.opened.now it c.args.machine.now.files.records.locks c.args.machine.now.processes.tick open_is locks tick request in
+    locking-asked m was now p c.in-Some.end c.args.machine.now.processes c.args.machine.now.files c.ask.new.self _ _ terms c.fd.new.self
     c.args.opened.now it stands open_is
     (sym c.is_for_update.ensures ∙ c.if-not-is_for_update.false) (ne_eqb (long_of (regs_at m p)) 0 some) request same
     c.in-Ok.ensures.drive c.request_now-request.ensures.own.owner _ answer c.in-Some.ensures.end tied c.ask.ensures.state
@@ -71,56 +73,61 @@ hold-requires-clause-may g c = granted-holds c.ask.new.self.records.locks c.requ
 
 pub returns-then-is_err-clause-call : goal.returns-then-is_err-clause-call
 returns-then-is_err-clause-call g c now m was it terms tied stands open_is =
-    let p = c.args.p.0 in
+    let p = c.args.by.p.0 in
     let request = c.request_now-request.result in
     let fd : IsFdOf it.file c.in-Ok.fd = c.in-Ok.ensures.ok was.volumes it.volume it.file stands.mounted open_is.volume_is open_is.file_is in
-    let locks : was.records.locks ≡ c.args.files.now.records.locks = ap (λ (r : Records). r.locks) stands.records in
-    let tick : m.tick ≡ c.args.s.now.tick = ap (λ (i : Processes). i.tick) tied.is in
-    let count : c.long_of-count.result ≡ long_of (regs_at m p) = c.long_of-count.ensures ∙ ap long_of (c.regs-regs.ensures.tied m tied) in
+    let locks : was.records.locks ≡ c.args.machine.now.files.records.locks = ap (λ (r : Records). r.locks) stands.records in
+    let tick : m.tick ≡ c.args.machine.now.processes.tick = ap (λ (i : Processes). i.tick) tied.is in
+    let count : c.long_of-count.result ≡ long_of (regs_at m p) = c.long_of-count.ensures ∙ ap long_of (c.requires.calls.regs ∙ regs-tied c.args.machine.now.processes m c.args.by.p.0 tied) in
     let some : long_of (regs_at m p) ≡ 0 → ⊥ = λ none. c.if-count-eq0.false (count ∙ none) in
     let same : request_now (asker_of m p now) was it (lock_claim it (long_of (regs_at m p))) ≡ request =
-    lock-requested m was now c.args.p c.args.opened.now it c.args.files.now.records.locks c.args.s.now.tick open_is
+    lock-requested m was now c.args.by.p c.args.opened.now it c.args.machine.now.files.records.locks c.args.machine.now.processes.tick open_is
     locks tick c.in-Ok.fd fd c.long_of-count.result count c.status_claim-claim.result request
     c.request_now-request.ensures.request c.range_locked.result c.range_locked.ensures c.status_claim-claim.ensures in
-    let answer : answer_to (asker_of m p now) was request ≡ answer_in c.args.files.now.records.locks p c.args.s.now.tick request =
-    answer-is m was now c.args.p c.args.opened.now it c.args.files.now.records.locks c.args.s.now.tick open_is locks tick request in
-    let on : c.ask.new.self ≡ asked (with_disks c.args.files.now c.fd.new.self) p request Granted =
+    let answer : answer_to (asker_of m p now) was request ≡ answer_in c.args.machine.now.files.records.locks p c.args.machine.now.processes.tick request =
+    answer-is m was now c.args.by.p c.args.opened.now it c.args.machine.now.files.records.locks c.args.machine.now.processes.tick open_is locks tick request in
+    let on : c.ask.new.self ≡ asked (with_disks c.args.machine.now.files c.fd.new.self) p request Granted =
     goes-on _ c.ask.new.self p request _ c.ask.ensures.state c.in_default.ensures.end in
     let lacks : c.hold.new.self ≡ c.ask.new.self.records = if-err c.hold.result c.hold.ensures.err (sym c.is_err.ensures.value ∙ c.if-is_err.true) in
-    locking-lacking m was now p CallEnd.NoMemory c.args.s.now c.args.files.now
+    locking-lacking m was now p CallEnd.NoMemory c.args.machine.now.processes c.args.machine.now.files
     (record c.ask.new.self { records = c.hold.new.self }) _ _ terms c.fd.new.self c.args.opened.now it stands open_is
     (sym c.is_for_update.ensures ∙ c.if-not-is_for_update.false) (ne_eqb (long_of (regs_at m p)) 0 some) request same
     c.in-Ok.ensures.drive (answer ∙ granted-by _ c.in_default.ensures.end) refl
     (ap (λ (records : Records). let left : FileState = record c.ask.new.self { records = records } in left) lacks ∙ on)
 
-pub answer-requires-clause-no_read : goal.answer-requires-clause-no_read
-answer-requires-clause-no_read g c =
-    no-read-on (with_disks c.args.files.now c.fd.new.self) c.ask.new.self c.args.p.0 c.request_now-request.result
-    (goes-on _ c.ask.new.self c.args.p.0 c.request_now-request.result _ c.ask.ensures.state c.in_default.ensures.end) c.requires.no_read
+pub answer-requires : goal.answer-requires
+answer-requires g c = record {
+  lives = search rules;
+  regs = search rules;
+  no_read =
+      no-read-on (with_disks c.args.machine.now.files c.fd.new.self) c.ask.new.self c.args.by.p.0 c.request_now-request.result
+      (goes-on _ c.ask.new.self c.args.by.p.0 c.request_now-request.result _ c.ask.ensures.state c.in_default.ensures.end) c.requires.calls.no_read;
+}
 
 pub returns-clause-call : goal.returns-clause-call
 returns-clause-call g c now m was it terms tied stands open_is =
-    let p = c.args.p.0 in
+    let p = c.args.by.p.0 in
     let request = c.request_now-request.result in
     let fd : IsFdOf it.file c.in-Ok.fd = c.in-Ok.ensures.ok was.volumes it.volume it.file stands.mounted open_is.volume_is open_is.file_is in
-    let locks : was.records.locks ≡ c.args.files.now.records.locks = ap (λ (r : Records). r.locks) stands.records in
-    let tick : m.tick ≡ c.args.s.now.tick = ap (λ (i : Processes). i.tick) tied.is in
-    let count : c.long_of-count.result ≡ long_of (regs_at m p) = c.long_of-count.ensures ∙ ap long_of (c.regs-regs.ensures.tied m tied) in
+    let locks : was.records.locks ≡ c.args.machine.now.files.records.locks = ap (λ (r : Records). r.locks) stands.records in
+    let tick : m.tick ≡ c.args.machine.now.processes.tick = ap (λ (i : Processes). i.tick) tied.is in
+    let count : c.long_of-count.result ≡ long_of (regs_at m p) = c.long_of-count.ensures ∙ ap long_of (c.requires.calls.regs ∙ regs-tied c.args.machine.now.processes m c.args.by.p.0 tied) in
     let some : long_of (regs_at m p) ≡ 0 → ⊥ = λ none. c.if-count-eq0.false (count ∙ none) in
     let same : request_now (asker_of m p now) was it (lock_claim it (long_of (regs_at m p))) ≡ request =
-    lock-requested m was now c.args.p c.args.opened.now it c.args.files.now.records.locks c.args.s.now.tick open_is
+    lock-requested m was now c.args.by.p c.args.opened.now it c.args.machine.now.files.records.locks c.args.machine.now.processes.tick open_is
     locks tick c.in-Ok.fd fd c.long_of-count.result count c.status_claim-claim.result request
     c.request_now-request.ensures.request c.range_locked.result c.range_locked.ensures c.status_claim-claim.ensures in
-    let answer : answer_to (asker_of m p now) was request ≡ answer_in c.args.files.now.records.locks p c.args.s.now.tick request =
-    answer-is m was now c.args.p c.args.opened.now it c.args.files.now.records.locks c.args.s.now.tick open_is locks tick request in
-    let on : c.ask.new.self ≡ asked (with_disks c.args.files.now c.fd.new.self) p request Granted =
+    let answer : answer_to (asker_of m p now) was request ≡ answer_in c.args.machine.now.files.records.locks p c.args.machine.now.processes.tick request =
+    answer-is m was now c.args.by.p c.args.opened.now it c.args.machine.now.files.records.locks c.args.machine.now.processes.tick open_is locks tick request in
+    let on : c.ask.new.self ≡ asked (with_disks c.args.machine.now.files c.fd.new.self) p request Granted =
     goes-on _ c.ask.new.self p request _ c.ask.ensures.state c.in_default.ensures.end in
     let held = if-ok c.hold.result c.hold.ensures.ok (sym c.is_err.ensures.value ∙ c.if-is_err.false) in
-    locking-held m was now p c.answer.result c.answer.new.s c.args.files.now c.answer.new.files _ _ terms c.fd.new.self
+    locking-held m was now p c.answer.result c.answer.new.machine.processes c.args.machine.now.files c.answer.new.machine.files _ _ terms c.fd.new.self
     c.args.opened.now it stands open_is
     (sym c.is_for_update.ensures ∙ c.if-not-is_for_update.false) (ne_eqb (long_of (regs_at m p)) 0 some) request same
     c.in-Ok.ensures.drive (answer ∙ granted-by _ c.in_default.ensures.end) c.answer.ensures.end
-    (subst (λ (r : Regs). Represents c.answer.new.s (with_regs_of m p r)) (c.regs-regs.ensures.tied m tied) (c.answer.ensures.tied m tied))
+    (subst (λ (r : Regs). Represents c.answer.new.machine.processes (with_regs_of m p r))
+    (c.requires.calls.regs ∙ regs-tied c.args.machine.now.processes m c.args.by.p.0 tied) (c.answer.ensures.tied m tied))
     (c.answer.ensures.files
     ∙ ap (λ (records : Records). let left : FileState = record c.ask.new.self { io = with_call c.ask.new.self.io p None; records = records } in left) held
     ∙ ap (λ (state : FileState). let left : FileState = record state {

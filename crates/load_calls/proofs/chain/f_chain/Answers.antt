@@ -5,19 +5,19 @@ use Rattle.file_rules.specs.Attempts.{asker_of}
 use Rattle.file_rules.specs.Program.{chains, tests_program}
 use Rattle.file_rules.specs.ProgramFile.{ProgramFile}
 use Rattle.file_rules.specs.Step.{Step}
-use Rattle.file_routes.specs.Ways.{refuses_by}
+use Rattle.file_routes.specs.Routes.{refuses_by}
 use Rattle.load_calls.proofs.AttemptLemmas.{file-read, file-refused, parameters-there, reading-keeps, start-by-file, start-named}
 use Rattle.load_calls.proofs.chain.f_chain.Goals as goal
 
 pub returns-then-names_program-clause-call : goal.returns-then-names_program-clause-call
 returns-then-names_program-clause-call g c now m was tied stands kinds =
-    let p = c.args.p.0 in
+    let p = c.args.by.p.0 in
     start-named chains f_chain m p now was (vec_len c.args.devices.now.terms) _ _ _ (sym (c.names_program.ensures.named m tied) ∙ c.if-names_program.true)
     (c.f_chain.ensures.call m (c.names_program.ensures.same.represents m tied)) stands refl
 
 pub returns-in-Err-clause-call : goal.returns-in-Err-clause-call
 returns-in-Err-clause-call g c now m was tied stands kinds =
-    let p = c.args.p.0 in
+    let p = c.args.by.p.0 in
     let same = c.names_program.ensures.same.represents m tied in
     let test_is : refuses_by c.program_refusal-refusal.result ≡ tests_program m p = fun_ext (λ (step : Step ProgramFile). c.program_refusal-refusal.ensures m step same) in
     start-by-file chains f_chain m p now was (vec_len c.args.devices.now.terms) _ _ _
@@ -28,7 +28,7 @@ returns-in-Err-clause-call g c now m was tied stands kinds =
 
 pub returns-in-Ok-clause-call : goal.returns-in-Ok-clause-call
 returns-in-Ok-clause-call g c now m was tied stands kinds =
-    let p = c.args.p.0 in
+    let p = c.args.by.p.0 in
     let terms = vec_len c.args.devices.now.terms in
     let same = c.names_program.ensures.same.represents m tied in
     let after = c.read_program.ensures.same.represents m same in

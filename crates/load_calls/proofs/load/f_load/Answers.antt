@@ -8,7 +8,7 @@ use Rattle.load_calls.proofs.load.f_load.Goals as goal
 
 pub returns-in-Err-clause-call : goal.returns-in-Err-clause-call
 returns-in-Err-clause-call g c now m was tied stands kinds =
-    let p = c.args.p.0 in
+    let p = c.args.by.p.0 in
     let terms = vec_len c.args.devices.now.terms in
     let asker = asker_of m p now in
     let read = c.in-Err.ensures.call m was now tied stands in
@@ -26,7 +26,7 @@ returns-in-Err-clause-call g c now m was tied stands kinds =
 
 pub returns-in-Ok-clause-call : goal.returns-in-Ok-clause-call
 returns-in-Ok-clause-call g c now m was tied stands kinds =
-    let p = c.args.p.0 in
+    let p = c.args.by.p.0 in
     let terms = vec_len c.args.devices.now.terms in
     let asker = asker_of m p now in
     let read = c.in-Ok.ensures.call m was now tied stands in

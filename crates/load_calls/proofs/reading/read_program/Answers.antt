@@ -7,60 +7,61 @@ use Rattle.os9_base.specs.Cells.{Cells}
 use Rattle.os9_base.specs.declared.errors.TheConstants.{E_FNA}
 use Rattle.os9_base.specs.declared.registers.Regs.{Regs}
 use Rattle.proc_rules.specs.Processes.{cells_at}
-use Rattle.load_calls.proofs.TieLemmas.{same-processes}
-use Rattle.load_calls.proofs.WayLemmas.{as-many, program-along, program-nowhere, program-refused, route-along, route-device, way-names}
+use Rattle.load_calls.proofs.TieLemmas.{regs-are, same-processes}
+use Rattle.load_calls.proofs.RouteLemmas.{as-many, program-along, program-nowhere, program-refused, route-along, route-device, route-names}
 use Rattle.load_calls.proofs.reading.read_program.Goals as goal
 
 pub read_along-requires-clause-names : goal.read_along-requires-clause-names
 read_along-requires-clause-names g c =
-    subst (λ (cells : Cells). SomeFrom cells c.in-Along.first) (sym (c.call_route.ensures.same.memory.cells c.args.p.0))
-    (way-names (cells_of c.args.s.now.memory c.args.p.0) c.in-Ok.route.way c.in-Along.from c.in-Along.first c.in-Along.is c.in-Ok.ensures.names)
+    subst (λ (cells : Cells). SomeFrom cells c.in-Along.start.first) (sym (c.call_route.ensures.same.memory.cells c.args.by.p.0))
+    (route-names (cells_of c.args.machine.now.processes.memory c.args.by.p.0) c.in-Ok.route.course c.in-Along.start c.in-Along.is c.in-Ok.ensures.names)
 
 pub returns-in-Err-clause-call : goal.returns-in-Err-clause-call
 returns-in-Err-clause-call g c m was now tied stands =
-    let asker = asker_of m c.args.p.0 now in
+    let asker = asker_of m c.args.by.p.0 now in
     let terms = vec_len c.args.devices.now.terms in
-    program-nowhere asker was terms c.args.refusal c.args.files.now _ c.in-Err.number _ stands
+    program-nowhere asker was terms c.args.refusal c.args.machine.now.files _ c.in-Err.number _ stands
     (program-refused asker was terms c.args.refusal c.in-Err.number
     (c.in-Err.ensures.route m now was true _ tied (record {
       cells_are = refl;
-      at_is = ap (λ (regs : Regs). regs.x) (sym (c.regs.ensures.tied m tied));
+      at_is = ap (λ (regs : Regs). regs.x) (sym (regs-are c.args.by c.args.machine.now.processes m c.requires.calls tied));
       directory_is = sym (c.directory.ensures.directory _ was stands);
       mounted = stands.mounted;
-      as_many = as-many c.args.files.now _ was stands ∙ length-map _ _ ∙ sym c.args.devices.now.drives.ok.0;
+      as_many = as-many c.args.machine.now.files _ was stands ∙ length-map _ _ ∙ sym c.args.devices.now.drives.ok.0;
     })))
 
 pub returns-in-Device-clause-call : goal.returns-in-Device-clause-call
 returns-in-Device-clause-call g c m was now tied stands =
-    let asker = asker_of m c.args.p.0 now in
+    let asker = asker_of m c.args.by.p.0 now in
     let terms = vec_len c.args.devices.now.terms in
-    program-nowhere asker was terms c.args.refusal c.args.files.now _ E_FNA _ stands
-    (route-device (cells_at m c.args.p.0) asker was terms c.args.refusal c.in-Ok.route
+    program-nowhere asker was terms c.args.refusal c.args.machine.now.files _ E_FNA _ stands
+    (route-device (cells_at m c.args.by.p.0) asker was terms c.args.refusal c.in-Ok.route
     (c.in-Ok.ensures.route m now was true _ tied (record {
       cells_are = refl;
-      at_is = ap (λ (regs : Regs). regs.x) (sym (c.regs.ensures.tied m tied));
+      at_is = ap (λ (regs : Regs). regs.x) (sym (regs-are c.args.by c.args.machine.now.processes m c.requires.calls tied));
       directory_is = sym (c.directory.ensures.directory _ was stands);
       mounted = stands.mounted;
-      as_many = as-many c.args.files.now _ was stands ∙ length-map _ _ ∙ sym c.args.devices.now.drives.ok.0;
+      as_many = as-many c.args.machine.now.files _ was stands ∙ length-map _ _ ∙ sym c.args.devices.now.drives.ok.0;
     })) c.in-Device.is)
 
 pub returns-in-Along-clause-call : goal.returns-in-Along-clause-call
 returns-in-Along-clause-call g c m was now tied stands =
-    let asker = asker_of m c.args.p.0 now in
+    let asker = asker_of m c.args.by.p.0 now in
     let terms = vec_len c.args.devices.now.terms in
     let it =
     c.in-Ok.ensures.route m now was true _ tied (record {
       cells_are = refl;
-      at_is = ap (λ (regs : Regs). regs.x) (sym (c.regs.ensures.tied m tied));
+      at_is = ap (λ (regs : Regs). regs.x) (sym (regs-are c.args.by c.args.machine.now.processes m c.requires.calls tied));
       directory_is = sym (c.directory.ensures.directory _ was stands);
       mounted = stands.mounted;
-      as_many = as-many c.args.files.now _ was stands ∙ length-map _ _ ∙ sym c.args.devices.now.drives.ok.0;
+      as_many = as-many c.args.machine.now.files _ was stands ∙ length-map _ _ ∙ sym c.args.devices.now.drives.ok.0;
     })
     in
-    let led = route-along (cells_at m c.args.p.0) asker _ c.in-Ok.route c.in-Along.from c.in-Along.first it c.in-Along.is in
-    program-along asker was terms c.args.refusal it.list c.in-Along.from c.read_along.result c.read_along.new.s.buffer.items c.read_along.new.files _ _ it.read led.0
+    let led = route-along (cells_at m c.args.by.p.0) asker _ c.in-Ok.route c.in-Along.start it c.in-Along.is in
+    program-along asker was terms c.args.refusal it.list c.in-Along.start.directory c.read_along.result c.read_along.new.machine.processes.buffer.items c.read_along.new.machine.files _ _ it.read
+    led.0
     (c.read_along.ensures.along m was now it.list (c.call_route.ensures.same.represents m tied) stands led.1 it.route_is.next_is)
 
 pub returns-in-Along-clause-same : goal.returns-in-Along-clause-same
 returns-in-Along-clause-same g c =
-    same-processes c.args.s.now c.call_route.new.s c.read_along.new.s c.call_route.ensures.same c.read_along.ensures.same
+    same-processes c.args.machine.now.processes c.call_route.new.s c.read_along.new.machine.processes c.call_route.ensures.same c.read_along.ensures.same

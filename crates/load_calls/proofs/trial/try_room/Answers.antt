@@ -1,6 +1,6 @@
-use Rattle.std.proofs.Common.{◌≡◌, ◌<◌, ◌≤◌, true, false, [], sym, ◌∙◌, arith}
+use Rattle.std.proofs.Common.{◌<◌, ◌≤◌, [], sym, arith}
 use Rattle.std.proofs.lemmas.Bool.{lt-ltb, le-ltb}
-use Rattle.proc_model.specs.Memory.{free_blocks, wants_blocks}
+use Rattle.proc_model.specs.Memory.{free_blocks}
 use Rattle.proc_model.specs.MemoryChanges.{new_numbers}
 use Rattle.proc_model.specs.Objects.{file_blocks}
 use Rattle.load_calls.proofs.LoadedLemmas.{has-room, never-broken, no-module, no-room, some-memory}

@@ -6,21 +6,22 @@ use Rattle.name_calls.proofs.begin.begin_on.Goals as goal
 
 pub refuse-requires-clause-first : goal.refuse-requires-clause-first
 refuse-requires-clause-first c =
-    ap (λ (io : Io). pending_at io c.args.p.0) c.begin_on_disk.ensures.io ∙ c.requires.first
+    ap (λ (io : Io). pending_at io c.args.by.p.0) c.begin_on_disk.ensures.io ∙ c.requires.calls.none_pending
 
 pub answer-requires-clause-first : goal.answer-requires-clause-first
 answer-requires-clause-first c =
-    ap (λ (io : Io). pending_at io c.args.p.0) c.begin_on_disk.ensures.io ∙ c.requires.first
+    ap (λ (io : Io). pending_at io c.args.by.p.0) c.begin_on_disk.ensures.io ∙ c.requires.calls.none_pending
 
 pub returns-in-Err-clause-begins : goal.returns-in-Err-clause-begins
 returns-in-Err-clause-begins c m was now list views tied stands next =
     let none = c.in-Err.ensures.number in
-    full-quietly m was now c.args.p.0 list c.args.target c.args.files.now views stands c.refuse.result c.args.s.now c.begin_on_disk.new.self c.refuse.new.io c.refuse.ensures.io
-    (c.begin_on_disk.ensures.io ∙ ap (with_paths c.args.files.now.io) (paths-full c.args.files.now.io.paths c.args.p.0 (new_desc c.args.target c.regs-regs.result.a) none))
+    full-quietly m was now c.args.by.p.0 list c.args.target c.args.machine.now.files views stands c.refuse.result c.args.machine.now.processes c.begin_on_disk.new.self c.refuse.new.io
+    c.refuse.ensures.io
+    (c.begin_on_disk.ensures.io ∙ ap (with_paths c.args.machine.now.files.io) (paths-full c.args.machine.now.files.io.paths c.args.by.p.0 (new_desc c.args.target c.args.by.regs.a) none))
     none c.refuse.ensures.end tied
 
 pub returns-in-Ok-clause-begins : goal.returns-in-Ok-clause-begins
 returns-in-Ok-clause-begins c m was now list views tied stands next =
-    begun-quietly m was now c.args.p.0 list c.args.target c.args.files.now views stands c.answer.result c.answer.new.s c.begin_on_disk.new.self c.answer.new.io c.answer.ensures.io
+    begun-quietly m was now c.args.by.p.0 list c.args.target c.args.machine.now.files views stands c.answer.result c.answer.new.s c.begin_on_disk.new.self c.answer.new.io c.answer.ensures.io
     c.in-Ok.a c.args.next c.in-Ok.ensures.number next c.answer.ensures.end
-    c.regs-regs.result (c.regs-regs.ensures.regs ∙ sym (regs-tied c.args.s.now m c.args.p.0 tied)) c.begin_on_disk.ensures.io (c.answer.ensures.tied m tied)
+    c.args.by.regs (c.requires.calls.regs ∙ sym (regs-tied c.args.machine.now.processes m c.args.by.p.0 tied)) c.begin_on_disk.ensures.io (c.answer.ensures.tied m tied)

@@ -1,8 +1,8 @@
 use Rattle.std.proofs.Common.{refl, sym, vec_len}
 use Rattle.file_rules.specs.Attempts.{asker_of}
 use Rattle.file_rules.specs.Delete.{deletes_by}
-use Rattle.file_routes.specs.Ways.{next_step, refuses_by}
-use Rattle.file_routes.specs.declared.way.Purpose.TheVariants.{Existing}
+use Rattle.file_routes.specs.Routes.{next_step, refuses_by}
+use Rattle.file_routes.specs.declared.route.Purpose.TheVariants.{Existing}
 use Rattle.name_calls.specs.ListCalls.{deletes_by_calls, deleting_calls, named_calls}
 use Rattle.name_calls.specs.Delete.{deletes_it, deletes_it_calls}
 use Rattle.name_calls.specs.Naming.{IsNamed, names_last}
@@ -16,7 +16,7 @@ use Rattle.name_calls.proofs.delete.delete_named.Goals as goal
 
 pub returns-in-Err-clause-tries : goal.returns-in-Err-clause-tries
 returns-in-Err-clause-tries g c now m was tied stands =
-    let asker = asker_of m c.args.p.0 now in
+    let asker = asker_of m c.args.by.p.0 now in
     let terms = vec_len c.args.devices.now.terms in
     let look = names_last Existing c.args.execute c.args.refusal asker was terms in
     let seen = named_calls Existing c.args.execute (λ name v dir. 0) asker was terms in
@@ -26,21 +26,21 @@ returns-in-Err-clause-tries g c now m was tied stands =
     (sym (deletes-parts asker was c.args.execute terms c.args.refusal)) refl
     (tries-more (next_step look (deletes_it asker was c.args.execute)) seen most asker was _ _ _ _ (named-seen Existing asker was terms c.args.execute (deleting_calls asker.user c.args.execute))
     (tries-unfound (IsNamed Existing look was) look (deletes_it asker was c.args.execute) seen asker was
-    c.in-Err.number c.locate_last.new.files _ _ (deletes-quiet asker was c.args.execute)
+    c.in-Err.number c.locate_last.new.machine.files _ _ (deletes-quiet asker was c.args.execute)
     (c.in-Err.ensures.locates m was now tied stands)))
 
 pub returns-in-Ok-clause-tries : goal.returns-in-Ok-clause-tries
 returns-in-Ok-clause-tries g c now m was tied stands =
-    let asker = asker_of m c.args.p.0 now in
+    let asker = asker_of m c.args.by.p.0 now in
     let terms = vec_len c.args.devices.now.terms in
     let look = names_last Existing c.args.execute c.args.refusal asker was terms in
     let seen = named_calls Existing c.args.execute (λ name v dir. 0) asker was terms in
     let most = deletes_by_calls c.args.execute asker was terms in
-    let loc = found (IsNamed Existing look was) look seen was c.in-Ok.last c.locate_last.new.files _ _ (c.in-Ok.ensures.locates m was now tied stands) in
+    let loc = found (IsNamed Existing look was) look seen was c.in-Ok.last c.locate_last.new.machine.files _ _ (c.in-Ok.ensures.locates m was now tied stands) in
     tries-same (next_step look (deletes_it asker was c.args.execute)) (deletes_by asker was terms c.args.execute
     (refuses_by c.args.refusal)) most most asker was _ _ _ _
     (sym (deletes-parts asker was c.args.execute terms c.args.refusal)) refl
     (tries-more (next_step look (deletes_it asker was c.args.execute)) (deletes_it_calls seen asker c.args.execute
     loc.it) most asker was _ _ _ _ (named-within Existing asker was terms c.args.execute
     (deleting_calls asker.user c.args.execute) loc.it c.args.refusal loc.answer)
-    (c.delete_in.ensures.deletes look seen asker was _ (user-is c.args.s.now m c.args.p.0 c.user-user.result tied c.user-user.ensures.user) loc))
+    (c.delete_in.ensures.deletes look seen asker was _ (user-is c.args.machine.now.processes m c.args.by.p.0 c.user-user.result tied c.user-user.ensures.user) loc))

@@ -9,11 +9,11 @@ use Rattle.name_calls.proofs.delete.i_delete.Goals as goal
 
 pub returns-clause-call : goal.returns-clause-call
 returns-clause-call g c now terms many m was tied stands kinds =
-    let asker = asker_of m c.args.p.0 now in
+    let asker = asker_of m c.args.by.p.0 now in
     let terminals = vec_len c.args.devices.now.terms in
     let step = i_delete asker was (length terms) in
     let most = i_delete_calls asker was (length terms) in
-    ends-attempt most Call.Delete m was now c.args.p.0 c.end_call.result terms _ _
+    ends-attempt most Call.Delete m was now c.args.by.p.0 c.end_call.result terms _ _
     (c.end_call.ensures.ends step most m was now terms _ _ (c.delete_named-came.ensures.same.represents m tied)
     (tries-same (i_delete asker was terminals) step (i_delete_calls asker was terminals) most asker was _ _ _ _
     (ap (i_delete asker was) (sym many)) (ap (i_delete_calls asker was) (sym many))

@@ -7,68 +7,71 @@ use Rattle.file_rules.specs.Attempts.{asker_of}
 use Rattle.file_rules.specs.Open.{i_open, is_for_execution, opens_device}
 use Rattle.file_rules.specs.Step.{refused}
 use Rattle.file_rules.specs.declared.path_call.PathCall.TheVariants as Call
-use Rattle.file_routes.specs.Ways.{NamesOn, mode_refusal}
-use Rattle.file_routes.specs.declared.way.Way.{Way}
-use Rattle.file_routes.specs.declared.way.Way.TheVariants.{Along, Device}
+use Rattle.file_routes.specs.Routes.{NamesOn, mode_refusal}
+use Rattle.file_routes.specs.declared.route.Course.{Course}
+use Rattle.file_routes.specs.declared.route.Course.TheVariants.{Along, Device}
+use Rattle.name_calls.proofs.SameLemmas.{regs-are}
 use Rattle.name_calls.proofs.OpenCallLemmas.{open-calls}
 use Rattle.name_calls.proofs.DeviceLemmas.{as-many, device-ends, views-many}
-use Rattle.name_calls.proofs.OpenEndLemmas.{attempts-by, refused-at_once, regs-tied}
+use Rattle.name_calls.proofs.OpenEndLemmas.{attempts-by, refused-at_once}
 use Rattle.name_calls.proofs.OpenLemmas.{opens-refused, opens-routed}
 use Rattle.name_calls.specs.OpenCalls.{i_open_calls}
-use Rattle.name_calls.specs.Steps.{opens_along, walker_at}
+use Rattle.name_calls.specs.Steps.{opens_along}
 use Rattle.name_calls.proofs.open.i_open.Goals as goal
 
 pub returns-in-Err-clause-call : goal.returns-in-Err-clause-call
 returns-in-Err-clause-call g c now terms many m was tied stands kinds =
-    let p = c.args.p.0 in
+    let p = c.args.by.p.0 in
     let asker = asker_of m p now in
     let count = vec_len c.args.devices.now.terms in
     let number = c.in-Err.number in
-    let same = regs-tied c.args.s.now m p tied in
+    let same = regs-are c.args.by c.args.machine.now.processes m c.requires.calls.regs tied in
     let refusal_is : c.mode_refusal-refusal.result ≡ mode_refusal (is_mode (regs_at m p).a) =
-    c.mode_refusal-refusal.ensures ∙ ap mode_refusal (c.is_mode.ensures ∙ ap (λ (r : Regs). is_mode r.a) (c.regs.ensures.regs ∙ sym same)) in
+    c.mode_refusal-refusal.ensures ∙ ap mode_refusal (c.is_mode.ensures ∙ ap (λ (r : Regs). is_mode r.a) same) in
+    let execute_is : c.is_for_execution-execute.result ≡ is_for_execution (regs_at m p).a = c.is_for_execution-execute.ensures ∙ ap (λ (r : Regs). is_for_execution r.a) same in
     attempts-by _ Call.Open m was now p c.refuse.result terms _ _ (refused number) _
     (ap (i_open asker was) many ∙ opens-refused asker was count c.mode_refusal-refusal.result
-    (walker_at c.args.s.now c.args.p).execute refusal_is (ap (λ (r : Regs). is_for_execution r.a) (sym same))
+    c.is_for_execution-execute.result refusal_is execute_is
     number (c.in-Err.ensures.route m was now tied stands)) refl
-    (refused-at_once m p c.args.files.now _ c.refuse.result c.find_way.new.s c.refuse.new.io c.refuse.ensures.io
-    number c.refuse.ensures.end (c.find_way.ensures.same.represents m tied) was now terms _ (refused number) refl
+    (refused-at_once m p c.args.machine.now.files _ c.refuse.result c.find_route.new.s c.refuse.new.io c.refuse.ensures.io
+    number c.refuse.ensures.end (c.find_route.ensures.same.represents m tied) was now terms _ (refused number) refl
     stands)
 
 pub returns-in-Device-clause-call : goal.returns-in-Device-clause-call
 returns-in-Device-clause-call g c now terms many m was tied stands kinds =
-    let p = c.args.p.0 in
+    let p = c.args.by.p.0 in
     let asker = asker_of m p now in
     let count = vec_len c.args.devices.now.terms in
-    let same = regs-tied c.args.s.now m p tied in
+    let same = regs-are c.args.by c.args.machine.now.processes m c.requires.calls.regs tied in
     let refusal_is : c.mode_refusal-refusal.result ≡ mode_refusal (is_mode (regs_at m p).a) =
-    c.mode_refusal-refusal.ensures ∙ ap mode_refusal (c.is_mode.ensures ∙ ap (λ (r : Regs). is_mode r.a) (c.regs.ensures.regs ∙ sym same)) in
+    c.mode_refusal-refusal.ensures ∙ ap mode_refusal (c.is_mode.ensures ∙ ap (λ (r : Regs). is_mode r.a) same) in
+    let execute_is : c.is_for_execution-execute.result ≡ is_for_execution (regs_at m p).a = c.is_for_execution-execute.ensures ∙ ap (λ (r : Regs). is_for_execution r.a) same in
     let route = c.in-Ok.ensures.route m was now tied stands in
     attempts-by _ Call.Open m was now p c.i_open.result terms _ _ (opens_device asker was (length terms)) _
     (ap (i_open asker was) many ∙ opens-routed asker was count c.mode_refusal-refusal.result
-    (walker_at c.args.s.now c.args.p).execute refusal_is (ap (λ (r : Regs). is_for_execution r.a) (sym same))
+    c.is_for_execution-execute.result refusal_is execute_is
     (cells_at m p) c.in-Ok.route Device route c.in-Device.is ∙ sym (ap (opens_device asker was) many)) refl
-    (device-ends _ IoCall.Open m was now p c.args.files.now _ (vec_len c.args.devices.now.drives) c.i_open.result c.i_open.new.s c.i_open.new.io _ terms stands c.cancel.ensures
-    (as-many c.args.files.now _ was stands ∙ views-many (λ box. (g.dyn-1.0.entry box.vtable).1) c.args.devices.now.drives.items ∙ sym c.args.devices.now.drives.ok.0)
-    (c.i_open.ensures.call m terms (c.find_way.ensures.same.represents m tied) many))
+    (device-ends _ IoCall.Open m was now p c.args.machine.now.files _ (vec_len c.args.devices.now.drives) c.i_open.result c.i_open.new.s c.i_open.new.io _ terms stands c.cancel.ensures
+    (as-many c.args.machine.now.files _ was stands ∙ views-many (λ box. (g.dyn-1.0.entry box.vtable).1) c.args.devices.now.drives.items ∙ sym c.args.devices.now.drives.ok.0)
+    (c.i_open.ensures.call m terms (c.find_route.ensures.same.represents m tied) many))
 
 pub returns-in-Along-clause-call : goal.returns-in-Along-clause-call
 returns-in-Along-clause-call g c now terms many m was tied stands kinds =
-    let p = c.args.p.0 in
+    let p = c.args.by.p.0 in
     let asker = asker_of m p now in
     let count = vec_len c.args.devices.now.terms in
-    let same = regs-tied c.args.s.now m p tied in
-    let from = c.in-Along.from in
-    let first = c.in-Along.first in
+    let same = regs-are c.args.by c.args.machine.now.processes m c.requires.calls.regs tied in
+    let start = c.in-Along.start in
     let refusal_is : c.mode_refusal-refusal.result ≡ mode_refusal (is_mode (regs_at m p).a) =
-    c.mode_refusal-refusal.ensures ∙ ap mode_refusal (c.is_mode.ensures ∙ ap (λ (r : Regs). is_mode r.a) (c.regs.ensures.regs ∙ sym same)) in
+    c.mode_refusal-refusal.ensures ∙ ap mode_refusal (c.is_mode.ensures ∙ ap (λ (r : Regs). is_mode r.a) same) in
+    let execute_is : c.is_for_execution-execute.result ≡ is_for_execution (regs_at m p).a = c.is_for_execution-execute.ensures ∙ ap (λ (r : Regs). is_for_execution r.a) same in
     let route = c.in-Ok.ensures.route m was now tied stands in
-    attempts-by _ Call.Open m was now p c.open_along.result terms _ _ (opens_along asker was route.list from) _
+    attempts-by _ Call.Open m was now p c.open_along.result terms _ _ (opens_along asker was route.list start.directory) _
     (ap (i_open asker was) many ∙ opens-routed asker was count c.mode_refusal-refusal.result
-    (walker_at c.args.s.now c.args.p).execute refusal_is (ap (λ (r : Regs). is_for_execution r.a) (sym same))
-    (cells_at m p) c.in-Ok.route (Along from first) route c.in-Along.is)
-    (open-calls (cells_at m p) asker was count c.mode_refusal-refusal.result (walker_at c.args.s.now c.args.p).execute
-    (ap (λ (r : Regs). is_for_execution r.a) (sym same)) c.in-Ok.route from first route c.in-Along.is ∙ sym
+    c.is_for_execution-execute.result refusal_is execute_is
+    (cells_at m p) c.in-Ok.route (Along start) route c.in-Along.is)
+    (open-calls (cells_at m p) asker was count c.mode_refusal-refusal.result c.is_for_execution-execute.result
+    execute_is c.in-Ok.route start route c.in-Along.is ∙ sym
     (ap (i_open_calls asker was) many))
-    (c.open_along.ensures.opens now m was route.list (c.find_way.ensures.same.represents m tied) stands
-    (subst (λ (way : Way). NamesOn (cells_at m p) way route.list.names) c.in-Along.is route.route_is.names) (sym route.route_is.next_is) terms)
+    (c.open_along.ensures.opens now m was route.list (c.find_route.ensures.same.represents m tied) stands
+    (subst (λ (course : Course). NamesOn (cells_at m p) course route.list.names) c.in-Along.is route.route_is.names) (sym route.route_is.next_is) terms)

@@ -62,7 +62,7 @@ write_marks-requires-clause-places g c =
     let m = c.requires.mounted in
     let sizes = sizes_are c.args.volume.now m.on.image m.content m.on.vol m.agrees in
     places_gained c.args.volume.now.ident.cluster c.args.count c.args.volume.now.map c.gain.new.map c.args.segs.now c.in_ok-longer.longer c.in_ok-longer.ensures.ok.gain sizes.some sizes.sectors
-    (enough_free _ _ _ _ c.in_ok-longer.ensures.full) c.sectors-first.result c.sectors-first.ensures.count c.sectors-first.ensures.few
+    (enough_free _ _ _ _ c.in_ok-longer.ensures.full) c.sectors.result c.sectors.ensures.count c.sectors.ensures.few
 
 pub give_back-requires-clause-sizes : goal.give_back-requires-clause-sizes
 give_back-requires-clause-sizes g c =
@@ -76,9 +76,9 @@ give_back-requires-clause-places g c =
     let m = c.requires.mounted in
     let sizes = sizes_are c.args.volume.now m.on.image m.content m.on.vol m.agrees in
     let same = ap (λ (kv : KeptVolume). kv.map) c.in-Err.ensures.volume_kept in
-    subst (λ n. ArePlaces c.args.volume.now.ident.cluster n c.in_ok-longer.longer c.sectors-first.result c.args.count) (sym same)
+    subst (λ n. ArePlaces c.args.volume.now.ident.cluster n c.in_ok-longer.longer c.sectors.result c.args.count) (sym same)
     (places_gained c.args.volume.now.ident.cluster c.args.count c.args.volume.now.map c.gain.new.map c.args.segs.now c.in_ok-longer.longer c.in_ok-longer.ensures.ok.gain sizes.some sizes.sectors
-    (enough_free _ _ _ _ c.in_ok-longer.ensures.full) c.sectors-first.result c.sectors-first.ensures.count c.sectors-first.ensures.few)
+    (enough_free _ _ _ _ c.in_ok-longer.ensures.full) c.sectors.result c.sectors.ensures.count c.sectors.ensures.few)
 
 pub returns-in-Ok-clause-grows : goal.returns-in-Ok-clause-grows
 returns-in-Ok-clause-grows g c v on =
@@ -86,8 +86,8 @@ returns-in-Ok-clause-grows g c v on =
     let sizes = sizes_are c.args.volume.now on.image v on.vol agrees in
     let those =
     those_gained c.args.volume.now.ident.cluster c.args.count c.args.volume.now.map c.gain.new.map c.args.segs.now
-    c.in_ok-longer.longer c.in_ok-longer.ensures.ok.gain sizes.some c.sectors-first.result
-    c.sectors-first.ensures.count in
+    c.in_ok-longer.longer c.in_ok-longer.ensures.ok.gain sizes.some c.sectors.result
+    c.sectors.ensures.count in
     record {
       grown = grown c.args.volume.now on.image v on.vol agrees c.gain.new.map c.args.count c.args.segs.now c.in_ok-longer.longer c.in_ok-longer.ensures.ok _ _ on.is c.write_marks.new.written
           (c.in-Ok.ensures.on v on.image (marked_fresh c.args.volume.now on.image v on.vol agrees c.gain.new.map c.args.count c.args.segs.now c.in_ok-longer.longer c.in_ok-longer.ensures.ok _ on.is))
@@ -103,12 +103,12 @@ returns-in-Ok-clause-mounted g c =
     let sizes = sizes_are c.args.volume.now m.on.image m.content m.on.vol m.agrees in
     let those =
     those_gained c.args.volume.now.ident.cluster c.args.count c.args.volume.now.map c.gain.new.map c.args.segs.now
-    c.in_ok-longer.longer c.in_ok-longer.ensures.ok.gain sizes.some c.sectors-first.result
-    c.sectors-first.ensures.count in
+    c.in_ok-longer.longer c.in_ok-longer.ensures.ok.gain sizes.some c.sectors.result
+    c.sectors.ensures.count in
     let marked =
     c.in-Ok.ensures.on m.content m.on.image (marked_fresh c.args.volume.now m.on.image m.content m.on.vol m.agrees
     c.gain.new.map c.args.count c.args.segs.now c.in_ok-longer.longer c.in_ok-longer.ensures.ok _ m.on.is) in
-    mounted_where c.write_marks.new.volume _ _ marked.now _ marked.is marked.marked.vol
+    mounted_where c.write_marks.new.v _ _ marked.now _ marked.is marked.marked.vol
     (grown_agrees c.args.volume.now m.on.image m.content m.on.vol m.agrees c.gain.new.map c.args.count c.args.segs.now
     c.in_ok-longer.longer c.in_ok-longer.ensures.ok _ _ m.on.is c.write_marks.new.written marked
     (subst (λ xs. AllWritten xs c.write_marks.new.written) those c.in-Ok.ensures.all))
@@ -139,8 +139,8 @@ returns-in-Err-clause-mounted g c =
     let sizes = sizes_are c.args.volume.now m.on.image m.content m.on.vol m.agrees in
     let those =
     those_gained c.args.volume.now.ident.cluster c.args.count c.args.volume.now.map c.gain.new.map c.args.segs.now
-    c.in_ok-longer.longer c.in_ok-longer.ensures.ok.gain sizes.some c.sectors-first.result
-    c.sectors-first.ensures.count in
+    c.in_ok-longer.longer c.in_ok-longer.ensures.ok.gain sizes.some c.sectors.result
+    c.sectors.ensures.count in
     let marked =
     c.in-Err.ensures.on m.content m.on.image (marked_fresh c.args.volume.now m.on.image m.content m.on.vol m.agrees
     c.gain.new.map c.args.count c.args.segs.now c.in_ok-longer.longer c.in_ok-longer.ensures.ok _ m.on.is) in
@@ -149,8 +149,8 @@ returns-in-Err-clause-mounted g c =
     mounted_where _ _ _ marked.now _ marked.is marked.marked.vol
     (back_agrees c.args.volume.now m.on.image m.content m.on.vol m.agrees c.gain.new.map c.args.count c.args.segs.now
     c.in_ok-longer.longer c.in_ok-longer.ensures.ok _ _ m.on.is c.write_marks.new.written marked
-    c.give_back.new.map c.sectors-first.result those
-    (subst (λ n. IsGivenBack c.args.volume.now.ident.cluster c.in_ok-longer.longer c.sectors-first.result c.args.count c.write_marks.new.written n c.give_back.new.map) same c.give_back.ensures))
+    c.give_back.new.map c.sectors.result those
+    (subst (λ n. IsGivenBack c.args.volume.now.ident.cluster c.in_ok-longer.longer c.sectors.result c.args.count c.write_marks.new.written n c.give_back.new.map) same c.give_back.ensures))
     (ap (λ s. record { sizes = s; map = c.give_back.new.map }) sizes_same) c.in-Err.ensures.cached
 
 pub returns-in-Ok-clause-counts : goal.returns-in-Ok-clause-counts
@@ -161,15 +161,15 @@ returns-in-Ok-clause-counts g c =
     let places =
     places_gained c.args.volume.now.ident.cluster c.args.count c.args.volume.now.map c.gain.new.map c.args.segs.now
     c.in_ok-longer.longer c.in_ok-longer.ensures.ok.gain sizes.some sizes.sectors
-    (enough_free _ _ _ _ c.in_ok-longer.ensures.full) c.sectors-first.result c.sectors-first.ensures.count c.sectors-first.ensures.few in
+    (enough_free _ _ _ _ c.in_ok-longer.ensures.full) c.sectors.result c.sectors.ensures.count c.sectors.ensures.few in
     let those =
     those_gained c.args.volume.now.ident.cluster c.args.count c.args.volume.now.map c.gain.new.map c.args.segs.now
-    c.in_ok-longer.longer c.in_ok-longer.ensures.ok.gain sizes.some c.sectors-first.result
-    c.sectors-first.ensures.count in
+    c.in_ok-longer.longer c.in_ok-longer.ensures.ok.gain sizes.some c.sectors.result
+    c.sectors.ensures.count in
     at_most_count _ _ _ _ _ (wanted_calls _ c.args.count (λ p. true) (replicate 256 false) (map_sectors (shape m.content)) _ _
     (c.in-Ok.ensures.counts (λ p. true) (map_sectors (shape m.content))
     (wanted_all c.args.volume.now m.on.image m.content m.on.vol agrees c.gain.new.map c.args.count c.args.segs.now
-    c.in_ok-longer.longer c.in_ok-longer.ensures.ok c.sectors-first.result places those)))
+    c.in_ok-longer.longer c.in_ok-longer.ensures.ok c.sectors.result places those)))
 
 pub returns-in-Ok-clause-marks : goal.returns-in-Ok-clause-marks
 returns-in-Ok-clause-marks g c v on =
@@ -178,17 +178,17 @@ returns-in-Ok-clause-marks g c v on =
     let places =
     places_gained c.args.volume.now.ident.cluster c.args.count c.args.volume.now.map c.gain.new.map c.args.segs.now
     c.in_ok-longer.longer c.in_ok-longer.ensures.ok.gain sizes.some sizes.sectors
-    (enough_free _ _ _ _ c.in_ok-longer.ensures.full) c.sectors-first.result c.sectors-first.ensures.count c.sectors-first.ensures.few in
+    (enough_free _ _ _ _ c.in_ok-longer.ensures.full) c.sectors.result c.sectors.ensures.count c.sectors.ensures.few in
     let those =
     those_gained c.args.volume.now.ident.cluster c.args.count c.args.volume.now.map c.gain.new.map c.args.segs.now
-    c.in_ok-longer.longer c.in_ok-longer.ensures.ok.gain sizes.some c.sectors-first.result
-    c.sectors-first.ensures.count in
+    c.in_ok-longer.longer c.in_ok-longer.ensures.ok.gain sizes.some c.sectors.result
+    c.sectors.ensures.count in
     at_most_wanted _ c.args.count _ _ _ (wanted_calls _ c.args.count
     (has_mark_of (shape v) (is_gained (cluster_size v) c.args.segs.now c.in_ok-longer.longer)) (replicate 256 false)
     (map_sectors (shape v)) _ _
     (c.in-Ok.ensures.counts (has_mark_of (shape v) (is_gained (cluster_size v) c.args.segs.now c.in_ok-longer.longer))
     (map_sectors (shape v)) (wanted_gained c.args.volume.now on.image v on.vol agrees c.gain.new.map c.args.count
-    c.args.segs.now c.in_ok-longer.longer c.in_ok-longer.ensures.ok c.sectors-first.result places those
+    c.args.segs.now c.in_ok-longer.longer c.in_ok-longer.ensures.ok c.sectors.result places those
     (c.requires.apart v on))))
 
 pub returns-in-Err-clause-counts : goal.returns-in-Err-clause-counts
@@ -199,15 +199,15 @@ returns-in-Err-clause-counts g c =
     let places =
     places_gained c.args.volume.now.ident.cluster c.args.count c.args.volume.now.map c.gain.new.map c.args.segs.now
     c.in_ok-longer.longer c.in_ok-longer.ensures.ok.gain sizes.some sizes.sectors
-    (enough_free _ _ _ _ c.in_ok-longer.ensures.full) c.sectors-first.result c.sectors-first.ensures.count c.sectors-first.ensures.few in
+    (enough_free _ _ _ _ c.in_ok-longer.ensures.full) c.sectors.result c.sectors.ensures.count c.sectors.ensures.few in
     let those =
     those_gained c.args.volume.now.ident.cluster c.args.count c.args.volume.now.map c.gain.new.map c.args.segs.now
-    c.in_ok-longer.longer c.in_ok-longer.ensures.ok.gain sizes.some c.sectors-first.result
-    c.sectors-first.ensures.count in
+    c.in_ok-longer.longer c.in_ok-longer.ensures.ok.gain sizes.some c.sectors.result
+    c.sectors.ensures.count in
     at_most_count _ _ _ _ _ (wanted_calls _ c.args.count (λ p. true) (replicate 256 false) (map_sectors (shape m.content)) _ _
     (c.in-Err.ensures.counts (λ p. true) (map_sectors (shape m.content))
     (wanted_all c.args.volume.now m.on.image m.content m.on.vol agrees c.gain.new.map c.args.count c.args.segs.now
-    c.in_ok-longer.longer c.in_ok-longer.ensures.ok c.sectors-first.result places those)))
+    c.in_ok-longer.longer c.in_ok-longer.ensures.ok c.sectors.result places those)))
 
 pub returns-in-Err-clause-marks : goal.returns-in-Err-clause-marks
 returns-in-Err-clause-marks g c v on =
@@ -216,15 +216,15 @@ returns-in-Err-clause-marks g c v on =
     let places =
     places_gained c.args.volume.now.ident.cluster c.args.count c.args.volume.now.map c.gain.new.map c.args.segs.now
     c.in_ok-longer.longer c.in_ok-longer.ensures.ok.gain sizes.some sizes.sectors
-    (enough_free _ _ _ _ c.in_ok-longer.ensures.full) c.sectors-first.result c.sectors-first.ensures.count c.sectors-first.ensures.few in
+    (enough_free _ _ _ _ c.in_ok-longer.ensures.full) c.sectors.result c.sectors.ensures.count c.sectors.ensures.few in
     let those =
     those_gained c.args.volume.now.ident.cluster c.args.count c.args.volume.now.map c.gain.new.map c.args.segs.now
-    c.in_ok-longer.longer c.in_ok-longer.ensures.ok.gain sizes.some c.sectors-first.result
-    c.sectors-first.ensures.count in
+    c.in_ok-longer.longer c.in_ok-longer.ensures.ok.gain sizes.some c.sectors.result
+    c.sectors.ensures.count in
     at_most_all _ _ _ _ _ (wanted_calls _ c.args.count (λ p. true) (replicate 256 false) (map_sectors (shape v)) _ _
     (c.in-Err.ensures.counts (λ p. true) (map_sectors (shape v))
     (wanted_all c.args.volume.now on.image v on.vol agrees c.gain.new.map c.args.count c.args.segs.now
-    c.in_ok-longer.longer c.in_ok-longer.ensures.ok c.sectors-first.result places those)))
+    c.in_ok-longer.longer c.in_ok-longer.ensures.ok c.sectors.result places those)))
 
 pub write_marks-requires-clause-cached : goal.write_marks-requires-clause-cached
 write_marks-requires-clause-cached g c = c.requires.mounted.cached

@@ -9,15 +9,15 @@ use Rattle.rbf_alloc.proofs.marks.write_marks.Goals as goal
 
 pub overflow_mul-i : goal.overflow_mul-i
 overflow_mul-i g c =
-    let place : c.loop-i.i * c.from.result ≡ c.loop-i.i * c.args.volume.now.ident.cluster = ap (λ k. c.loop-i.i * k) c.from.ensures in
-    let most : c.loop-i.i * c.args.volume.now.ident.cluster ≤ c.args.count * c.args.volume.now.ident.cluster = mul-le-mul_right c.args.volume.now.ident.cluster (omega arith) in
+    let place : c.loop-i.i * c.from.result ≡ c.loop-i.i * c.args.v.now.ident.cluster = ap (λ k. c.loop-i.i * k) c.from.ensures in
+    let most : c.loop-i.i * c.args.v.now.ident.cluster ≤ c.args.range.count * c.args.v.now.ident.cluster = mul-le-mul_right c.args.v.now.ident.cluster (omega arith) in
     let fits = c.requires.places.fits in
     omega arith
 
-pub overflow_add-first : goal.overflow_add-first
-overflow_add-first g c =
-    let place : c.loop-i.i * c.from.result ≡ c.loop-i.i * c.args.volume.now.ident.cluster = ap (λ k. c.loop-i.i * k) c.from.ensures in
-    let most : c.loop-i.i * c.args.volume.now.ident.cluster ≤ c.args.count * c.args.volume.now.ident.cluster = mul-le-mul_right c.args.volume.now.ident.cluster (omega arith) in
+pub overflow_add-range : goal.overflow_add-range
+overflow_add-range g c =
+    let place : c.loop-i.i * c.from.result ≡ c.loop-i.i * c.args.v.now.ident.cluster = ap (λ k. c.loop-i.i * k) c.from.ensures in
+    let most : c.loop-i.i * c.args.v.now.ident.cluster ≤ c.args.range.count * c.args.v.now.ident.cluster = mul-le-mul_right c.args.v.now.ident.cluster (omega arith) in
     let fits = c.requires.places.fits in
     omega arith
 
@@ -29,7 +29,7 @@ write_mark-requires-clause-marking g c = still_marking _ _ _ _ _ _ _ _ _ _ _ _ _
 
 pub write_mark-requires-clause-in_map : goal.write_mark-requires-clause-in_map
 write_mark-requires-clause-in_map g c =
-    let place = c.cluster_of-cluster.ensures ∙ ap (λ k. cluster_at c.args.volume.now.ident.cluster c.args.segs.now (c.args.first + c.loop-i.i * k)) c.from.ensures in
+    let place = c.cluster_of-cluster.ensures ∙ ap (λ k. cluster_at c.args.v.now.ident.cluster c.args.segs.now (c.args.range.first + c.loop-i.i * k)) c.from.ensures in
     let low = c.requires.places.in_map c.loop-i.i (omega arith) in
     let same = ap (λ (kv : KeptVolume). kv.map.whole) c.loop-i.invariant.same in
     omega (arith, place, low, same)
@@ -41,22 +41,22 @@ pub loop-i-preserved : goal.loop-i-preserved
 loop-i-preserved g c =
     let step = c.in_ok-write_mark.ensures in
     marked_more _ _ _ _ _ _ _ _ _ _ _ _ _ c.loop-i.invariant c.cluster_of-cluster.result _ _ _ _ _ step.on step.there step.marked
-    (c.cluster_of-cluster.ensures ∙ ap (λ k. cluster_at c.args.volume.now.ident.cluster c.args.segs.now (c.args.first + c.loop-i.i * k)) c.from.ensures) step.volume_kept step.cached step.counts
+    (c.cluster_of-cluster.ensures ∙ ap (λ k. cluster_at c.args.v.now.ident.cluster c.args.segs.now (c.args.range.first + c.loop-i.i * k)) c.from.ensures) step.volume_kept step.cached step.counts
 
 pub returns-clause-all : goal.returns-clause-all
 returns-clause-all g c =
-    let end : c.loop-i.i ≡ c.args.count = omega arith in
-    subst (λ n. AllWritten (clusters_from c.args.volume.now.ident.cluster c.args.segs.now c.args.first n) c.loop-i.written) end c.loop-i.invariant.all
+    let end : c.loop-i.i ≡ c.args.range.count = omega arith in
+    subst (λ n. AllWritten (clusters_from c.args.v.now.ident.cluster c.args.segs.now c.args.range.first n) c.loop-i.written) end c.loop-i.invariant.all
 
 pub returns-in_err-write_mark-clause-counts : goal.returns-in_err-write_mark-clause-counts
 returns-in_err-write_mark-clause-counts g c =
     let p = err_from_is_err_and c.from_residual.result c.from_residual.ensures.1 in
     rw (p.1, p.2)
-    (calls_at_fault _ _ _ _ _ _ _ _ _ _ _ _ _ c.loop-i.invariant _ c.cluster_of-cluster.result c.args.count _ (omega arith)
-    (c.cluster_of-cluster.ensures ∙ ap (λ k. cluster_at c.args.volume.now.ident.cluster c.args.segs.now (c.args.first + c.loop-i.i * k)) c.from.ensures) c.in_err-write_mark.ensures.counts)
+    (calls_at_fault _ _ _ _ _ _ _ _ _ _ _ _ _ c.loop-i.invariant _ c.cluster_of-cluster.result c.args.range.count _ (omega arith)
+    (c.cluster_of-cluster.ensures ∙ ap (λ k. cluster_at c.args.v.now.ident.cluster c.args.segs.now (c.args.range.first + c.loop-i.i * k)) c.from.ensures) c.in_err-write_mark.ensures.counts)
 
 pub returns-clause-counts : goal.returns-clause-counts
-returns-clause-counts g c = calls_of_all _ _ _ _ _ _ _ _ _ _ _ _ _ c.loop-i.invariant c.args.count (omega arith)
+returns-clause-counts g c = calls_of_all _ _ _ _ _ _ _ _ _ _ _ _ _ c.loop-i.invariant c.args.range.count (omega arith)
 
 pub write_mark-requires-clause-cached : goal.write_mark-requires-clause-cached
 write_mark-requires-clause-cached g c = c.loop-i.invariant.cached

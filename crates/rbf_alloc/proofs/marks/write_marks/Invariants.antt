@@ -6,6 +6,6 @@ use Rattle.rbf_alloc.proofs.marks.write_marks.Given as goal
 
 abbrev pub invariant-loop-i : goal.invariant-loop-i
 invariant-loop-i g l =
-    IsMarkedSoFar l.fn.volume.ident.cluster l.segs l.first l.i (kept l.fn.volume) (kept l.volume)
-    ((goal.BlockDriver-dyn g l.fn.d.now).media l.fn.d.now.1) ((goal.BlockDriver-dyn g l.d.now).media l.d.now.1) l.fn.written l.written l.volume.cache
+    IsMarkedSoFar l.fn.v.ident.cluster l.segs l.range.first l.i (kept l.fn.v) (kept l.v)
+    ((goal.BlockDriver-dyn g l.fn.d.now).media l.fn.d.now.1) ((goal.BlockDriver-dyn g l.d.now).media l.d.now.1) l.fn.written l.written l.v.cache
     (drive_counts (goal.BlockDriver-dyn g l.fn.d.now) l.fn.d.now.1) (drive_counts (goal.BlockDriver-dyn g l.d.now) l.d.now.1)

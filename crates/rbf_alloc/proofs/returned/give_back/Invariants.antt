@@ -3,4 +3,4 @@ use Rattle.rbf_alloc.specs.Gained.{IsGivenBack}
 use Rattle.rbf_alloc.proofs.returned.give_back.Given as goal
 
 abbrev pub invariant-loop-i : goal.invariant-loop-i
-invariant-loop-i l = IsGivenBack l.k l.segs l.first l.i l.written l.fn.map l.map
+invariant-loop-i l = IsGivenBack l.k l.segs l.range.first l.i l.written l.fn.map l.map

@@ -15,7 +15,7 @@ load-requires-clause-on g c = number_on _ c.args.fd c.requires.file
 pub returns-in_err-bytes-clause-answer : goal.returns-in_err-bytes-clause-answer
 returns-in_err-bytes-clause-answer g c v file on is =
     let p = err_from_is_err_and c.from_residual.result c.from_residual.ensures.1 in
-    fault_answers Unit _ file c.args.user c.in_err-bytes.field-0.0 _ (p.1 ∙ ap Err p.2) c.in_err-bytes.ensures.device
+    fault_answers Unit _ file c.args.asked.user c.in_err-bytes.field-0.0 _ (p.1 ∙ ap Err p.2) c.in_err-bytes.ensures.device
 
 pub returns-in_err-bytes-clause-mounted : goal.returns-in_err-bytes-clause-mounted
 returns-in_err-bytes-clause-mounted g c = mounted_still _ _ _ _ c.in_err-bytes.ensures.volume_kept c.in_err-bytes.ensures.media_kept c.in_err-bytes.ensures.cached c.requires.mounted
@@ -23,7 +23,7 @@ returns-in_err-bytes-clause-mounted g c = mounted_still _ _ _ _ c.in_err-bytes.e
 pub returns-in_err-bytes-clause-counts : goal.returns-in_err-bytes-clause-counts
 returns-in_err-bytes-clause-counts g c v file on is =
     let p = err_from_is_err_and c.from_residual.result c.from_residual.ensures.1 in
-    first_call _ file c.args.user _ _ (fault_counts Unit _ c.in_err-bytes.field-0.0 _ 1 _ _ (p.1 ∙ ap Err p.2) c.in_err-bytes.ensures.counts)
+    first_call _ file c.args.asked.user _ _ (fault_counts Unit _ c.in_err-bytes.field-0.0 _ 1 _ _ (p.1 ∙ ap Err p.2) c.in_err-bytes.ensures.counts)
 
 pub returns-then-not-owns-clause-answer : goal.returns-then-not-owns-clause-answer
 returns-then-not-owns-clause-answer g c v file on is =
@@ -37,7 +37,7 @@ returns-then-not-owns-clause-answer g c v file on is =
       size = r.size;
       created = r.created;
       segs = r.segs;
-    }) c.args.user c.owns.result c.owns.ensures false c.if-not-owns.true v file on is
+    }) c.args.asked.user c.owns.result c.owns.ensures false c.if-not-owns.true v file on is
 
 pub returns-then-not-owns-clause-mounted : goal.returns-then-not-owns-clause-mounted
 returns-then-not-owns-clause-mounted g c = mounted_still _ _ _ _ c.in_ok-bytes.ensures.volume_kept c.in_ok-bytes.ensures.media_kept c.in_ok-bytes.ensures.cached c.requires.mounted
@@ -54,7 +54,7 @@ store-requires-clause-on g c =
 pub returns-in_err-store-clause-answer : goal.returns-in_err-store-clause-answer
 returns-in_err-store-clause-answer g c v file on is =
     let p = err_from_is_err_and c.from_residual-in_err-store.result c.from_residual-in_err-store.ensures.1 in
-    fault_answers Unit _ file c.args.user c.in_err-store.field-0.0 _ (p.1 ∙ ap Err p.2) c.in_err-store.ensures.device
+    fault_answers Unit _ file c.args.asked.user c.in_err-store.field-0.0 _ (p.1 ∙ ap Err p.2) c.in_err-store.ensures.device
 
 pub returns-in_err-store-clause-mounted : goal.returns-in_err-store-clause-mounted
 returns-in_err-store-clause-mounted g c =
@@ -75,16 +75,16 @@ returns-in_err-store-clause-counts g c v file on is =
       size = r.size;
       created = r.created;
       segs = r.segs;
-    }) c.args.user c.owns.result c.owns.ensures true c.if-not-owns.false v file on
+    }) c.args.asked.user c.owns.result c.owns.ensures true c.if-not-owns.false v file on
     is in
-    second_call _ file c.args.user _ _ _ owns c.in_ok-bytes.ensures.counts (fault_counts Unit _ c.in_err-store.field-0.0 _ 1 _ _ (p.1 ∙ ap Err p.2) c.in_err-store.ensures.counts)
+    second_call _ file c.args.asked.user _ _ _ owns c.in_ok-bytes.ensures.counts (fault_counts Unit _ c.in_err-store.field-0.0 _ 1 _ _ (p.1 ∙ ap Err p.2) c.in_err-store.ensures.counts)
 
 pub returns-clause-ok : goal.returns-clause-ok
 returns-clause-ok g c =
     let has = c.requires.file in
     let read = c.in_ok-bytes.ensures in
-    let is = attributes_written _ _ _ c.args.fd c.args.attr c.args.now c.in_ok-bytes.bytes _ read.bytes read.media_kept c.put_attributes.ensures c.in_ok-store.ensures.written in
-    becomes_now _ _ has.content _ (attributes_stored _ c.args.fd c.args.attr c.args.now has _ is) _ (attributes_set _ c.args.fd c.args.attr c.args.now has)
+    let is = attributes_written _ _ _ c.args.fd c.args.asked.attr c.args.asked.date c.in_ok-bytes.bytes _ read.bytes read.media_kept c.put_attributes.ensures c.in_ok-store.ensures.written in
+    becomes_now _ _ has.content _ (attributes_stored _ c.args.fd c.args.asked.attr c.args.asked.date has _ is) _ (attributes_set _ c.args.fd c.args.asked.attr c.args.asked.date has)
 
 pub returns-clause-answer : goal.returns-clause-answer
 returns-clause-answer g c v file on is =
@@ -98,14 +98,14 @@ returns-clause-answer g c v file on is =
       size = r.size;
       created = r.created;
       segs = r.segs;
-    }) c.args.user c.owns.result c.owns.ensures true c.if-not-owns.false v file on is
+    }) c.args.asked.user c.owns.result c.owns.ensures true c.if-not-owns.false v file on is
 
 pub returns-clause-mounted : goal.returns-clause-mounted
 returns-clause-mounted g c =
     let has = c.requires.file in
     let read = c.in_ok-bytes.ensures in
-    let is = attributes_written _ _ _ c.args.fd c.args.attr c.args.now c.in_ok-bytes.bytes _ read.bytes read.media_kept c.put_attributes.ensures c.in_ok-store.ensures.written in
-    mounted_now _ _ has.content _ (attributes_stored _ c.args.fd c.args.attr c.args.now has _ is) _ _
+    let is = attributes_written _ _ _ c.args.fd c.args.asked.attr c.args.asked.date c.in_ok-bytes.bytes _ read.bytes read.media_kept c.put_attributes.ensures c.in_ok-store.ensures.written in
+    mounted_now _ _ has.content _ (attributes_stored _ c.args.fd c.args.asked.attr c.args.asked.date has _ is) _ _
     (c.in_ok-store.ensures.volume_kept ∙ read.volume_kept) c.in_ok-store.ensures.cached c.requires.mounted
 
 pub returns-clause-counts : goal.returns-clause-counts
@@ -120,13 +120,13 @@ returns-clause-counts g c v file on is =
       size = r.size;
       created = r.created;
       segs = r.segs;
-    }) c.args.user c.owns.result c.owns.ensures true c.if-not-owns.false v file on
+    }) c.args.asked.user c.owns.result c.owns.ensures true c.if-not-owns.false v file on
     is in
-    second_call _ file c.args.user _ _ _ owns c.in_ok-bytes.ensures.counts c.in_ok-store.ensures.counts
+    second_call _ file c.args.asked.user _ _ _ owns c.in_ok-bytes.ensures.counts c.in_ok-store.ensures.counts
 
 pub store-requires-clause-sound : goal.store-requires-clause-sound
 store-requires-clause-sound g c =
     let has = c.requires.file in
     let read = c.in_ok-bytes.ensures in
-    let is = attributes_written _ _ _ c.args.fd c.args.attr c.args.now c.in_ok-bytes.bytes _ read.bytes read.media_kept c.put_attributes.ensures refl in
-    stored_sound _ _ has.content _ (attributes_stored _ c.args.fd c.args.attr c.args.now has _ is)
+    let is = attributes_written _ _ _ c.args.fd c.args.asked.attr c.args.asked.date c.in_ok-bytes.bytes _ read.bytes read.media_kept c.put_attributes.ensures refl in
+    stored_sound _ _ has.content _ (attributes_stored _ c.args.fd c.args.asked.attr c.args.asked.date has _ is)

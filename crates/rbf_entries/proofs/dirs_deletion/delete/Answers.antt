@@ -40,7 +40,7 @@ returns-in_err-delete_at-clause-fault g c u on =
     let answer =
     answer_here _ c.args.dir c.args.name.now c.in_ok-found.found c.in_ok-found.ensures.ok _
     c.in_ok-found.ensures.media_kept _ (Err c.in_err-delete_at.field-0.0) c.in_err-delete_at.ensures.answer u on in
-    on_err _ _ (stops_so _ _ c.args.dir c.in_ok-found.found.descriptor c.args.name.now c.args.user c.args.execute c.in_ok-found.ensures.answer u on c.in_err-delete_at.field-0.0 answer)
+    on_err _ _ (stops_so _ _ c.args.dir c.in_ok-found.found.descriptor c.args.name.now c.args.by.user c.args.by.execute c.in_ok-found.ensures.answer u on c.in_err-delete_at.field-0.0 answer)
 
 pub returns-in_err-delete_at-clause-refused : goal.returns-in_err-delete_at-clause-refused
 returns-in_err-delete_at-clause-refused g c =

@@ -14,7 +14,7 @@ use Rattle.rbf_entries.proofs.folder.create_folder.Goals as goal
 pub returns-in_err-space-clause-makes : goal.returns-in_err-space-clause-makes
 returns-in_err-space-clause-makes g c v on =
     let p = err_from_is_err_and c.from_residual.result c.from_residual.ensures.1 in
-    folder_refused _ _ v on c.args.parent c.args.attr c.args.owner c.args.now c.in_err-space.field-0.0 _
+    folder_refused _ _ v on c.args.folder.parent c.args.folder.attr c.args.folder.owner c.args.folder.date c.in_err-space.field-0.0 _
     (p.1 ∙ ap Err p.2) (empty_grows v _ _ c.empty.result c.args.volume.now.ident.cluster c.new_clusters.result _
     c.empty.ensures c.new_clusters.ensures.value (kept_size c.args.volume.now _ v c.requires.mounted on)
     (c.in_err-space.ensures.grows v on))
@@ -31,7 +31,8 @@ unwrap-n-requires g c =
     empty_grows m.content _ _ c.empty.result c.args.volume.now.ident.cluster c.new_clusters.result _ c.empty.ensures
     c.new_clusters.ensures.value (kept_size c.args.volume.now _ m.content c.requires.mounted m.on)
     (c.in_ok-space.ensures.grows m.content m.on) in
-    subst IsSome (sym c.lsn_of.ensures) (number_there _ m.content m.on c.args.parent c.args.attr c.args.owner c.args.now grows.grown.taken grows.grown.chosen c.in_ok-space.space grows.grown.segments)
+    subst IsSome (sym c.lsn_of.ensures) (number_there _ m.content m.on c.args.folder.parent c.args.folder.attr c.args.folder.owner c.args.folder.date grows.grown.taken
+    grows.grown.chosen c.in_ok-space.space grows.grown.segments)
 
 pub unwrap-first-requires : goal.unwrap-first-requires
 unwrap-first-requires g c =
@@ -40,7 +41,8 @@ unwrap-first-requires g c =
     empty_grows m.content _ _ c.empty.result c.args.volume.now.ident.cluster c.new_clusters.result _ c.empty.ensures
     c.new_clusters.ensures.value (kept_size c.args.volume.now _ m.content c.requires.mounted m.on)
     (c.in_ok-space.ensures.grows m.content m.on) in
-    subst IsSome (sym c.lsn_of-2.ensures) (first_there _ m.content m.on c.args.parent c.args.attr c.args.owner c.args.now grows.grown.taken grows.grown.chosen c.in_ok-space.space grows.grown.segments)
+    subst IsSome (sym c.lsn_of-2.ensures) (first_there _ m.content m.on c.args.folder.parent c.args.folder.attr c.args.folder.owner c.args.folder.date grows.grown.taken
+    grows.grown.chosen c.in_ok-space.space grows.grown.segments)
 
 pub listing-requires-clause-number : goal.listing-requires-clause-number
 listing-requires-clause-number g c =
@@ -50,7 +52,7 @@ listing-requires-clause-number g c =
     c.new_clusters.ensures.value (kept_size c.args.volume.now _ m.content c.requires.mounted m.on)
     (c.in_ok-space.ensures.grows m.content m.on) in
     let low =
-    m_low _ _ m.content m.on c.args.parent c.args.attr c.args.owner c.args.now c.in_ok-space.space grows.grown
+    m_low _ _ m.content m.on c.args.folder.parent c.args.folder.attr c.args.folder.owner c.args.folder.date c.in_ok-space.space grows.grown
     c.unwrap-n.result c.unwrap-first.result (sym c.lsn_of.ensures ∙ c.unwrap-n.ensures)
     (sym c.lsn_of-2.ensures ∙ c.unwrap-first.ensures) in
     omega arith
@@ -65,7 +67,7 @@ store-requires-clause-sound g c =
     empty_grows m.content _ _ c.empty.result c.args.volume.now.ident.cluster c.new_clusters.result _ c.empty.ensures
     c.new_clusters.ensures.value (kept_size c.args.volume.now _ m.content c.requires.mounted m.on)
     (c.in_ok-space.ensures.grows m.content m.on) in
-    stored_sound _ _ _ _ (listed_stored _ _ m.content m.on c.args.parent c.args.attr c.args.owner c.args.now
+    stored_sound _ _ _ _ (listed_stored _ _ m.content m.on c.args.folder.parent c.args.folder.attr c.args.folder.owner c.args.folder.date
     c.in_ok-space.space grows.grown c.unwrap-n.result c.unwrap-first.result (sym c.lsn_of.ensures ∙ c.unwrap-n.ensures)
     (sym c.lsn_of-2.ensures ∙ c.unwrap-first.ensures) c.listing.result c.listing.ensures _ refl)
 
@@ -76,7 +78,7 @@ store-requires-clause-on g c =
     empty_grows m.content _ _ c.empty.result c.args.volume.now.ident.cluster c.new_clusters.result _ c.empty.ensures
     c.new_clusters.ensures.value (kept_size c.args.volume.now _ m.content c.requires.mounted m.on)
     (c.in_ok-space.ensures.grows m.content m.on) in
-    f_on_drive _ _ m.content m.on c.args.parent c.args.attr c.args.owner c.args.now c.in_ok-space.space grows.grown
+    f_on_drive _ _ m.content m.on c.args.folder.parent c.args.folder.attr c.args.folder.owner c.args.folder.date c.in_ok-space.space grows.grown
     c.unwrap-n.result c.unwrap-first.result (sym c.lsn_of.ensures ∙ c.unwrap-n.ensures)
     (sym c.lsn_of-2.ensures ∙ c.unwrap-first.ensures) c.listing.result c.listing.ensures
 
@@ -87,8 +89,8 @@ returns-in_err-store-clause-makes g c v on =
     empty_grows v _ _ c.empty.result c.args.volume.now.ident.cluster c.new_clusters.result _ c.empty.ensures
     c.new_clusters.ensures.value (kept_size c.args.volume.now _ v c.requires.mounted on)
     (c.in_ok-space.ensures.grows v on) in
-    folder_fault _ _ _ v c.args.parent _ c.in_ok-space.space c.in_err-store.field-0.0 _ (p.1 ∙ ap Err p.2) c.in_err-store.ensures.device grows
-    (unlisted _ _ v on c.args.parent c.args.attr c.args.owner c.args.now c.in_ok-space.space grows.grown _ c.in_err-store.ensures.media_kept)
+    folder_fault _ _ _ v c.args.folder.parent _ c.in_ok-space.space c.in_err-store.field-0.0 _ (p.1 ∙ ap Err p.2) c.in_err-store.ensures.device grows
+    (unlisted _ _ v on c.args.folder.parent c.args.folder.attr c.args.folder.owner c.args.folder.date c.in_ok-space.space grows.grown _ c.in_err-store.ensures.media_kept)
 
 pub returns-in_err-store-clause-mounted : goal.returns-in_err-store-clause-mounted
 returns-in_err-store-clause-mounted g c =
@@ -114,7 +116,7 @@ first_segs-requires-clause-low g c =
     empty_grows m.content _ _ c.empty.result c.args.volume.now.ident.cluster c.new_clusters.result _ c.empty.ensures
     c.new_clusters.ensures.value (kept_size c.args.volume.now _ m.content c.requires.mounted m.on)
     (c.in_ok-space.ensures.grows m.content m.on) in
-    f_low _ _ m.content m.on c.args.parent c.args.attr c.args.owner c.args.now c.in_ok-space.space grows.grown
+    f_low _ _ m.content m.on c.args.folder.parent c.args.folder.attr c.args.folder.owner c.args.folder.date c.in_ok-space.space grows.grown
     c.unwrap-n.result c.unwrap-first.result (sym c.lsn_of.ensures ∙ c.unwrap-n.ensures)
     (sym c.lsn_of-2.ensures ∙ c.unwrap-first.ensures)
 
@@ -128,7 +130,7 @@ store-requires-2-clause-sound g c =
     empty_grows m.content _ _ c.empty.result c.args.volume.now.ident.cluster c.new_clusters.result _ c.empty.ensures
     c.new_clusters.ensures.value (kept_size c.args.volume.now _ m.content c.requires.mounted m.on)
     (c.in_ok-space.ensures.grows m.content m.on) in
-    stored_sound _ _ _ _ (described_stored _ _ m.content m.on c.args.parent c.args.attr c.args.owner c.args.now
+    stored_sound _ _ _ _ (described_stored _ _ m.content m.on c.args.folder.parent c.args.folder.attr c.args.folder.owner c.args.folder.date
     c.in_ok-space.space grows.grown c.unwrap-n.result c.unwrap-first.result (sym c.lsn_of.ensures ∙ c.unwrap-n.ensures)
     (sym c.lsn_of-2.ensures ∙ c.unwrap-first.ensures) c.listing.result c.listing.ensures _ c.in_ok-store.ensures.written
     c.descriptor.result c.descriptor.ensures.whole _ refl)
@@ -140,7 +142,7 @@ store-requires-2-clause-on g c =
     empty_grows m.content _ _ c.empty.result c.args.volume.now.ident.cluster c.new_clusters.result _ c.empty.ensures
     c.new_clusters.ensures.value (kept_size c.args.volume.now _ m.content c.requires.mounted m.on)
     (c.in_ok-space.ensures.grows m.content m.on) in
-    m_on_drive _ _ m.content m.on c.args.parent c.args.attr c.args.owner c.args.now c.in_ok-space.space grows.grown
+    m_on_drive _ _ m.content m.on c.args.folder.parent c.args.folder.attr c.args.folder.owner c.args.folder.date c.in_ok-space.space grows.grown
     c.unwrap-n.result c.unwrap-first.result (sym c.lsn_of.ensures ∙ c.unwrap-n.ensures)
     (sym c.lsn_of-2.ensures ∙ c.unwrap-first.ensures) c.listing.result c.listing.ensures _ c.in_ok-store.ensures.written
     c.descriptor.result c.descriptor.ensures.whole
@@ -152,8 +154,8 @@ returns-in_err-store-2-clause-makes g c v on =
     empty_grows v _ _ c.empty.result c.args.volume.now.ident.cluster c.new_clusters.result _ c.empty.ensures
     c.new_clusters.ensures.value (kept_size c.args.volume.now _ v c.requires.mounted on)
     (c.in_ok-space.ensures.grows v on) in
-    folder_fault _ _ _ v c.args.parent _ c.in_ok-space.space c.in_err-store-2.field-0.0 _ (p.1 ∙ ap Err p.2) c.in_err-store-2.ensures.device grows
-    (ends_undescribed _ _ v on c.args.parent c.args.attr c.args.owner c.args.now c.in_ok-space.space grows.grown
+    folder_fault _ _ _ v c.args.folder.parent _ c.in_ok-space.space c.in_err-store-2.field-0.0 _ (p.1 ∙ ap Err p.2) c.in_err-store-2.ensures.device grows
+    (ends_undescribed _ _ v on c.args.folder.parent c.args.folder.attr c.args.folder.owner c.args.folder.date c.in_ok-space.space grows.grown
     c.unwrap-n.result c.unwrap-first.result (sym c.lsn_of.ensures ∙ c.unwrap-n.ensures)
     (sym c.lsn_of-2.ensures ∙ c.unwrap-first.ensures) c.listing.result c.listing.ensures _ c.in_ok-store.ensures.written
     _ c.in_err-store-2.ensures.media_kept)
@@ -166,7 +168,7 @@ returns-in_err-store-2-clause-mounted g c =
     c.new_clusters.ensures.value (kept_size c.args.volume.now _ m.content c.requires.mounted m.on)
     (c.in_ok-space.ensures.grows m.content m.on) in
     mounted_still _ _ _ _ c.in_err-store-2.ensures.volume_kept c.in_err-store-2.ensures.media_kept c.in_err-store-2.ensures.cached
-    (mounted_now _ _ _ _ (listed_stored _ _ m.content m.on c.args.parent c.args.attr c.args.owner c.args.now
+    (mounted_now _ _ _ _ (listed_stored _ _ m.content m.on c.args.folder.parent c.args.folder.attr c.args.folder.owner c.args.folder.date
     c.in_ok-space.space grows.grown c.unwrap-n.result c.unwrap-first.result (sym c.lsn_of.ensures ∙ c.unwrap-n.ensures)
     (sym c.lsn_of-2.ensures ∙ c.unwrap-first.ensures) c.listing.result c.listing.ensures _
     c.in_ok-store.ensures.written) c.grow.new.volume c.store.new.self c.in_ok-store.ensures.volume_kept
@@ -187,8 +189,8 @@ returns-clause-makes g c v on =
     empty_grows v _ _ c.empty.result c.args.volume.now.ident.cluster c.new_clusters.result _ c.empty.ensures
     c.new_clusters.ensures.value (kept_size c.args.volume.now _ v c.requires.mounted on)
     (c.in_ok-space.ensures.grows v on) in
-    taken_or _ _ _ v c.args.parent _ c.in_ok-space.space c.unwrap-n.result grows
-    (made_as _ _ v on c.args.parent c.args.attr c.args.owner c.args.now c.in_ok-space.space grows.grown
+    taken_or _ _ _ v c.args.folder.parent _ c.in_ok-space.space c.unwrap-n.result grows
+    (made_as _ _ v on c.args.folder.parent c.args.folder.attr c.args.folder.owner c.args.folder.date c.in_ok-space.space grows.grown
     c.unwrap-n.result c.unwrap-first.result (sym c.lsn_of.ensures ∙ c.unwrap-n.ensures)
     (sym c.lsn_of-2.ensures ∙ c.unwrap-first.ensures) c.listing.result c.listing.ensures _ c.in_ok-store.ensures.written
     c.descriptor.result c.descriptor.ensures.whole _ c.in_ok-store-2.ensures.written c.new_directory-file.result
@@ -203,12 +205,12 @@ returns-clause-mounted g c =
     empty_grows m.content _ _ c.empty.result c.args.volume.now.ident.cluster c.new_clusters.result _ c.empty.ensures
     c.new_clusters.ensures.value (kept_size c.args.volume.now _ m.content c.requires.mounted m.on)
     (c.in_ok-space.ensures.grows m.content m.on) in
-    mounted_now _ _ _ _ (described_stored _ _ m.content m.on c.args.parent c.args.attr c.args.owner c.args.now
+    mounted_now _ _ _ _ (described_stored _ _ m.content m.on c.args.folder.parent c.args.folder.attr c.args.folder.owner c.args.folder.date
     c.in_ok-space.space grows.grown c.unwrap-n.result c.unwrap-first.result (sym c.lsn_of.ensures ∙ c.unwrap-n.ensures)
     (sym c.lsn_of-2.ensures ∙ c.unwrap-first.ensures) c.listing.result c.listing.ensures _ c.in_ok-store.ensures.written
     c.descriptor.result c.descriptor.ensures.whole _ c.in_ok-store-2.ensures.written)
     c.store.new.self c.store-2.new.self c.in_ok-store-2.ensures.volume_kept c.in_ok-store-2.ensures.cached
-    (mounted_now _ _ _ _ (listed_stored _ _ m.content m.on c.args.parent c.args.attr c.args.owner c.args.now
+    (mounted_now _ _ _ _ (listed_stored _ _ m.content m.on c.args.folder.parent c.args.folder.attr c.args.folder.owner c.args.folder.date
     c.in_ok-space.space grows.grown c.unwrap-n.result c.unwrap-first.result (sym c.lsn_of.ensures ∙ c.unwrap-n.ensures)
     (sym c.lsn_of-2.ensures ∙ c.unwrap-first.ensures) c.listing.result c.listing.ensures _
     c.in_ok-store.ensures.written) c.grow.new.volume c.store.new.self c.in_ok-store.ensures.volume_kept
@@ -228,7 +230,7 @@ returns-clause-counts g c v on =
     c.new_clusters.ensures.value (kept_size c.args.volume.now _ v c.requires.mounted on)
     (c.in_ok-space.ensures.grows v on) in
     made_calls v _ c.unwrap-n.result c.new_clusters.result c.empty.result c.in_ok-space.space _ _ _ is c.empty.ensures
-    (marks_as _ _ v on c.args.parent c.args.attr c.args.owner c.args.now c.in_ok-space.space grows.grown
+    (marks_as _ _ v on c.args.folder.parent c.args.folder.attr c.args.folder.owner c.args.folder.date c.in_ok-space.space grows.grown
     c.unwrap-n.result c.unwrap-first.result (sym c.lsn_of.ensures ∙ c.unwrap-n.ensures)
     (sym c.lsn_of-2.ensures ∙ c.unwrap-first.ensures) c.listing.result c.listing.ensures _ c.in_ok-store.ensures.written
     c.descriptor.result c.descriptor.ensures.whole _ c.in_ok-store-2.ensures.written c.new_directory-file.result

@@ -16,9 +16,9 @@ new_clusters-clusters-requires g c =
 pub returns-in_err-check_room-clause-answer : goal.returns-in_err-check_room-clause-answer
 returns-in_err-check_room-clause-answer g c v file on is =
     let p = err_from_is_err_and c.from_residual.result c.from_residual.ensures.1 in
-    rw (p.1, p.2) ((no_room _ c.args.found.now.dir.number c.args.found.now.place c.args.name.now c.args.attr
-    c.args.found.now.user c.args.now c.requires.place.file
-    (reading_place _ c.args.name.now c.args.found.now c.requires.place c.requires.reading) _ refl c.args.found.now.dir
+    rw (p.1, p.2) ((no_room _ c.args.found.now.dir.number c.args.found.now.place c.args.file.now.name c.args.file.now.attr
+    c.args.found.now.by.user c.args.file.now.date c.requires.place.file
+    (reading_place _ c.args.file.now.name c.args.found.now c.requires.place c.requires.reading) _ refl c.args.found.now.dir
     c.requires.place.read c.args.v.now c.requires.mounted c.new_clusters-clusters.result
     c.new_clusters-clusters.ensures.value c.in_err-check_room.field-0.0 c.in_err-check_room.ensures).1 v file on is)
 
@@ -26,8 +26,8 @@ pub returns-in_err-check_room-clause-counts : goal.returns-in_err-check_room-cla
 returns-in_err-check_room-clause-counts g c v file on is =
     let p = err_from_is_err_and c.from_residual.result c.from_residual.ensures.1 in
     rw (p.1, p.2) (room_calls v file (file_clusters (cluster_size v) 64 + 2) 0 c.in_err-check_room.field-0.0 _
-    (no_room _ c.args.found.now.dir.number c.args.found.now.place c.args.name.now c.args.attr c.args.found.now.user
-    c.args.now c.requires.place.file (reading_place _ c.args.name.now c.args.found.now c.requires.place
+    (no_room _ c.args.found.now.dir.number c.args.found.now.place c.args.file.now.name c.args.file.now.attr c.args.found.now.by.user
+    c.args.file.now.date c.requires.place.file (reading_place _ c.args.file.now.name c.args.found.now c.requires.place
     c.requires.reading) _ refl c.args.found.now.dir c.requires.place.read c.args.v.now c.requires.mounted
     c.new_clusters-clusters.result c.new_clusters-clusters.ensures.value c.in_err-check_room.field-0.0
     c.in_err-check_room.ensures).0)
@@ -38,9 +38,9 @@ create_folder-requires-clause-parent g c = parent_low _ c.args.found.now.dir.num
 pub returns-in_err-n-clause-answer : goal.returns-in_err-n-clause-answer
 returns-in_err-n-clause-answer g c v file on is =
     let p = err_from_is_err_and c.from_residual-in_err-n.result c.from_residual-in_err-n.ensures.1 in
-    rw (p.1, p.2) ((not_made _ c.args.found.now.dir.number c.args.found.now.place c.args.name.now c.args.attr
-    c.args.found.now.user c.args.now c.requires.place.file
-    (reading_place _ c.args.name.now c.args.found.now c.requires.place c.requires.reading) _ refl c.args.found.now.dir
+    rw (p.1, p.2) ((not_made _ c.args.found.now.dir.number c.args.found.now.place c.args.file.now.name c.args.file.now.attr
+    c.args.found.now.by.user c.args.file.now.date c.requires.place.file
+    (reading_place _ c.args.file.now.name c.args.found.now c.requires.place c.requires.reading) _ refl c.args.found.now.dir
     c.requires.place.read c.args.v.now c.requires.mounted c.new_clusters-clusters.result
     c.new_clusters-clusters.ensures.value c.in_ok-check_room.ensures _ c.in_err-n.field-0.0 c.in_err-n.ensures.makes).1
     v file on is)
@@ -49,40 +49,40 @@ pub returns-in_err-n-clause-counts : goal.returns-in_err-n-clause-counts
 returns-in_err-n-clause-counts g c v file on is =
     let p = err_from_is_err_and c.from_residual-in_err-n.result c.from_residual-in_err-n.ensures.1 in
     let calls =
-    folder_calls_here _ c.args.found.now.dir.number c.args.found.now.place c.args.name.now c.args.attr
-    c.args.found.now.user c.args.now c.requires.place.file
-    (reading_place _ c.args.name.now c.args.found.now c.requires.place c.requires.reading) _ refl c.args.found.now.dir
+    folder_calls_here _ c.args.found.now.dir.number c.args.found.now.place c.args.file.now.name c.args.file.now.attr
+    c.args.found.now.by.user c.args.file.now.date c.requires.place.file
+    (reading_place _ c.args.file.now.name c.args.found.now c.requires.place c.requires.reading) _ refl c.args.found.now.dir
     c.requires.place.read c.args.v.now c.requires.mounted c.new_clusters-clusters.result
     c.new_clusters-clusters.ensures.value c.in_ok-check_room.ensures (λ u. file_clusters (cluster_size u) 64 + 2) _ _ _
     c.in_err-n.ensures.counts v file on is in
     rw (p.1, p.2) (device_calls v file (file_clusters (cluster_size v) 64 + 2) 0 c.in_err-n.field-0.0
     (file_clusters (cluster_size v) 64 + 2) _ _ (omega arith)
-    (not_made _ c.args.found.now.dir.number c.args.found.now.place c.args.name.now c.args.attr c.args.found.now.user
-    c.args.now c.requires.place.file (reading_place _ c.args.name.now c.args.found.now c.requires.place
+    (not_made _ c.args.found.now.dir.number c.args.found.now.place c.args.file.now.name c.args.file.now.attr c.args.found.now.by.user
+    c.args.file.now.date c.requires.place.file (reading_place _ c.args.file.now.name c.args.found.now c.requires.place
     c.requires.reading) _ refl c.args.found.now.dir c.requires.place.read c.args.v.now c.requires.mounted
     c.new_clusters-clusters.result c.new_clusters-clusters.ensures.value c.in_ok-check_room.ensures _
     c.in_err-n.field-0.0 c.in_err-n.ensures.makes).0 calls)
 
 pub new_entry-requires : goal.new_entry-requires
 new_entry-requires g c =
-    number_low _ c.args.found.now.dir.number c.args.found.now.place c.args.name.now c.args.attr c.args.found.now.user
-    c.args.now c.requires.place.file (reading_place _ c.args.name.now c.args.found.now c.requires.place
+    number_low _ c.args.found.now.dir.number c.args.found.now.place c.args.file.now.name c.args.file.now.attr c.args.found.now.by.user
+    c.args.file.now.date c.requires.place.file (reading_place _ c.args.file.now.name c.args.found.now c.requires.place
     c.requires.reading) _ refl c.args.found.now.dir c.requires.place.read c.args.v.now c.requires.mounted
     c.new_clusters-clusters.result c.new_clusters-clusters.ensures.value c.in_ok-check_room.ensures _ c.in_ok-n.n
     c.in_ok-n.ensures.makes
 
 pub enter_file-requires-clause-read : goal.enter_file-requires-clause-read
 enter_file-requires-clause-read g c =
-    read_there _ c.args.found.now.dir.number c.args.found.now.place c.args.name.now c.args.attr c.args.found.now.user
-    c.args.now c.requires.place.file (reading_place _ c.args.name.now c.args.found.now c.requires.place
+    read_there _ c.args.found.now.dir.number c.args.found.now.place c.args.file.now.name c.args.file.now.attr c.args.found.now.by.user
+    c.args.file.now.date c.requires.place.file (reading_place _ c.args.file.now.name c.args.found.now c.requires.place
     c.requires.reading) _ refl c.args.found.now.dir c.requires.place.read c.args.v.now c.requires.mounted
     c.new_clusters-clusters.result c.new_clusters-clusters.ensures.value c.in_ok-check_room.ensures _ c.in_ok-n.n
     c.in_ok-n.ensures.makes
 
 pub enter_file-requires-clause-place : goal.enter_file-requires-clause-place
 enter_file-requires-clause-place g c =
-    enter_may _ c.args.found.now.dir.number c.args.found.now.place c.args.name.now c.args.attr c.args.found.now.user
-    c.args.now c.requires.place.file (reading_place _ c.args.name.now c.args.found.now c.requires.place
+    enter_may _ c.args.found.now.dir.number c.args.found.now.place c.args.file.now.name c.args.file.now.attr c.args.found.now.by.user
+    c.args.file.now.date c.requires.place.file (reading_place _ c.args.file.now.name c.args.found.now c.requires.place
     c.requires.reading) _ refl c.args.found.now.dir c.requires.place.read c.args.v.now c.requires.mounted
     c.new_clusters-clusters.result c.new_clusters-clusters.ensures.value c.in_ok-check_room.ensures _ c.in_ok-n.n
     c.in_ok-n.ensures.makes c.new_entry.result c.new_entry.ensures
@@ -90,9 +90,9 @@ enter_file-requires-clause-place g c =
 pub returns-in_err-enter_file-clause-answer : goal.returns-in_err-enter_file-clause-answer
 returns-in_err-enter_file-clause-answer g c v file on is =
     let p = err_from_is_err_and c.from_residual-in_err-enter_file.result c.from_residual-in_err-enter_file.ensures.1 in
-    rw (p.1, p.2) (not_entered _ c.args.found.now.dir.number c.args.found.now.place c.args.name.now c.args.attr
-    c.args.found.now.user c.args.now c.requires.place.file
-    (reading_place _ c.args.name.now c.args.found.now c.requires.place c.requires.reading) _ refl c.args.found.now.dir
+    rw (p.1, p.2) (not_entered _ c.args.found.now.dir.number c.args.found.now.place c.args.file.now.name c.args.file.now.attr
+    c.args.found.now.by.user c.args.file.now.date c.requires.place.file
+    (reading_place _ c.args.file.now.name c.args.found.now c.requires.place c.requires.reading) _ refl c.args.found.now.dir
     c.requires.place.read c.args.v.now c.requires.mounted c.new_clusters-clusters.result
     c.new_clusters-clusters.ensures.value c.in_ok-check_room.ensures _ c.in_ok-n.n c.in_ok-n.ensures.makes
     c.new_entry.result c.new_entry.ensures _ c.in_err-enter_file.field-0.0 c.in_err-enter_file.ensures.device
@@ -102,15 +102,15 @@ pub returns-in_err-enter_file-clause-counts : goal.returns-in_err-enter_file-cla
 returns-in_err-enter_file-clause-counts g c v file on is =
     let p = err_from_is_err_and c.from_residual-in_err-enter_file.result c.from_residual-in_err-enter_file.ensures.1 in
     let made =
-    folder_calls_here _ c.args.found.now.dir.number c.args.found.now.place c.args.name.now c.args.attr
-    c.args.found.now.user c.args.now c.requires.place.file
-    (reading_place _ c.args.name.now c.args.found.now c.requires.place c.requires.reading) _ refl c.args.found.now.dir
+    folder_calls_here _ c.args.found.now.dir.number c.args.found.now.place c.args.file.now.name c.args.file.now.attr
+    c.args.found.now.by.user c.args.file.now.date c.requires.place.file
+    (reading_place _ c.args.file.now.name c.args.found.now c.requires.place c.requires.reading) _ refl c.args.found.now.dir
     c.requires.place.read c.args.v.now c.requires.mounted c.new_clusters-clusters.result
     c.new_clusters-clusters.ensures.value c.in_ok-check_room.ensures _ _ _ _ c.in_ok-n.ensures.counts v file on is in
     let calls =
-    entry_calls_here _ c.args.found.now.dir.number c.args.found.now.place c.args.name.now c.args.attr
-    c.args.found.now.user c.args.now c.requires.place.file
-    (reading_place _ c.args.name.now c.args.found.now c.requires.place c.requires.reading) _ refl c.args.found.now.dir
+    entry_calls_here _ c.args.found.now.dir.number c.args.found.now.place c.args.file.now.name c.args.file.now.attr
+    c.args.found.now.by.user c.args.file.now.date c.requires.place.file
+    (reading_place _ c.args.file.now.name c.args.found.now c.requires.place c.requires.reading) _ refl c.args.found.now.dir
     c.requires.place.read c.args.v.now c.requires.mounted c.new_clusters-clusters.result
     c.new_clusters-clusters.ensures.value c.in_ok-check_room.ensures _ c.in_ok-n.n c.in_ok-n.ensures.makes _ _ _
     c.in_err-enter_file.ensures.counts v file on is in
@@ -120,8 +120,8 @@ returns-in_err-enter_file-clause-counts g c v file on is =
 
 pub returns-clause-answer : goal.returns-clause-answer
 returns-clause-answer g c v file on is =
-    is_entered _ c.args.found.now.dir.number c.args.found.now.place c.args.name.now c.args.attr c.args.found.now.user
-    c.args.now c.requires.place.file (reading_place _ c.args.name.now c.args.found.now c.requires.place
+    is_entered _ c.args.found.now.dir.number c.args.found.now.place c.args.file.now.name c.args.file.now.attr c.args.found.now.by.user
+    c.args.file.now.date c.requires.place.file (reading_place _ c.args.file.now.name c.args.found.now c.requires.place
     c.requires.reading) _ refl c.args.found.now.dir c.requires.place.read c.args.v.now c.requires.mounted
     c.new_clusters-clusters.result c.new_clusters-clusters.ensures.value c.in_ok-check_room.ensures _ c.in_ok-n.n
     c.in_ok-n.ensures.makes c.new_entry.result c.new_entry.ensures _ c.in_ok-enter_file.ensures.answer v file on is
@@ -129,19 +129,19 @@ returns-clause-answer g c v file on is =
 pub returns-clause-counts : goal.returns-clause-counts
 returns-clause-counts g c v file on is =
     let made =
-    folder_calls_here _ c.args.found.now.dir.number c.args.found.now.place c.args.name.now c.args.attr
-    c.args.found.now.user c.args.now c.requires.place.file
-    (reading_place _ c.args.name.now c.args.found.now c.requires.place c.requires.reading) _ refl c.args.found.now.dir
+    folder_calls_here _ c.args.found.now.dir.number c.args.found.now.place c.args.file.now.name c.args.file.now.attr
+    c.args.found.now.by.user c.args.file.now.date c.requires.place.file
+    (reading_place _ c.args.file.now.name c.args.found.now c.requires.place c.requires.reading) _ refl c.args.found.now.dir
     c.requires.place.read c.args.v.now c.requires.mounted c.new_clusters-clusters.result
     c.new_clusters-clusters.ensures.value c.in_ok-check_room.ensures _ _ _ _ c.in_ok-n.ensures.counts v file on is in
-    entered_calls _ c.args.found.now.dir.number c.args.found.now.place c.args.name.now c.args.attr c.args.found.now.user
-    c.args.now c.requires.place.file (reading_place _ c.args.name.now c.args.found.now c.requires.place
+    entered_calls _ c.args.found.now.dir.number c.args.found.now.place c.args.file.now.name c.args.file.now.attr c.args.found.now.by.user
+    c.args.file.now.date c.requires.place.file (reading_place _ c.args.file.now.name c.args.found.now c.requires.place
     c.requires.reading) _ refl c.args.found.now.dir c.requires.place.read c.args.v.now c.requires.mounted
     c.new_clusters-clusters.result c.new_clusters-clusters.ensures.value c.in_ok-check_room.ensures _ c.in_ok-n.n
     c.in_ok-n.ensures.makes c.new_entry.result c.new_entry.ensures _ c.in_ok-enter_file.ensures.answer v file _ _ _ made
-    (entry_calls_here _ c.args.found.now.dir.number c.args.found.now.place c.args.name.now c.args.attr
-    c.args.found.now.user c.args.now c.requires.place.file
-    (reading_place _ c.args.name.now c.args.found.now c.requires.place c.requires.reading) _ refl c.args.found.now.dir
+    (entry_calls_here _ c.args.found.now.dir.number c.args.found.now.place c.args.file.now.name c.args.file.now.attr
+    c.args.found.now.by.user c.args.file.now.date c.requires.place.file
+    (reading_place _ c.args.file.now.name c.args.found.now c.requires.place c.requires.reading) _ refl c.args.found.now.dir
     c.requires.place.read c.args.v.now c.requires.mounted c.new_clusters-clusters.result
     c.new_clusters-clusters.ensures.value c.in_ok-check_room.ensures _ c.in_ok-n.n c.in_ok-n.ensures.makes _ _ _
     c.in_ok-enter_file.ensures.counts v file on is)

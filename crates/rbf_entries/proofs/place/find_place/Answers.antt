@@ -13,14 +13,14 @@ use Rattle.rbf_entries.proofs.place.find_place.Goals as goal
 pub returns-in_err-loaded-clause-answer : goal.returns-in_err-loaded-clause-answer
 returns-in_err-loaded-clause-answer g c v file on is =
     let p = err_from_is_err_and c.from_residual.result c.from_residual.ensures.1 in
-    rw (p.1, p.2) (fault_placed Loaded file c.args.name.now c.args.user c.args.execute
+    rw (p.1, p.2) (fault_placed Loaded file c.args.name.now c.args.by.user c.args.by.execute
     (sym c.is_dots.ensures.value ∙ c.if-is_dots.false) c.in_err-loaded.field-0.0 (Err (File c.in_err-loaded.field-0.0))
     refl c.in_err-loaded.ensures.device)
 
 pub returns-then-not-may_change-clause-answer : goal.returns-then-not-may_change-clause-answer
 returns-then-not-may_change-clause-answer g c v file on is =
-    closed_refused _ c.args.dir c.in_ok-loaded.loaded.file c.in_ok-loaded.ensures.ok.says c.args.name.now c.args.user
-    c.args.execute c.is_dots.result c.is_dots.ensures.value c.is_dots.ensures.name c.if-is_dots.false
+    closed_refused _ c.args.dir c.in_ok-loaded.loaded.file c.in_ok-loaded.ensures.ok.says c.args.name.now c.args.by.user
+    c.args.by.execute c.is_dots.result c.is_dots.ensures.value c.is_dots.ensures.name c.if-is_dots.false
     c.may_change.result c.may_change.ensures v file on is c.if-not-may_change.true
 
 pub search-requires-clause-directory : goal.search-requires-clause-directory
@@ -29,14 +29,14 @@ search-requires-clause-directory g c = fd_on _ c.args.dir c.requires.file c.in_o
 pub returns-in_err-search-clause-answer : goal.returns-in_err-search-clause-answer
 returns-in_err-search-clause-answer g c v file on is =
     let p = err_from_is_err_and c.from_residual-in_err-search.result c.from_residual-in_err-search.ensures.1 in
-    rw (p.1, p.2) (fault_placed Searched file c.args.name.now c.args.user c.args.execute
+    rw (p.1, p.2) (fault_placed Searched file c.args.name.now c.args.by.user c.args.by.execute
     (sym c.is_dots.ensures.value ∙ c.if-is_dots.false) c.in_err-search.field-0.0 (Err (File c.in_err-search.field-0.0))
     refl c.in_err-search.ensures.device)
 
 pub returns-in_err-search-clause-counts : goal.returns-in_err-search-clause-counts
 returns-in_err-search-clause-counts g c v file on is =
     let p = err_from_is_err_and c.from_residual-in_err-search.result c.from_residual-in_err-search.ensures.1 in
-    all_looks file c.args.name.now c.args.user c.args.execute (sym c.is_dots.ensures.value ∙ c.if-is_dots.false) _ _ _
+    all_looks file c.args.name.now c.args.by.user c.args.by.execute (sym c.is_dots.ensures.value ∙ c.if-is_dots.false) _ _ _
     (sym (c.may_change.ensures file (c.in_ok-loaded.ensures.ok.says v file on is)) ∙ c.if-not-may_change.false) _ _
     c.in_ok-loaded.ensures.counts (fault_counts Searched _ c.in_err-search.field-0.0 _ _ _ _ (p.1 ∙ ap Err p.2)
     c.in_err-search.ensures.counts)
@@ -44,42 +44,42 @@ returns-in_err-search-clause-counts g c v file on is =
 
 pub returns-in-Found-clause-answer : goal.returns-in-Found-clause-answer
 returns-in-Found-clause-answer g c v file on is =
-    found_refused _ c.args.dir c.in_ok-loaded.loaded.file c.in_ok-loaded.ensures.ok.says c.args.name.now c.args.user
-    c.args.execute c.is_dots.result c.is_dots.ensures.value c.is_dots.ensures.name c.if-is_dots.false
+    found_refused _ c.args.dir c.in_ok-loaded.loaded.file c.in_ok-loaded.ensures.ok.says c.args.name.now c.args.by.user
+    c.args.by.execute c.is_dots.result c.is_dots.ensures.value c.is_dots.ensures.name c.if-is_dots.false
     c.may_change.result c.may_change.ensures v file on is c.if-not-may_change.false _ c.in_ok-loaded.ensures.media_kept
     c.in_ok-search.field-0 c.in_ok-search.ensures.ok _ _ c.in-Found.is
 
 pub returns-in-Found-clause-counts : goal.returns-in-Found-clause-counts
 returns-in-Found-clause-counts g c v file on is =
-    all_looks file c.args.name.now c.args.user c.args.execute (sym c.is_dots.ensures.value ∙ c.if-is_dots.false) _ _ _
+    all_looks file c.args.name.now c.args.by.user c.args.by.execute (sym c.is_dots.ensures.value ∙ c.if-is_dots.false) _ _ _
     (sym (c.may_change.ensures file (c.in_ok-loaded.ensures.ok.says v file on is)) ∙ c.if-not-may_change.false) _ _ c.in_ok-loaded.ensures.counts c.in_ok-search.ensures.counts
     (read_here _ _ c.args.dir c.in_ok-loaded.loaded.file v file _ c.in_ok-loaded.ensures.media_kept on is (c.in_ok-loaded.ensures.ok.says v file on is) c.in_ok-search.ensures.read)
 
 pub returns-in-Absent-clause-answer : goal.returns-in-Absent-clause-answer
 returns-in-Absent-clause-answer g c v file on is =
-    absent_placed _ c.args.dir c.in_ok-loaded.loaded.file c.in_ok-loaded.ensures.ok.says c.args.name.now c.args.user
-    c.args.execute c.is_dots.result c.is_dots.ensures.value c.is_dots.ensures.name c.if-is_dots.false
+    absent_placed _ c.args.dir c.in_ok-loaded.loaded.file c.in_ok-loaded.ensures.ok.says c.args.name.now c.args.by.user
+    c.args.by.execute c.is_dots.result c.is_dots.ensures.value c.is_dots.ensures.name c.if-is_dots.false
     c.may_change.result c.may_change.ensures v file on is c.if-not-may_change.false _ c.in_ok-loaded.ensures.media_kept
     c.in_ok-search.field-0 c.in_ok-search.ensures.ok _ c.in-Absent.is
 
 pub returns-in-Absent-clause-counts : goal.returns-in-Absent-clause-counts
 returns-in-Absent-clause-counts g c v file on is =
-    all_looks file c.args.name.now c.args.user c.args.execute (sym c.is_dots.ensures.value ∙ c.if-is_dots.false) _ _ _
+    all_looks file c.args.name.now c.args.by.user c.args.by.execute (sym c.is_dots.ensures.value ∙ c.if-is_dots.false) _ _ _
     (sym (c.may_change.ensures file (c.in_ok-loaded.ensures.ok.says v file on is)) ∙ c.if-not-may_change.false) _ _ c.in_ok-loaded.ensures.counts c.in_ok-search.ensures.counts
     (read_here _ _ c.args.dir c.in_ok-loaded.loaded.file v file _ c.in_ok-loaded.ensures.media_kept on is (c.in_ok-loaded.ensures.ok.says v file on is) c.in_ok-search.ensures.read)
 
 pub returns-then-is_dots-clause-counts : goal.returns-then-is_dots-clause-counts
-returns-then-is_dots-clause-counts g c v file on is = no_look file c.args.name.now c.args.user c.args.execute _
+returns-then-is_dots-clause-counts g c v file on is = no_look file c.args.name.now c.args.by.user c.args.by.execute _
 
 pub returns-in_err-loaded-clause-counts : goal.returns-in_err-loaded-clause-counts
 returns-in_err-loaded-clause-counts g c v file on is =
     let p = err_from_is_err_and c.from_residual.result c.from_residual.ensures.1 in
-    one_look file c.args.name.now c.args.user c.args.execute (sym c.is_dots.ensures.value ∙ c.if-is_dots.false) _ _ _
+    one_look file c.args.name.now c.args.by.user c.args.by.execute (sym c.is_dots.ensures.value ∙ c.if-is_dots.false) _ _ _
     (fault_counts Loaded _ c.in_err-loaded.field-0.0 _ 1 _ _ (p.1 ∙ ap Err p.2) c.in_err-loaded.ensures.counts)
 
 pub returns-then-not-may_change-clause-counts : goal.returns-then-not-may_change-clause-counts
 returns-then-not-may_change-clause-counts g c v file on is =
-    one_look file c.args.name.now c.args.user c.args.execute (sym c.is_dots.ensures.value ∙ c.if-is_dots.false) _ _ _ c.in_ok-loaded.ensures.counts
+    one_look file c.args.name.now c.args.by.user c.args.by.execute (sym c.is_dots.ensures.value ∙ c.if-is_dots.false) _ _ _ c.in_ok-loaded.ensures.counts
 
 pub load_file-requires-clause-cached : goal.load_file-requires-clause-cached
 load_file-requires-clause-cached g c = c.requires.mounted.cached

@@ -8,8 +8,8 @@ use Rattle.rbf_entries.proofs.placed.create_at.Goals as goal
 pub returns-in_err-check_room-clause-answer : goal.returns-in_err-check_room-clause-answer
 returns-in_err-check_room-clause-answer g c v file on is =
     let p = err_from_is_err_and c.from_residual.result c.from_residual.ensures.1 in
-    rw (p.1, p.2) ((no_room _ c.args.found.now.dir.number c.args.found.now.place c.args.name.now c.args.attr
-    c.args.found.now.user c.args.found.now.execute c.args.now c.requires.place.file c.requires.place.new _ refl
+    rw (p.1, p.2) ((no_room _ c.args.found.now.dir.number c.args.found.now.place c.args.file.now.name c.args.file.now.attr
+    c.args.found.now.by.user c.args.found.now.by.execute c.args.file.now.date c.requires.place.file c.requires.place.new _ refl
     c.args.found.now.dir c.requires.place.read c.args.v.now c.requires.mounted c.in_err-check_room.field-0.0
     c.in_err-check_room.ensures).1 v file on is)
 
@@ -17,15 +17,15 @@ pub returns-in_err-check_room-clause-counts : goal.returns-in_err-check_room-cla
 returns-in_err-check_room-clause-counts g c v file on is =
     let p = err_from_is_err_and c.from_residual.result c.from_residual.ensures.1 in
     rw (p.1, p.2) (room_calls v file 2 0 c.in_err-check_room.field-0.0 _
-    (no_room _ c.args.found.now.dir.number c.args.found.now.place c.args.name.now c.args.attr c.args.found.now.user
-    c.args.found.now.execute c.args.now c.requires.place.file c.requires.place.new _ refl c.args.found.now.dir
+    (no_room _ c.args.found.now.dir.number c.args.found.now.place c.args.file.now.name c.args.file.now.attr c.args.found.now.by.user
+    c.args.found.now.by.execute c.args.file.now.date c.requires.place.file c.requires.place.new _ refl c.args.found.now.dir
     c.requires.place.read c.args.v.now c.requires.mounted c.in_err-check_room.field-0.0 c.in_err-check_room.ensures).0)
 
 pub returns-in_err-n-clause-answer : goal.returns-in_err-n-clause-answer
 returns-in_err-n-clause-answer g c v file on is =
     let p = err_from_is_err_and c.from_residual-in_err-n.result c.from_residual-in_err-n.ensures.1 in
-    rw (p.1, p.2) ((not_made _ c.args.found.now.dir.number c.args.found.now.place c.args.name.now c.args.attr
-    c.args.found.now.user c.args.found.now.execute c.args.now c.requires.place.file c.requires.place.new _ refl
+    rw (p.1, p.2) ((not_made _ c.args.found.now.dir.number c.args.found.now.place c.args.file.now.name c.args.file.now.attr
+    c.args.found.now.by.user c.args.found.now.by.execute c.args.file.now.date c.requires.place.file c.requires.place.new _ refl
     c.args.found.now.dir c.requires.place.read c.args.v.now c.requires.mounted c.in_ok-check_room.ensures _
     c.in_err-n.field-0.0 c.in_err-n.ensures.makes).1 v file on is)
 
@@ -33,37 +33,37 @@ pub returns-in_err-n-clause-counts : goal.returns-in_err-n-clause-counts
 returns-in_err-n-clause-counts g c v file on is =
     let p = err_from_is_err_and c.from_residual-in_err-n.result c.from_residual-in_err-n.ensures.1 in
     rw (p.1, p.2) (device_calls v file 2 0 c.in_err-n.field-0.0 2 _ _ (omega arith)
-    (not_made _ c.args.found.now.dir.number c.args.found.now.place c.args.name.now c.args.attr c.args.found.now.user
-    c.args.found.now.execute c.args.now c.requires.place.file c.requires.place.new _ refl c.args.found.now.dir
+    (not_made _ c.args.found.now.dir.number c.args.found.now.place c.args.file.now.name c.args.file.now.attr c.args.found.now.by.user
+    c.args.found.now.by.execute c.args.file.now.date c.requires.place.file c.requires.place.new _ refl c.args.found.now.dir
     c.requires.place.read c.args.v.now c.requires.mounted c.in_ok-check_room.ensures _ c.in_err-n.field-0.0
     c.in_err-n.ensures.makes).0 c.in_err-n.ensures.counts)
 
 pub new_entry-requires : goal.new_entry-requires
 new_entry-requires g c =
-    number_low _ c.args.found.now.dir.number c.args.found.now.place c.args.name.now c.args.attr c.args.found.now.user
-    c.args.found.now.execute c.args.now c.requires.place.file c.requires.place.new _ refl c.args.found.now.dir
+    number_low _ c.args.found.now.dir.number c.args.found.now.place c.args.file.now.name c.args.file.now.attr c.args.found.now.by.user
+    c.args.found.now.by.execute c.args.file.now.date c.requires.place.file c.requires.place.new _ refl c.args.found.now.dir
     c.requires.place.read c.args.v.now c.requires.mounted c.in_ok-check_room.ensures _ c.in_ok-n.n
     c.in_ok-n.ensures.makes
 
 pub enter_file-requires-clause-read : goal.enter_file-requires-clause-read
 enter_file-requires-clause-read g c =
-    read_there _ c.args.found.now.dir.number c.args.found.now.place c.args.name.now c.args.attr c.args.found.now.user
-    c.args.found.now.execute c.args.now c.requires.place.file c.requires.place.new _ refl c.args.found.now.dir
+    read_there _ c.args.found.now.dir.number c.args.found.now.place c.args.file.now.name c.args.file.now.attr c.args.found.now.by.user
+    c.args.found.now.by.execute c.args.file.now.date c.requires.place.file c.requires.place.new _ refl c.args.found.now.dir
     c.requires.place.read c.args.v.now c.requires.mounted c.in_ok-check_room.ensures _ c.in_ok-n.n
     c.in_ok-n.ensures.makes
 
 pub enter_file-requires-clause-place : goal.enter_file-requires-clause-place
 enter_file-requires-clause-place g c =
-    enter_may _ c.args.found.now.dir.number c.args.found.now.place c.args.name.now c.args.attr c.args.found.now.user
-    c.args.found.now.execute c.args.now c.requires.place.file c.requires.place.new _ refl c.args.found.now.dir
+    enter_may _ c.args.found.now.dir.number c.args.found.now.place c.args.file.now.name c.args.file.now.attr c.args.found.now.by.user
+    c.args.found.now.by.execute c.args.file.now.date c.requires.place.file c.requires.place.new _ refl c.args.found.now.dir
     c.requires.place.read c.args.v.now c.requires.mounted c.in_ok-check_room.ensures _ c.in_ok-n.n
     c.in_ok-n.ensures.makes c.new_entry.result c.new_entry.ensures
 
 pub returns-in_err-enter_file-clause-answer : goal.returns-in_err-enter_file-clause-answer
 returns-in_err-enter_file-clause-answer g c v file on is =
     let p = err_from_is_err_and c.from_residual-in_err-enter_file.result c.from_residual-in_err-enter_file.ensures.1 in
-    rw (p.1, p.2) (not_entered _ c.args.found.now.dir.number c.args.found.now.place c.args.name.now c.args.attr
-    c.args.found.now.user c.args.found.now.execute c.args.now c.requires.place.file c.requires.place.new _ refl
+    rw (p.1, p.2) (not_entered _ c.args.found.now.dir.number c.args.found.now.place c.args.file.now.name c.args.file.now.attr
+    c.args.found.now.by.user c.args.found.now.by.execute c.args.file.now.date c.requires.place.file c.requires.place.new _ refl
     c.args.found.now.dir c.requires.place.read c.args.v.now c.requires.mounted c.in_ok-check_room.ensures _ c.in_ok-n.n
     c.in_ok-n.ensures.makes c.new_entry.result c.new_entry.ensures _ c.in_err-enter_file.field-0.0
     c.in_err-enter_file.ensures.device c.in_err-enter_file.ensures.answer v file on is)
@@ -72,8 +72,8 @@ pub returns-in_err-enter_file-clause-counts : goal.returns-in_err-enter_file-cla
 returns-in_err-enter_file-clause-counts g c v file on is =
     let p = err_from_is_err_and c.from_residual-in_err-enter_file.result c.from_residual-in_err-enter_file.ensures.1 in
     let calls =
-    entry_calls_here _ c.args.found.now.dir.number c.args.found.now.place c.args.name.now c.args.attr
-    c.args.found.now.user c.args.found.now.execute c.args.now c.requires.place.file c.requires.place.new _ refl
+    entry_calls_here _ c.args.found.now.dir.number c.args.found.now.place c.args.file.now.name c.args.file.now.attr
+    c.args.found.now.by.user c.args.found.now.by.execute c.args.file.now.date c.requires.place.file c.requires.place.new _ refl
     c.args.found.now.dir c.requires.place.read c.args.v.now c.requires.mounted c.in_ok-check_room.ensures _ c.in_ok-n.n
     c.in_ok-n.ensures.makes _ _ _ c.in_err-enter_file.ensures.counts v file on is in
     rw (p.1, p.2) (device_calls v file 2 0 c.in_err-enter_file.field-0.0 _ _ _ (omega arith) (some_number c.in_err-enter_file.field-0.0 c.in_err-enter_file.ensures.device)
@@ -81,15 +81,15 @@ returns-in_err-enter_file-clause-counts g c v file on is =
 
 pub returns-clause-answer : goal.returns-clause-answer
 returns-clause-answer g c v file on is =
-    is_entered _ c.args.found.now.dir.number c.args.found.now.place c.args.name.now c.args.attr c.args.found.now.user
-    c.args.found.now.execute c.args.now c.requires.place.file c.requires.place.new _ refl c.args.found.now.dir
+    is_entered _ c.args.found.now.dir.number c.args.found.now.place c.args.file.now.name c.args.file.now.attr c.args.found.now.by.user
+    c.args.found.now.by.execute c.args.file.now.date c.requires.place.file c.requires.place.new _ refl c.args.found.now.dir
     c.requires.place.read c.args.v.now c.requires.mounted c.in_ok-check_room.ensures _ c.in_ok-n.n
     c.in_ok-n.ensures.makes c.new_entry.result c.new_entry.ensures _ c.in_ok-enter_file.ensures.answer v file on is
 
 pub returns-clause-counts : goal.returns-clause-counts
 returns-clause-counts g c v file on is =
     counts_then _ 2 _ _ _ _ c.in_ok-n.ensures.counts
-    (entry_calls_here _ c.args.found.now.dir.number c.args.found.now.place c.args.name.now c.args.attr
-    c.args.found.now.user c.args.found.now.execute c.args.now c.requires.place.file c.requires.place.new _ refl
+    (entry_calls_here _ c.args.found.now.dir.number c.args.found.now.place c.args.file.now.name c.args.file.now.attr
+    c.args.found.now.by.user c.args.found.now.by.execute c.args.file.now.date c.requires.place.file c.requires.place.new _ refl
     c.args.found.now.dir c.requires.place.read c.args.v.now c.requires.mounted c.in_ok-check_room.ensures _ c.in_ok-n.n
     c.in_ok-n.ensures.makes _ _ _ c.in_ok-enter_file.ensures.counts v file on is)

@@ -7,6 +7,6 @@ use Rattle.rbf_write.proofs.data.fill.Given as goal
 
 abbrev pub invariant-loop-place : goal.invariant-loop-place
 invariant-loop-place g l =
-    IsFillSoFar l.segs l.size l.at l.from (min l.size l.at / 256) l.place (kept l.fn.volume) (kept l.volume)
+    IsFillSoFar l.file.segs.now l.file.size l.write.at l.write.bytes.now (min l.file.size l.write.at / 256) l.place (kept l.fn.volume) (kept l.volume)
     ((goal.BlockDriver-dyn g l.fn.d.now).media l.fn.d.now.1) ((goal.BlockDriver-dyn g l.d.now).media l.d.now.1) l.volume.cache
     (drive_counts (goal.BlockDriver-dyn g l.fn.d.now) l.fn.d.now.1) (drive_counts (goal.BlockDriver-dyn g l.d.now) l.d.now.1)

@@ -1,54 +1,18 @@
-use Rattle.std.proofs.Common.{arith, refl, ◌∙◌}
+use Rattle.std.proofs.Common.{arith}
+use Rattle.std.proofs.lemmas.Result.{on_ok_weaker}
 use Rattle.rbf_write.specs.Finished.{resized}
 use Rattle.rbf_write.proofs.laying.finish.Goals as goal
 
+pub store_fields-requires-clause-may : goal.store_fields-requires-clause-may
+store_fields-requires-clause-may g c = record {
+  number = c.requires.may.number;
+  list = c.requires.may.list;
+  same = c.requires.may.same;
+  sound = λ after stored. c.requires.may.sound after (resized {bytes = stored.bytes} (omega arith) stored.says stored.written);
+}
+
 pub returns-clause-done : goal.returns-clause-done
 returns-clause-done g c =
-    let w = c.with_descriptor-bytes.ensures in
-    let f = w.fields in
-    let dated = c.minute.ensures in
-    resized {bytes = c.with_descriptor-bytes.result} (omega arith)
-    (record {
-      whole = w.whole;
-      fields = record {
-        attributes_are = f.attributes_are;
-        owner_is = f.owner_is;
-        modified_is = f.modified_is ∙ dated;
-        links_are = f.links_are;
-        size_is = f.size_is;
-        created_is = f.created_is;
-      };
-      list = w.list;
-      end = w.end;
-    })
-    c.in_ok-store.ensures.written
-
-pub store-requires-clause-sound : goal.store-requires-clause-sound
-store-requires-clause-sound g c =
-    let w = c.with_descriptor-bytes.ensures in
-    let f = w.fields in
-    let dated = c.minute.ensures in
-    c.requires.may.sound _ (resized {bytes = c.with_descriptor-bytes.result} (omega arith)
-    (record {
-      whole = w.whole;
-      fields = record {
-        attributes_are = f.attributes_are;
-        owner_is = f.owner_is;
-        modified_is = f.modified_is ∙ dated;
-        links_are = f.links_are;
-        size_is = f.size_is;
-        created_is = f.created_is;
-      };
-      list = w.list;
-      end = w.end;
-    })
-    refl)
-
-pub store-requires-clause-on : goal.store-requires-clause-on
-store-requires-clause-on g c = c.requires.may.number
-
-pub with_descriptor-bytes-requires-clause-list : goal.with_descriptor-bytes-requires-clause-list
-with_descriptor-bytes-requires-clause-list g c = c.requires.may.list
-
-pub with_descriptor-bytes-requires-clause-same : goal.with_descriptor-bytes-requires-clause-same
-with_descriptor-bytes-requires-clause-same g c = c.requires.may.same
+    on_ok_weaker c.store_fields.result
+    (λ stored. resized {bytes = stored.bytes} (omega arith) stored.says stored.written)
+    c.store_fields.ensures.stored

@@ -15,13 +15,13 @@ read-answer-requires-clause-asked g c =
       pipes = c.self.inside.pipes;
       calls = c.self.inside.calls;
     } in
-    let may = subst (λ (s : Io). MayRead s c.args.p.0 c.args.terminal c.args.kind c.args.call) (sym c.self.view_is) c.requires.may in
+    let may = subst (λ (s : Io). MayRead s c.args.p.0 c.args.read.terminal c.args.read.kind c.args.read.call) (sym c.self.view_is) c.requires.may in
     record {
       some = omega arith;
       most = omega arith;
       same =
-          subst (λ (m : ℕ). IsSameCall (read_of c.args.p c.args.kind m) (terminal_at io c.args.terminal)) (sym c.min-most.ensures)
-          (same-read io c.args.p.0 c.args.terminal c.args.kind c.args.call may c.self.invariant.waits);
+          subst (λ (m : ℕ). IsSameCall (read_of c.args.p c.args.read.kind m) (terminal_at io c.args.read.terminal)) (sym c.min-most.ensures)
+          (same-read io c.args.p.0 c.args.read.terminal c.args.read.kind c.args.read.call may c.self.invariant.waits);
     }
 
 pub invariant_of-self : goal.invariant_of-self
@@ -32,7 +32,7 @@ invariant_of-self g c =
       pipes = c.self.inside.pipes;
       calls = c.self.inside.calls;
     } in
-    let may = subst (λ (s : Io). MayRead s c.args.p.0 c.args.terminal c.args.kind c.args.call) (sym c.self.view_is) c.requires.may in
-    is-io_read io c.args.p.0 c.args.terminal c.min-most.result c.args.kind c.args.call c.read-answer.result
+    let may = subst (λ (s : Io). MayRead s c.args.p.0 c.args.read.terminal c.args.read.kind c.args.read.call) (sym c.self.view_is) c.requires.may in
+    is-io_read io c.args.p.0 c.args.read.terminal c.min-most.result c.args.read.kind c.args.read.call c.read-answer.result
     c.read-answer.new.self c.pending_after.result _ _ c.self.invariant may c.min-most.ensures
     c.read-answer.ensures.terminals c.read-answer.ensures.device.4 c.pending_after.ensures

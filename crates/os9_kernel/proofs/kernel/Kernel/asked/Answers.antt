@@ -26,12 +26,12 @@ loop-number-preserved c =
     let so_far = c.loop-number.invariant in
     let before : next ≤ until = omega (arith, c.min-until.ensures) in
     let early : next ≤ c.later.result = omega (arith, c.min-until.ensures) in record {
-      may_go = λ known. below_more (λ (p : ℕ). has_io c.with-ready.result p ≡ may_go_in kernel.files now p) number
+      may_go = λ known. below_more (λ (p : ℕ). has_io c.with-ready.result p ≡ may_go_in kernel.machine.files now p) number
           (λ p below. c.with-ready.ensures.others p (λ is. absurd (omega (arith, below, is))) ∙ so_far.may_go known p below)
           (c.with-ready.ensures.own ∙ c.goes.ensures known);
       none = λ p low. c.with-ready.ensures.others p (λ is. absurd (omega (arith, low, is))) ∙ so_far.none p (omega (arith, low));
-      waits = below_more (λ (p : ℕ). EndsNotBefore now next (option_and_then (λ (wait : Wait). wait.until) (awaited kernel.files p))) number
-          (λ p below. ends-sooner now until next (option_and_then (λ (wait : Wait). wait.until) (awaited kernel.files p)) before (so_far.waits p below))
+      waits = below_more (λ (p : ℕ). EndsNotBefore now next (option_and_then (λ (wait : Wait). wait.until) (awaited kernel.machine.files p))) number
+          (λ p below. ends-sooner now until next (option_and_then (λ (wait : Wait). wait.until) (awaited kernel.machine.files p)) before (so_far.waits p below))
           (subst (λ (end : Option ℕ). EndsNotBefore now next end) (c.until_of.ensures ∙ ap (option_and_then (λ (wait : Wait). wait.until)) c.waits_for-wait.ensures)
           (ends-sooner now c.later.result next c.until_of.result early c.later.ensures));
       fits = omega (arith, before, so_far.fits);

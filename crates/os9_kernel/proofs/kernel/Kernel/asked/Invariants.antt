@@ -10,8 +10,8 @@ use Rattle.os9_kernel.proofs.kernel.Kernel.asked.Given as goal
 -- of the processes so far it is known, and no wait of them ends before
 abbrev pub invariant-loop-number : goal.invariant-loop-number
 invariant-loop-number l = record {
-  may_go : IsKnown l.self → (p : ℕ) → p < l.number → has_io l.ready p ≡ may_go_in l.self.files (ticks l.self) p;
+  may_go : IsKnown l.self → (p : ℕ) → p < l.number → has_io l.ready p ≡ may_go_in l.self.machine.files (ticks l.self) p;
   none : (p : ℕ) → l.number ≤ p → has_io l.ready p ≡ false;
-  waits : (p : ℕ) → p < l.number → EndsNotBefore (ticks l.self) l.until (option_and_then (λ (wait : Wait). wait.until) (awaited l.self.files p));
+  waits : (p : ℕ) → p < l.number → EndsNotBefore (ticks l.self) l.until (option_and_then (λ (wait : Wait). wait.until) (awaited l.self.machine.files p));
   fits : l.until < 2 ^ 32;
 }

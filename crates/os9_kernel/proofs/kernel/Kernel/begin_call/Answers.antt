@@ -5,4 +5,4 @@ use Rattle.os9_kernel.proofs.kernel.Kernel.begin_call.Goals as goal
 
 pub returns-clause-count : goal.returns-clause-count
 returns-clause-count c =
-    tick-kept c.args.self.now.processes c.set_own.new.self (λ (m : Processes). with_own m c.args.p.0 _) c.set_own.ensures.tied (λ m. refl)
+    tick-kept c.args.self.now.machine.processes c.set_own.new.self (λ (m : Processes). with_own m c.args.p.0 _) c.set_own.ensures.tied (λ m. refl)

@@ -17,7 +17,7 @@ returns-in_default-clause-files c views files stands =
 pub returns-in-Some-clause-signal : goal.returns-in-Some-clause-signal
 returns-in-Some-clause-signal c =
     let p = c.args.p.0 in
-    let (m, there) = some-machine c.args.self.now.processes in
+    let (m, there) = some-machine c.args.self.now.machine.processes in
     let within : p < length m.records = living-within m.records p (subst (λ (s : Processes). IsLiving s.records p) (sym there.is) c.requires.lives) in
     let now = c.set_regs.ensures.tied m there in
     sym (ap (λ (s : Processes). (record_at s.records p).signal) now.is)

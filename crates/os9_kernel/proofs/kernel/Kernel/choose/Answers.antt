@@ -26,7 +26,7 @@ returns-clause-step c devices s there =
     let active = c.look.ensures.active devices s there in
     let who : c.dispatch-self.result ≡ (choice_of io m).chosen = c.dispatch-self.ensures.chosen io m active now.processes in
     let t : State = record s { processes = after_choice io m; chosen = option_map (λ (p : Pid). p.0) (choice_of io m).chosen } in
-    let new : Kernel = record looked { processes = c.dispatch-self.new.s; chosen = c.dispatch-self.result; executed = 0 } in
+    let new : Kernel = record looked { machine = record looked.machine { processes = c.dispatch-self.new.s }; chosen = c.dispatch-self.result; executed = 0 } in
     let chooses : Choose s t = refl in (
       t,
       chooses,

@@ -33,9 +33,10 @@ use Rattle.os9_kernel.proofs.kernel.Kernel.deliver.Goals as goal
 use Rattle.os9_kernel.proofs.kernel.Kernel.deliver.Goals.{After-deliver}
 
 -- the signal is pending
-signal_there : (old : Kernel) (p : Pid) (signal : ℕ) → DoesNext old p (Delivery signal) → (record_at old.processes.table p.0).signal ≡ Some signal
+signal_there : (old : Kernel) (p : Pid) (signal : ℕ) → DoesNext old p (Delivery signal) → (record_at old.machine.processes.table p.0).signal ≡ Some signal
 signal_there old p signal next =
-    signal-is (slice_index_or old.processes.own.items p.0 no_own).call (record_at old.processes.table p.0).signal (is_waiting (record_at old.processes.table p.0).life) signal next.next
+    signal-is (slice_index_or old.machine.processes.own.items p.0 no_own).call (record_at old.machine.processes.table p.0).signal
+    (is_waiting (record_at old.machine.processes.table p.0).life) signal next.next
 
 pub deliver-requires-clause-pending : goal.deliver-requires-clause-pending
 deliver-requires-clause-pending c =
@@ -44,20 +45,20 @@ deliver-requires-clause-pending c =
 module _ (c : After-deliver) where
   -- the processes that the signal finds
   abbrev found : Processes → Processes
-  found m = broken_off m c.args.p.0 (interrupted_count c.args.self.now.files.io c.args.p.0)
+  found m = broken_off m c.args.p.0 (interrupted_count c.args.self.now.machine.files.io c.args.p.0)
 
-  tied_found : (m : Processes) → RepresentsProcesses c.args.self.now.processes m → RepresentsProcesses c.break_off.new.self.processes (found m)
+  tied_found : (m : Processes) → RepresentsProcesses c.args.self.now.machine.processes m → RepresentsProcesses c.break_off.new.self.machine.processes (found m)
   tied_found m tied = c.break_off.ensures.tied m tied
 
-  signal_found : (m : Processes) → RepresentsProcesses c.args.self.now.processes m → (record_at (found m).records c.args.p.0).signal ≡ Some c.args.signal
+  signal_found : (m : Processes) → RepresentsProcesses c.args.self.now.machine.processes m → (record_at (found m).records c.args.p.0).signal ≡ Some c.args.signal
   signal_found m tied =
       ap (λ (s : Processes). (record_at s.records c.args.p.0).signal) (tied_found m tied).is ∙ c.break_off.ensures.signal ∙ signal_there c.args.self.now c.args.p c.args.signal c.requires.next
 
-  ticks : c.deliver.new.self.tick ≡ c.args.self.now.processes.tick
+  ticks : c.deliver.new.self.tick ≡ c.args.self.now.machine.processes.tick
   ticks =
-      tick-kept c.args.self.now.processes c.deliver.new.self (λ (m : Processes). after_delivery (found m) c.args.p.0 (delivered (found m) c.args.p.0 c.args.signal))
+      tick-kept c.args.self.now.machine.processes c.deliver.new.self (λ (m : Processes). after_delivery (found m) c.args.p.0 (delivered (found m) c.args.p.0 c.args.signal))
       (λ m tied. c.deliver.ensures.tied (found m) c.args.signal (tied_found m tied) (signal_found m tied))
-      (λ m. delivery-tick (found m) c.args.p.0 c.args.signal ∙ broken-tick m c.args.p.0 (interrupted_count c.args.self.now.files.io c.args.p.0))
+      (λ m. delivery-tick (found m) c.args.p.0 c.args.signal ∙ broken-tick m c.args.p.0 (interrupted_count c.args.self.now.machine.files.io c.args.p.0))
 
   -- they are those of the machine
   found_is : (devices : Outside) (s : State) → Represents c.args.self.now devices s → found s.processes ≡ before_delivery s c.args.p.0
@@ -68,7 +69,7 @@ pub returns-in-Ended-clause-event : goal.returns-in-Ended-clause-event
 returns-in-Ended-clause-event c devices =
     let here = (goal.at.returns-in-Ended-clause-event c).After-deliver in
     let old = c.args.self.now in
-    let new = forgets (record c.break_off.new.self { processes = c.deliver.new.self; files = c.end.new.self }) in
+    let new = forgets (record c.break_off.new.self { machine = record { processes = c.deliver.new.self; files = c.end.new.self } }) in
     let p = c.args.p in
     let act = Delivery c.args.signal in
     let next = c.requires.next in record {
@@ -104,11 +105,11 @@ pub returns-in_default : goal.returns-in_default
 returns-in_default c =
     let here = (goal.at.returns-in_default c).After-deliver in
     let old = c.args.self.now in
-    let new = forgets (record c.break_off.new.self { processes = c.deliver.new.self }) in
+    let new = forgets (record c.break_off.new.self { machine = record c.break_off.new.self.machine { processes = c.deliver.new.self } }) in
     let p = c.args.p in
     let act = Delivery c.args.signal in
     let next = c.requires.next in
-    let (m, there) = some-machine old.processes in
+    let (m, there) = some-machine old.machine.processes in
     let (is_done, (t, ok)) = done-so (delivered (found here m) p.0 c.args.signal) c.deliver.result
     (c.deliver.ensures.end (found here m) c.args.signal (tied_found here m there) (signal_found here m there))
     c.in_default.not-Ended in record {
@@ -119,7 +120,7 @@ returns-in_default c =
             let end = c.deliver.ensures.end m c.args.signal (tied_found here s.processes tied.processes) (signal_found here s.processes tied.processes) in
             let before = found_is here devices s tied in
             let left = files_after_delivery s.files p.0 (delivered (before_delivery s p.0) p.0 c.args.signal) in
-            let stands : StandsFor c.break_off.new.self.files devices.drives left = subst (λ (files : Files). StandsFor c.break_off.new.self.files devices.drives files)
+            let stands : StandsFor c.break_off.new.self.machine.files devices.drives left = subst (λ (files : Files). StandsFor c.break_off.new.self.machine.files devices.drives files)
             (files-goes-so d c.deliver.result end c.in_default.not-Ended s.files p.0 ∙ ap (λ (m : Processes). files_after_delivery s.files p.0 (delivered m p.0 c.args.signal)) before)
             (c.break_off.ensures.files devices.drives s.files tied.files) in
             event-here old p act next devices s tied new _ (after_delivery m p.0 d) left c.break_off.ensures.chosen
@@ -140,8 +141,8 @@ returns-in_default c =
         images = keeps-drives old devices devices refl;
       };
       progress = λ _.
-          let count = interrupted_count old.files.io p.0 in
-          let places : length old.processes.own.items ≡ 33 = sym old.processes.own.ok.0 ∙ old.processes.places in
+          let count = interrupted_count old.machine.files.io p.0 in
+          let places : length old.machine.processes.own.items ≡ 33 = sym old.machine.processes.own.ok.0 ∙ old.machine.processes.places in
           let within = living-within m.records p.0 (subst (λ (s : Processes). IsLiving s.records p.0) (sym there.is) next.lives) in
           let (regs, record_is) = broken-record m p.0 count within in
           let long : length (found here m).own ≡ length m.own = ap length (broken-own m p.0 count) in
@@ -151,9 +152,9 @@ returns-in_default c =
           c.break_off.ensures.lives) in
           let no_call : is_waiting (record_at (found here m).records p.0).life ≡ false → (own_at (found here m) p.0).call ≡ None =
           (λ not. ap (λ (own : List Own). (slice_index_or own p.0 no_own).call) (broken-own m p.0 count) ∙ ap
-          (λ (s : Processes). (own_at s p.0).call) there.is ∙ call-is (slice_index_or old.processes.own.items p.0
-          no_own).call (record_at old.processes.table p.0).signal
-          (is_waiting (record_at old.processes.table p.0).life) c.args.signal next.next
+          (λ (s : Processes). (own_at s p.0).call) there.is ∙ call-is (slice_index_or old.machine.processes.own.items p.0
+          no_own).call (record_at old.machine.processes.table p.0).signal
+          (is_waiting (record_at old.machine.processes.table p.0).life) c.args.signal next.next
           (sym (ap (λ (s : Processes). is_waiting (record_at s.records p.0).life) there.is) ∙ sym
           (ap (λ (r : Record). is_waiting r.life) record_is) ∙ not)) in
           let quiet = delivered-quiet (found here m) p.0 within_found inside no_call c.args.signal t ok in

@@ -34,34 +34,37 @@ Runs c m t =
     RunsInMemory c.args.p.0 c.args.most c.run-ran.result (regs_at m c.args.p.0) m.memory c.run-ran.new.regs t
     × RepresentsMemory c.run-ran.new.self t
 
-ran : (c : After-set_regs) → (m : Processes) → RepresentsProcesses c.args.self.now.processes m → (t : MemoryState) × Runs c m t
+ran : (c : After-set_regs) → (m : Processes) → RepresentsProcesses c.args.self.now.machine.processes m → (t : MemoryState) × Runs c m t
 ran c m tied =
     let (t, runs, there) = c.run-ran.ensures.run m.memory tied.memory in
     (t, (subst (λ (r : Regs). RunsInMemory c.args.p.0 c.args.most c.run-ran.result r m.memory c.run-ran.new.regs t) (c.regs-regs.ensures.tied m tied) runs, there))
 
 all : (c : After-set_regs) → c.run-ran.result.stop ≡ Next → c.run-ran.result.followed ≡ c.args.most
-all c is = let (m, tied) = some-machine c.args.self.now.processes in let (t, (runs, there)) = ran c m tied in all-done c.args.p.0 c.args.most c.run-ran.result _ _ _ t runs is
+all c is = let (m, tied) = some-machine c.args.self.now.machine.processes in let (t, (runs, there)) = ran c m tied in all-done c.args.p.0 c.args.most c.run-ran.result _ _ _ t runs is
 
 left : (c : After-set_regs) → (stop : Stop) → c.run-ran.result.stop ≡ stop → (stop ≡ Next → ⊥) → c.run-ran.result.followed < c.args.most
-left c stop is other = let (m, tied) = some-machine c.args.self.now.processes in let (t, (runs, there)) = ran c m tied in some-left c.args.p.0 c.args.most c.run-ran.result _ _ _ t runs stop is other
+left c stop is other =
+    let (m, tied) = some-machine c.args.self.now.machine.processes in
+    let (t, (runs, there)) = ran c m tied in
+    some-left c.args.p.0 c.args.most c.run-ran.result _ _ _ t runs stop is other
 
 -- the registers then are set in the memory then
-regs_set : (c : After-set_regs) → (m : Processes) (tied : RepresentsProcesses c.args.self.now.processes m)
+regs_set : (c : After-set_regs) → (m : Processes) (tied : RepresentsProcesses c.args.self.now.machine.processes m)
     (t : MemoryState) → RepresentsMemory c.run-ran.new.self t → RepresentsProcesses c.set_regs.new.s
     (processes_at m c.args.p.0 t c.run-ran.new.regs)
 regs_set c m tied t there =
     c.set_regs.ensures.tied (with_memory m t) (record { memory = there; is = λ i. with_memory (tied.is i) t })
 
 -- the tick then
-ticks_set : (c : After-set_regs) → c.set_regs.new.s.tick ≡ c.args.self.now.processes.tick
+ticks_set : (c : After-set_regs) → c.set_regs.new.s.tick ≡ c.args.self.now.machine.processes.tick
 ticks_set c = tick-kept _ c.set_regs.new.s (λ (m : Processes). with_regs_of m c.args.p.0 c.run-ran.new.regs) c.set_regs.ensures.tied (λ m. refl)
 
 -- instructions were executed, so less is left
 lowers : (c : After-set_regs) → (new : Kernel) (count : ℕ) → new.chosen ≡ c.args.self.now.chosen → 1 ≤ count
     → count ≤ c.args.most → 4 * (c.args.most - count) + pending new < 4 * c.args.most + pending c.args.self.now
 lowers c new count same some few =
-    let is : pending new ≡ pending_of new.processes c.args.p.0 = pending-is c.args.self.now c.args.p new (same ∙ c.requires.next.chosen) in
-    omega (arith, is, at_most-three new.processes c.args.p.0)
+    let is : pending new ≡ pending_of new.machine.processes c.args.p.0 = pending-is c.args.self.now c.args.p new (same ∙ c.requires.next.chosen) in
+    omega (arith, is, at_most-three new.machine.processes c.args.p.0)
 
 pub overflow_add-result : goal.overflow_add-result
 overflow_add-result c =
@@ -87,16 +90,16 @@ returns-in-Next-clause-turn c devices =
           c.run-ran.new.regs t c.requires.some runs c.in-Next.is in (
             record s { processes = processes_at s.processes p.0 t c.run-ran.new.regs },
             inr done,
-            represents-here old p Instruction next devices s tied (record old { processes = c.set_regs.new.s })
-                (looked-still old (record old { processes = c.set_regs.new.s }) refl refl (ticks_set here) c.set_regs.ensures.active tied.looked)
-                (known-still old (record old { processes = c.set_regs.new.s }) refl refl refl (ticks_set here) tied.known) _
+            represents-here old p Instruction next devices s tied (record old { machine = record old.machine { processes = c.set_regs.new.s } })
+                (looked-still old (record old { machine = record old.machine { processes = c.set_regs.new.s } }) refl refl (ticks_set here) c.set_regs.ensures.active tied.looked)
+                (known-still old (record old { machine = record old.machine { processes = c.set_regs.new.s } }) refl refl refl (ticks_set here) tied.known) _
                 s.files refl refl (regs_set here s.processes tied.processes t there) tied.files
                 (instructions-open done tied.run),
           );
       memory = λ is. cc;
       going = λ _. (p, next.chosen, c.set_regs.ensures.lives);
       few = omega (arith, whole);
-      progress = λ _. lowers here (record old { processes = c.set_regs.new.s }) c.run-ran.result.followed refl (omega (arith, whole)) (omega (arith, whole));
+      progress = λ _. lowers here (record old { machine = record old.machine { processes = c.set_regs.new.s } }) c.run-ran.result.followed refl (omega (arith, whole)) (omega (arith, whole));
       count = λ _. ticks_set here;
       images = keeps-drives old devices devices refl;
     }
@@ -157,7 +160,8 @@ returns-in-Abort-clause-turn c devices =
       few = omega (arith, some);
       progress = λ is. cc;
       count =
-          λ _. tick-kept c.set_regs.new.s c.end_process.new.self.processes (λ (m : Processes). ended m p.0 c.in-Abort.status) c.end_process.ensures.tied (λ m. ended-tick m p.0 c.in-Abort.status)
+          λ _. tick-kept c.set_regs.new.s c.end_process.new.self.machine.processes (λ (m : Processes). ended m p.0 c.in-Abort.status)
+          c.end_process.ensures.tied (λ m. ended-tick m p.0 c.in-Abort.status)
           ∙ ticks_set here;
       images = keeps-drives old devices devices refl;
     }

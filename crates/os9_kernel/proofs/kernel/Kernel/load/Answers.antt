@@ -48,13 +48,13 @@ begin-requires-clause-begins g c is done =
     let p = c.args.p.0 in
     let new = c.try_load-end.new.self in
     let terms = vec_len c.args.devices.now.terms in
-    let before : Standing = standing (λ box. (g.dyn-1.0.entry box.vtable).1) old.processes old.files c.args.devices.now in
-    let after : Standing = standing (λ box. (g.dyn-1.0.entry box.vtable).1) new.processes new.files c.try_load-end.new.devices in
+    let before : Standing = standing (λ box. (g.dyn-1.0.entry box.vtable).1) old.machine.processes old.machine.files c.args.devices.now in
+    let after : Standing = standing (λ box. (g.dyn-1.0.entry box.vtable).1) new.machine.processes new.machine.files c.try_load-end.new.devices in
     let (s, tied) = c.requires.stands in
     let (time, is_time) = some-time old _ s tied in
     let it = c.try_load-end.ensures.call time s.processes s.files tied.processes tied.files tied.run.locked.state.running.kinds in (
-      subst (λ (end : CallEnd). LivesOn end new.processes.table p) done c.try_load-end.ensures.lives,
-      child-begins c.args.call s.processes s.files time terms p before after tied.run.locked.state.running.kept (places-there old.processes s.processes tied.processes)
+      subst (λ (end : CallEnd). LivesOn end new.machine.processes.table p) done c.try_load-end.ensures.lives,
+      child-begins c.args.call s.processes s.files time terms p before after tied.run.locked.state.running.kept (places-there old.machine.processes s.processes tied.processes)
           (lives-there old c.args.p (Attempt c.args.code) c.requires.next _ s tied) is (subst (λ (end : CallEnd). LoadsSo c.args.call s.processes s.files time terms p end before after) done it),
     )
 
@@ -78,21 +78,21 @@ returns-clause-event g c =
     let (s0, tied0) = c.requires.stands in
     let (time0, is_time0) = some-time old before s0 tied0 in
     let first = c.try_load-end.ensures.call time0 s0.processes s0.files tied0.processes tied0.files tied0.run.locked.state.running.kinds in
-    let told0 : Comes s0.processes p.0 first.result end c.begin.new.self.processes = subst (λ (processes : ProcState).
+    let told0 : Comes s0.processes p.0 first.result end c.begin.new.self.machine.processes = subst (λ (processes : ProcState).
     Comes s0.processes p.0 first.result end processes) (sym c.begin.ensures.processes) first.comes in
     let (there0, same0) = c.tell_end.ensures.told s0.processes first.result told0 in
     let over = sym (c.event_end.ensures ∙ ap event_end_of same0) in record {
       step = λ _ s tied.
           let (time, is_time) = some-time old before s tied in
           let it = c.try_load-end.ensures.call time s.processes s.files tied.processes tied.files tied.run.locked.state.running.kinds in
-          let told : Comes s.processes p.0 it.result end c.begin.new.self.processes = subst (λ (processes : ProcState).
+          let told : Comes s.processes p.0 it.result end c.begin.new.self.machine.processes = subst (λ (processes : ProcState).
           Comes s.processes p.0 it.result end processes) (sym c.begin.ensures.processes) it.comes in
           let (there, same) = c.tell_end.ensures.told s.processes it.result told in
           let left : Files = begun_on c.args.call it.left p.0 it.result in
-          let begun : StandsFor c.begin.new.self.files after.drives left = subst (λ (files : Files). StandsFor
-          c.begin.new.self.files after.drives files) (begun-tied c.args.call s.processes p.0 it.left tried.processes
+          let begun : StandsFor c.begin.new.self.machine.files after.drives left = subst (λ (files : Files). StandsFor
+          c.begin.new.self.machine.files after.drives files) (begun-tied c.args.call s.processes p.0 it.left tried.machine.processes
           it.result end it.comes) (c.begin.ensures.files after.drives it.left it.stands) in
-          let stands : StandsFor new.files after.drives left = subst (λ (files : FileState). StandsFor files after.drives left) (sym c.tell_end.ensures.files) begun in
+          let stands : StandsFor new.machine.files after.drives left = subst (λ (files : FileState). StandsFor files after.drives left) (sym c.tell_end.ensures.files) begun in
           let terms_here = terms-are old p act next before s tied in
           let attempt : AttemptsLoad c.args.call s.processes (asker_of s.processes p.0 time) s.files (length s.terms) p.0
           it.result it.left = subst (λ (n : ℕ). AttemptsLoad c.args.call s.processes (asker_of s.processes p.0 time)
@@ -117,16 +117,16 @@ returns-clause-event g c =
       memory = λ out. absurd (never-wants first.result (over ∙ out));
       waits = λ is.
           let waiting : end ≡ Wait = waits-so end (sym c.event_end.ensures ∙ is) in
-          let standing_before : Standing = standing (λ box. (g.dyn-1.0.entry box.vtable).1) old.processes old.files c.args.devices.now in
-          let standing_after : Standing = standing (λ box. (g.dyn-1.0.entry box.vtable).1) tried.processes tried.files c.try_load-end.new.devices in
+          let standing_before : Standing = standing (λ box. (g.dyn-1.0.entry box.vtable).1) old.machine.processes old.machine.files c.args.devices.now in
+          let standing_after : Standing = standing (λ box. (g.dyn-1.0.entry box.vtable).1) tried.machine.processes tried.machine.files c.try_load-end.new.devices in
           let at_wait : LoadsSo c.args.call s0.processes s0.files time0 (vec_len terms) p.0 Wait standing_before
           standing_after = subst (λ (end : CallEnd). LoadsSo c.args.call s0.processes s0.files time0 (vec_len terms)
           p.0 end standing_before standing_after) waiting first in record {
             p = p;
             chosen = next.chosen;
             code = c.args.code;
-            call = code-held (slice_index_or old.processes.own.items p.0 no_own).call
-                (is_waiting (record_at old.processes.table p.0).life) (record_at old.processes.table p.0).signal
+            call = code-held (slice_index_or old.machine.processes.own.items p.0 no_own).call
+                (is_waiting (record_at old.machine.processes.table p.0).life) (record_at old.machine.processes.table p.0).signal
                 c.args.code next.next;
             first = λ fresh. rests-there new c.args.code p.0 c.args.call c.requires.serves
                 (loads-rest c.args.call s0.processes s0.files time0 (vec_len terms) p.0 standing_before standing_after at_wait);
@@ -135,7 +135,7 @@ returns-clause-event g c =
         p,
         c.tell_end.ensures.chosen ∙ c.begin.ensures.chosen ∙ c.try_load-end.ensures.chosen ∙
             next.chosen,
-        lives-so end new.processes.table p.0 (sym c.event_end.ensures ∙ ran) c.tell_end.ensures.lives,
+        lives-so end new.machine.processes.table p.0 (sym c.event_end.ensures ∙ ran) c.tell_end.ensures.lives,
       );
       count = λ _.
           sym (ap (λ (m : Processes). m.tick) there0.is)
@@ -159,11 +159,11 @@ returns-clause-progress g c ran =
     let (s, tied) = c.requires.stands in
     let (time, is_time) = some-time old _ s tied in
     let it = c.try_load-end.ensures.call time s.processes s.files tied.processes tied.files tied.run.locked.state.running.kinds in
-    let told : Comes s.processes p.0 it.result end c.begin.new.self.processes =
+    let told : Comes s.processes p.0 it.result end c.begin.new.self.machine.processes =
     subst (λ (processes : ProcState). Comes s.processes p.0 it.result end processes) (sym c.begin.ensures.processes) it.comes in
     let (there, same) = c.tell_end.ensures.told s.processes it.result told in
     let (t, regs, is) = goes-on it.result (sym (c.event_end.ensures ∙ ap event_end_of same) ∙ ran) s.processes p.0 in
-    let none = no-call new.processes t p.0 regs c.requires.next.process.1 (subst (λ (m : Processes). RepresentsProcesses new.processes m) is there) in
+    let none = no-call new.machine.processes t p.0 regs c.requires.next.process.1 (subst (λ (m : Processes). RepresentsProcesses new.machine.processes m) is there) in
     attempt-lowers old p c.args.code c.requires.next new (c.tell_end.ensures.chosen ∙ c.begin.ensures.chosen ∙ c.try_load-end.ensures.chosen) none
 
 pub returns-clause-terminals : goal.returns-clause-terminals

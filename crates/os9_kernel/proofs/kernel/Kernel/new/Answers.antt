@@ -57,8 +57,7 @@ returns-clause-starts g c =
     let long : length after.terms ≡ vec_len terms = simp length-map (sym terms.ok.0) in
     let kept : vec_len terms ≡ vec_len c.args.devices.now.terms = ap (λ terms. vec_len terms) c.start_files.ensures.terms_kept in
     let kernel : Kernel = record {
-      processes = c.in-Ok.processes;
-      files = c.in-Ok-start_files.files;
+      machine = record { processes = c.in-Ok.processes; files = c.in-Ok-start_files.files };
       clock = record
           { from = c.args.config.time; since = 0 };
       chosen = None;

@@ -15,8 +15,8 @@ loop-number-preserved c =
     let next = c.min-least.result in
     let before : next ≤ least = omega (arith, c.min-least.ensures) in
     let early : next ≤ c.later.result = omega (arith, c.min-least.ensures) in record {
-      sleeps = below_more (λ (p : ℕ). EndsNotBefore now next (slice_index_or kernel.processes.own.items p no_own).until) c.loop-number.number
-          (λ p below. ends-sooner now least next (slice_index_or kernel.processes.own.items p no_own).until before (c.loop-number.invariant.sleeps p below))
+      sleeps = below_more (λ (p : ℕ). EndsNotBefore now next (slice_index_or kernel.machine.processes.own.items p no_own).until) c.loop-number.number
+          (λ p below. ends-sooner now least next (slice_index_or kernel.machine.processes.own.items p no_own).until before (c.loop-number.invariant.sleeps p below))
           (subst (λ (end : Option ℕ). EndsNotBefore now next end) (ap (λ (own : Own). own.until) c.own-end.ensures.own)
           (ends-sooner now c.later.result next c.own-end.result.until early c.later.ensures));
       fits = omega (arith, before, c.loop-number.invariant.fits);

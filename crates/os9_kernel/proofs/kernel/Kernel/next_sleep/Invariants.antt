@@ -8,6 +8,6 @@ use Rattle.os9_kernel.proofs.kernel.Kernel.next_sleep.Given as goal
 -- no sleep of the processes so far ends before it
 abbrev pub invariant-loop-number : goal.invariant-loop-number
 invariant-loop-number l = record {
-  sleeps : (p : ℕ) → p < l.number → EndsNotBefore (ticks l.self) l.least (slice_index_or l.self.processes.own.items p no_own).until;
+  sleeps : (p : ℕ) → p < l.number → EndsNotBefore (ticks l.self) l.least (slice_index_or l.self.machine.processes.own.items p no_own).until;
   fits : l.least < 2 ^ 32;
 }

@@ -7,5 +7,5 @@ use Rattle.os9_kernel.proofs.kernel.Kernel.number_in_a.Goals as goal
 
 pub returns-clause-number : goal.returns-clause-number
 returns-clause-number c =
-    let (m, there) = some-machine c.args.self.now.processes in
+    let (m, there) = some-machine c.args.self.now.machine.processes in
     ap (λ (regs : Regs). regs.a) (c.regs.ensures.tied m there) ∙ ap (λ (s : Processes). number_in_a s.records c.args.p.0) there.is

@@ -12,7 +12,7 @@ use Rattle.proc_rules.specs.CallResult.{CallResult}
 use Rattle.proc_rules.specs.Processes.{Processes, no_own}
 use Rattle.proc_rules.specs.declared.proc_call.ProcCall.{ProcCall}
 use Rattle.file_rules.specs.Memory.{LacksEntry, LacksMemory}
-use Rattle.path_dispatch.specs.Attempts.{MayAttempt}
+use Rattle.call_dispatch.specs.Attempts.{MayAttempt}
 use Rattle.file_rules.specs.Attempts.{FileAttempts, asker_of, io_effect}
 use Rattle.io_model.specs.Path.{ArePaths}
 use Rattle.io_rules.specs.Io.{Io}
@@ -53,8 +53,8 @@ use Rattle.os9_kernel.proofs.Serving.{path-served}
 use Rattle.os9_kernel.proofs.Waiting.{code-held, records-kept, rests-so, waits-so}
 use Rattle.os9_kernel.proofs.kernel.Kernel.path_call.Goals as goal
 
-pub time_for-time-requires : goal.time_for-time-requires
-time_for-time-requires g c =
+pub time_for-requires : goal.time_for-requires
+time_for-requires g c =
     let (s, tied) = c.requires.stands in
     is-clock c.args.self.now _ s tied
 
@@ -64,7 +64,7 @@ attempt-end-requires-clause-may g c =
     let terms = c.args.devices.now.terms in
     let before = outside (λ box. (g.dyn-1.0.entry box.vtable).1) (λ box. (g.dyn-2.0.entry box.vtable).1) c.args.devices.now in
     let long : length before.terms ≡ vec_len terms = simp length-map (sym terms.ok.0) in
-    subst (λ (n : ℕ). MayAttempt c.args.call c.args.self.now.processes c.args.self.now.files c.args.p.0 n) long
+    subst (λ (n : ℕ). MayAttempt c.args.call c.args.self.now.machine.processes c.args.self.now.machine.files c.args.p.0 n) long
     (may-attempt-here c.args.self.now c.args.p c.args.code c.requires.next before s tied c.args.call (path-served c.args.code c.args.call c.requires.serves).1)
 
 pub attempt-end-requires-clause-sound : goal.attempt-end-requires-clause-sound
@@ -74,13 +74,13 @@ attempt-end-requires-clause-sound g c =
 
 pub tell_end-requires-clause-lives : goal.tell_end-requires-clause-lives
 tell_end-requires-clause-lives g c =
-    lives-on c.attempt-end.result c.attempt-end.new.s.table c.args.p.0 c.attempt-end.ensures.lives
+    lives-on c.attempt-end.result c.attempt-end.new.machine.processes.table c.args.p.0 c.attempt-end.ensures.kept.lives
 
 pub returns-clause-event : goal.returns-clause-event
 returns-clause-event g c =
     let old = c.args.self.now in
     let new = c.tell_end.new.self in
-    let made = c.time_for-time.result in
+    let made = c.time_for.result in
     let p = c.args.p in
     let act = Attempt c.args.code in
     let next = c.requires.next in
@@ -88,25 +88,25 @@ returns-clause-event g c =
     let before : Outside = outside (λ box. (g.dyn-1.0.entry box.vtable).1) (λ box. (g.dyn-2.0.entry box.vtable).1) c.args.devices.now in
     let after : Outside = outside (λ box. (g.dyn-1.0.entry box.vtable).1) (λ box. (g.dyn-2.0.entry box.vtable).1) c.attempt-end.new.devices in
     let other : c.event_end.result ≢ EventEnd.NoMemory → c.attempt-end.result ≢ NoMemory = (λ other out. other (c.event_end.ensures ∙ ap event_end_of out)) in
-    let settled_is : new.files ≡ settled p.0 c.attempt-end.result c.attempt-end.new.files =
-    c.tell_end.ensures.files ∙ ap (λ (records : Records). let files : FileState = record c.attempt-end.new.files { records = records } in files) c.forget_request.ensures in
+    let settled_is : new.machine.files ≡ settled p.0 c.attempt-end.result c.attempt-end.new.machine.files =
+    c.tell_end.ensures.files ∙ ap (λ (records : Records). let files : FileState = record c.attempt-end.new.machine.files { records = records } in files) c.forget_request.ensures in
     let (s0, tied0) = c.requires.stands in
     let (time, is_time) = time-shown old before s0 tied0 in
-    let fits = time-for old.clock old.processes.tick c.args.call made time c.time_for-time.ensures is_time in record {
+    let fits = time-for old.clock old.machine.processes.tick c.args.call made time c.time_for.ensures is_time in record {
       step = λ ran s tied.
           let it = ((c.attempt-end.ensures.call time fits s.processes s.files tied.processes tied.files tied.run.locked.state.running.kinds).attempted (other ran)).attempts in
           let (there, same) = c.tell_end.ensures.told s.processes it.result it.comes in
           let attempt : FileAttempts c.args.call s.processes s.files time p.0 it.result it.left s.terms after.terms =
           subst (λ (terms : List TerminalState). FileAttempts c.args.call s.processes s.files time p.0 it.result
           it.left terms after.terms) (sym (terms-are old p act next before s tied)) it.attempt in
-          let stands : StandsFor new.files after.drives it.left = subst (λ (files : FileState). StandsFor files after.drives it.left) (sym settled_is) it.stands in
+          let stands : StandsFor new.machine.files after.drives it.left = subst (λ (files : FileState). StandsFor files after.drives it.left) (sym settled_is) it.stands in
           let rest : Rest = record { files = it.left; clock = s.clock; terms = after.terms } in
           let t : State = record s { processes = after_attempt s.processes p.0 it.result; files = it.left; terms = after.terms } in
           let ticks_kept = sym (ap (λ (m : Processes). m.tick) there.is)
           ∙ attempt-tick c.args.call s.processes s.files time p.0 it.result it.left s.terms after.terms attempt
           ∙ ap (λ (m : Processes). m.tick) tied.processes.is in
           let lives : IsLiving t.processes.records p.0 = subst (λ (m : Processes). IsLiving m.records p.0) (sym there.is)
-          (path-lives c.attempt-end.result c.args.call s.processes s.files time p.0 it.result it.left s.terms after.terms attempt same new.processes.table c.tell_end.ensures.lives) in
+          (path-lives c.attempt-end.result c.args.call s.processes s.files time p.0 it.result it.left s.terms after.terms attempt same new.machine.processes.table c.tell_end.ensures.lives) in
           let marked : (q : ℕ) (cause : Cause) → Concerns c.marks_with-self.result q cause → Concerns new.known.marks q cause =
           (λ q cause. subst (λ (known : Known). Concerns known.marks q cause) (sym c.tell_end.ensures.known)) in
           let known-then : Event s c.event_end.result t → IsKnown new = (λ event.
@@ -153,40 +153,40 @@ returns-clause-event g c =
                         done = entry.done;
                         lacks = subst (λ (terms : List TerminalState). LacksEntry c.args.call s.processes s.files time p.0
                             entry.done terms after.terms) (sym (terms-are old p act next before s tied)) entry.lacks;
-                        drives = holds-mounted (record s { files = entry.done }) after.drives entry.drives c.attempt-end.new.files.disks entry.mounted;
+                        drives = holds-mounted (record s { files = entry.done }) after.drives entry.drives c.attempt-end.new.machine.files.disks entry.mounted;
                       })
                 ];
           };
       waits = λ is.
           let waiting = waits-so c.attempt-end.result (sym c.event_end.ensures ∙ is) in
-          let now = c.attempt-end.new.s in
+          let now = c.attempt-end.new.machine.processes in
           let it = ((c.attempt-end.ensures.call time fits s0.processes s0.files tied0.processes tied0.files
           tied0.run.locked.state.running.kinds).attempted (λ out. let no : Wait ≡ NoMemory = sym waiting ∙ out in cc)).attempts in
           let effect = io_effect it.attempt.effect in
           let came : Comes s0.processes p.0 (result_of s0.processes p.0 effect) Wait now = subst
           (λ (result : CallResult). Comes s0.processes p.0 result Wait now) it.attempt.result_is
           (subst (λ (end : CallEnd). Comes s0.processes p.0 it.result end now) waiting it.comes) in
-          let same : old.processes.table ≡ now.table = sym (records-kept s0.processes p.0 effect now came ∙ ap (λ (m : Processes). m.records) tied0.processes.is) in record {
+          let same : old.machine.processes.table ≡ now.table = sym (records-kept s0.processes p.0 effect now came ∙ ap (λ (m : Processes). m.records) tied0.processes.is) in record {
             p = p;
             chosen = next.chosen;
             code = c.args.code;
-            call = code-held (slice_index_or old.processes.own.items p.0 no_own).call
-                (is_waiting (record_at old.processes.table p.0).life) (record_at old.processes.table p.0).signal
+            call = code-held (slice_index_or old.machine.processes.own.items p.0 no_own).call
+                (is_waiting (record_at old.machine.processes.table p.0).life) (record_at old.machine.processes.table p.0).signal
                 c.args.code next.next;
             first = λ fresh.
-                subst (λ (call : Option ProcCall). IfSome (wait_by call (slice_index_or new.processes.own.items p.0
-                no_own) (call_wait new.files.io new.files.records.locks p.0))
-                (λ wait. wait_at (member_of new.processes.sched.members p.0) ≡ Some wait)) (sym coded.0)
-                (subst (λ (files : FileState). IfSome (wait_by None (slice_index_or new.processes.own.items p.0
+                subst (λ (call : Option ProcCall). IfSome (wait_by call (slice_index_or new.machine.processes.own.items p.0
+                no_own) (call_wait new.machine.files.io new.machine.files.records.locks p.0))
+                (λ wait. wait_at (member_of new.machine.processes.sched.members p.0) ≡ Some wait)) (sym coded.0)
+                (subst (λ (files : FileState). IfSome (wait_by None (slice_index_or new.machine.processes.own.items p.0
                 no_own) (call_wait files.io files.records.locks p.0))
-                (λ wait. wait_at (member_of new.processes.sched.members p.0) ≡ Some wait))
+                (λ wait. wait_at (member_of new.machine.processes.sched.members p.0) ≡ Some wait))
                 (sym c.tell_end.ensures.files)
-                (rests-so (call_wait c.attempt-end.new.files.io c.forget_request.new.records.locks p.0) now
-                new.processes p.0 c.attempt-end.ensures.lives
+                (rests-so (call_wait c.attempt-end.new.machine.files.io c.forget_request.new.records.locks p.0) now
+                new.machine.processes p.0 c.attempt-end.ensures.kept.lives
                 (subst (λ (records : List (Option Record)). is_waiting (record_at records p.0).life ≡ false) same
                 fresh) (c.tell_end.ensures.waits waiting)));
           };
-      going = λ ran. (p, c.tell_end.ensures.chosen ∙ next.chosen, lives-so c.attempt-end.result new.processes.table p.0 (sym c.event_end.ensures ∙ ran) c.tell_end.ensures.lives);
+      going = λ ran. (p, c.tell_end.ensures.chosen ∙ next.chosen, lives-so c.attempt-end.result new.machine.processes.table p.0 (sym c.event_end.ensures ∙ ran) c.tell_end.ensures.lives);
       count = λ ran.
           let it = ((c.attempt-end.ensures.call time fits s0.processes s0.files tied0.processes tied0.files tied0.run.locked.state.running.kinds).attempted (other ran)).attempts in
           let (there, same) = c.tell_end.ensures.told s0.processes it.result it.comes in
@@ -232,19 +232,19 @@ returns-clause-progress g c ran =
     let p = c.args.p in
     let (s, tied) = c.requires.stands in
     let (time, is_time) = time-shown old _ s tied in
-    let fits = time-for old.clock old.processes.tick c.args.call c.time_for-time.result time c.time_for-time.ensures is_time in
+    let fits = time-for old.clock old.machine.processes.tick c.args.call c.time_for.result time c.time_for.ensures is_time in
     let other : c.attempt-end.result ≢ NoMemory = (λ out. let no : EventEnd.Ran ≡ EventEnd.NoMemory = sym ran ∙ c.event_end.ensures ∙ ap event_end_of out in cc) in
     let it = ((c.attempt-end.ensures.call time fits s.processes s.files tied.processes tied.files tied.run.locked.state.running.kinds).attempted other).attempts in
     let (there, same) = c.tell_end.ensures.told s.processes it.result it.comes in
     let (t, regs, is) = goes-on it.result (sym (c.event_end.ensures ∙ ap event_end_of same) ∙ ran) s.processes p.0 in
-    let none = no-call new.processes t p.0 regs c.requires.next.process.1 (subst (λ (m : Processes). RepresentsProcesses new.processes m) is there) in
+    let none = no-call new.machine.processes t p.0 regs c.requires.next.process.1 (subst (λ (m : Processes). RepresentsProcesses new.machine.processes m) is there) in
     attempt-lowers old p c.args.code c.requires.next new c.tell_end.ensures.chosen none
 
 pub returns-clause-drives : goal.returns-clause-drives
 returns-clause-drives g c =
     let (s, tied) = c.requires.stands in
     let (time, is_time) = time-shown c.args.self.now _ s tied in
-    let fits = time-for c.args.self.now.clock c.args.self.now.processes.tick c.args.call c.time_for-time.result time c.time_for-time.ensures is_time in
+    let fits = time-for c.args.self.now.clock c.args.self.now.machine.processes.tick c.args.call c.time_for.result time c.time_for.ensures is_time in
     let was = c.args.devices.now.drives in
     let now = c.attempt-end.new.devices.drives in
     let view = boxed_seen (λ box. (g.dyn-1.0.entry box.vtable).1) in

@@ -39,19 +39,19 @@ returns-clause-event c devices =
     let p = c.args.p in
     let act = Attempt c.args.code in
     let next = c.requires.next in
-    let ticks_kept = tick-kept old.processes c.attempt-end.new.s (λ (m : Processes). after_attempt m p.0 (attempted c.args.call m p.0))
+    let ticks_kept = tick-kept old.machine.processes c.attempt-end.new.s (λ (m : Processes). after_attempt m p.0 (attempted c.args.call m p.0))
     (λ m there. (c.attempt-end.ensures.call m there).0) (λ m. attempt-tick m p.0 c.args.call) in
     let known_then : (s : State) → Represents old devices s → IsKnown new =
-    (λ s tied. c.follow.ensures.known (known-still old (record old { processes = c.attempt-end.new.s }) refl refl refl ticks_kept tied.known)) in record {
+    (λ s tied. c.follow.ensures.known (known-still old (record old { machine = record old.machine { processes = c.attempt-end.new.s } }) refl refl refl ticks_kept tied.known)) in record {
       step = λ _ s tied.
           let (there, ends) = c.attempt-end.ensures.call s.processes tied.processes in
           let (time, is_time) = some-time old devices s tied in
           let result = attempted c.args.call s.processes p.0 in
           let left = files_after_call s.files p.0 result in
-          let now : RepresentsProcesses new.processes (after_attempt s.processes p.0 result) = subst
+          let now : RepresentsProcesses new.machine.processes (after_attempt s.processes p.0 result) = subst
           (λ (processes : ProcState). RepresentsProcesses processes (after_attempt s.processes p.0 result))
           (sym c.follow.ensures.processes) there in
-          let stands : StandsFor new.files devices.drives left = subst (λ (files : Files). StandsFor new.files
+          let stands : StandsFor new.machine.files devices.drives left = subst (λ (files : Files). StandsFor new.machine.files
           devices.drives files) (ap (λ (end : CallEnd). files_then end s.files p.0) ends ∙ files-tied s.files p.0
           result) (c.follow.ensures.files devices.drives s.files tied.files) in
           event-here old p act next devices s tied new _ (after_attempt s.processes p.0 result) left c.follow.ensures.chosen c.follow.ensures.clock now stands (known_then s tied) (
@@ -68,7 +68,7 @@ returns-clause-event c devices =
             refl,
           );
       memory = λ out.
-          let (m, there) = some-machine old.processes in
+          let (m, there) = some-machine old.machine.processes in
           let ends = (c.attempt-end.ensures.call m there).1 in
           absurd (never-wants (attempted c.args.call m p.0) (sym (c.event_end.ensures ∙ ap event_end_of ends) ∙ out));
       going = λ ran. (
@@ -83,19 +83,19 @@ returns-clause-event c devices =
             p = p;
             chosen = next.chosen;
             code = c.args.code;
-            call = code-held (slice_index_or old.processes.own.items p.0 no_own).call
-                (is_waiting (record_at old.processes.table p.0).life) (record_at old.processes.table p.0).signal
+            call = code-held (slice_index_or old.machine.processes.own.items p.0 no_own).call
+                (is_waiting (record_at old.machine.processes.table p.0).life) (record_at old.machine.processes.table p.0).signal
                 c.args.code next.next;
             first = λ fresh.
-                subst (λ (call : Option ProcCall). IfSome (wait_by call (slice_index_or new.processes.own.items p.0
-                no_own) (call_wait new.files.io new.files.records.locks p.0))
-                (λ wait. wait_at (member_of new.processes.sched.members p.0) ≡ Some wait))
+                subst (λ (call : Option ProcCall). IfSome (wait_by call (slice_index_or new.machine.processes.own.items p.0
+                no_own) (call_wait new.machine.files.io new.machine.files.records.locks p.0))
+                (λ wait. wait_at (member_of new.machine.processes.sched.members p.0) ≡ Some wait))
                 (sym (process-served c.args.code c.args.call c.requires.serves))
                 (subst (λ (processes : ProcState). IfSome (waits_for c.args.call (slice_index_or processes.own.items
                 p.0 no_own)) (λ wait. wait_at (member_of processes.sched.members p.0) ≡ Some wait))
                 (sym c.follow.ensures.processes)
                 (rests-so (waits_for c.args.call (slice_index_or c.attempt-end.new.s.own.items p.0 no_own))
-                old.processes c.attempt-end.new.s p.0 next.lives fresh (c.attempt-end.ensures.waits waiting)));
+                old.machine.processes c.attempt-end.new.s p.0 next.lives fresh (c.attempt-end.ensures.waits waiting)));
           };
       count = λ _. ap (λ (processes : ProcState). processes.tick) c.follow.ensures.processes ∙ ticks_kept;
       calls = leaves-drives old devices devices refl;
@@ -106,7 +106,7 @@ pub returns-clause-progress : goal.returns-clause-progress
 returns-clause-progress c ran =
     let old = c.args.self.now in
     let p = c.args.p in
-    let (m, there) = some-machine old.processes in
+    let (m, there) = some-machine old.machine.processes in
     let (now, ends) = c.attempt-end.ensures.call m there in
     let (t, regs, is) = goes-on (attempted c.args.call m p.0) (sym (c.event_end.ensures ∙ ap event_end_of ends) ∙ ran) m p.0 in
     let none = no-call c.attempt-end.new.s t p.0 regs c.requires.next.process.1 (subst (λ (x : Processes). RepresentsProcesses c.attempt-end.new.s x) is now) in

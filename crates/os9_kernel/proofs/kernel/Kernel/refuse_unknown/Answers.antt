@@ -18,11 +18,11 @@ use Rattle.os9_kernel.proofs.kernel.Kernel.refuse_unknown.Goals as goal
 pub returns-clause-event : goal.returns-clause-event
 returns-clause-event c devices =
     let old = c.args.self.now in
-    let new = record old { processes = c.refuse.new.self } in
+    let new = record old { machine = record old.machine { processes = c.refuse.new.self } } in
     let p = c.args.p in
     let act = Attempt c.args.code in
     let next = c.requires.next in
-    let ticks_kept = tick-kept old.processes c.refuse.new.self (λ (m : Processes). goes_on m p.0 (refused_regs (regs_at m p.0) E_UNKSVC)) c.refuse.ensures.tied (λ m. refl) in record {
+    let ticks_kept = tick-kept old.machine.processes c.refuse.new.self (λ (m : Processes). goes_on m p.0 (refused_regs (regs_at m p.0) E_UNKSVC)) c.refuse.ensures.tied (λ m. refl) in record {
       step = λ _ s tied.
           let (now, is_now) = some-time old devices s tied in
           event-here old p act next devices s tied new _ (after_attempt s.processes p.0 (refused E_UNKSVC)) s.files refl refl (c.refuse.ensures.tied s.processes tied.processes) tied.files
@@ -39,6 +39,6 @@ returns-clause-event c devices =
 pub returns-clause-progress : goal.returns-clause-progress
 returns-clause-progress c =
     let old = c.args.self.now in
-    let (m, tied) = some-machine old.processes in
+    let (m, tied) = some-machine old.machine.processes in
     let none = no-call c.refuse.new.self m c.args.p.0 (refused_regs (regs_at m c.args.p.0) E_UNKSVC) c.requires.next.process.1 (c.refuse.ensures.tied m tied) in
-    attempt-lowers old c.args.p c.args.code c.requires.next (record old { processes = c.refuse.new.self }) refl none
+    attempt-lowers old c.args.p c.args.code c.requires.next (record old { machine = record old.machine { processes = c.refuse.new.self } }) refl none

@@ -10,5 +10,5 @@ returns-clause-told c m call comes = (c.tell.ensures.told m call comes, c.tell.e
 pub returns-clause-waits : goal.returns-clause-waits
 returns-clause-waits c waits =
     let old = c.args.self.now in
-    told-so (awaited old.files c.args.p.0) c.wait_at-wait.result (c.wait_at-wait.ensures waits)
-    (λ (wait : Waiting). WaitsFor old.processes c.tell.new.s c.args.p.0 wait) (c.tell.ensures.waits waits)
+    told-so (awaited old.machine.files c.args.p.0) c.wait_at-wait.result (c.wait_at-wait.ensures waits)
+    (λ (wait : Waiting). WaitsFor old.machine.processes c.tell.new.s c.args.p.0 wait) (c.tell.ensures.waits waits)

@@ -50,7 +50,7 @@ returns-clause-event c devices =
           let result = it.attempts.result in
           let (there, same) = c.tell_end.ensures.told s.processes result it.attempts.comes in
           let clock_here = sym (clock-is old p act next devices s tied) in
-          let stands : StandsFor new.files devices.drives s.files = subst (λ (files : FileState). StandsFor files devices.drives s.files) (sym c.tell_end.ensures.files) tied.files in
+          let stands : StandsFor new.machine.files devices.drives s.files = subst (λ (files : FileState). StandsFor files devices.drives s.files) (sym c.tell_end.ensures.files) tied.files in
           let is_now : IsNow s.clock s.processes.tick it.now = subst (λ (k : Clock). IsNow k s.processes.tick it.now) clock_here it.is in
           let attempt : TimeAttempts c.args.call s.processes s.clock it.now p.0 result clock = subst
           (λ (k : Clock). TimeAttempts c.args.call s.processes k it.now p.0 result clock) clock_here
@@ -76,7 +76,7 @@ returns-clause-event c devices =
           );
       memory = λ out. absurd (never-wants first.attempts.result (ended ∙ out));
       waits = λ is. absurd (time-answers s0.processes p.0 c.args.call old.clock first.now first.attempts.result clock first.attempts.attempt (ended ∙ is));
-      going = λ ran. (p, c.tell_end.ensures.chosen ∙ next.chosen, lives-so c.attempt-end.result new.processes.table p.0 (sym c.event_end.ensures ∙ ran) c.tell_end.ensures.lives);
+      going = λ ran. (p, c.tell_end.ensures.chosen ∙ next.chosen, lives-so c.attempt-end.result new.machine.processes.table p.0 (sym c.event_end.ensures ∙ ran) c.tell_end.ensures.lives);
       count = λ _. ticks_kept;
       calls = leaves-drives old devices devices refl;
       images = keeps-drives old devices devices refl;
@@ -91,5 +91,5 @@ returns-clause-progress c ran =
     let it = c.attempt-end.ensures.call s.processes tied.processes in
     let (there, same) = c.tell_end.ensures.told s.processes it.attempts.result it.attempts.comes in
     let (t, regs, is) = goes-on it.attempts.result (sym (c.event_end.ensures ∙ ap event_end_of same) ∙ ran) s.processes p.0 in
-    let none = no-call new.processes t p.0 regs c.requires.next.process.1 (subst (λ (m : Processes). RepresentsProcesses new.processes m) is there) in
+    let none = no-call new.machine.processes t p.0 regs c.requires.next.process.1 (subst (λ (m : Processes). RepresentsProcesses new.machine.processes m) is there) in
     attempt-lowers old p c.args.code c.requires.next new c.tell_end.ensures.chosen none
