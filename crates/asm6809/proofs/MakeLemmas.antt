@@ -7,7 +7,7 @@ use Rattle.module_format.specs.declared.maker.Header.{Header}
 use Rattle.module_format.specs.GuestModule.{made_module, code_offset, guest_size, is_program_kind}
 use Rattle.asm_model.specs.Statements.{ModuleFields, is_module_name}
 use Rattle.asm_model.specs.Placement.{Reached}
-use Rattle.asm6809.specs.Assembled.{kind_of, header_with, entry_at, module_with}
+use Rattle.asm6809.specs.Assembled.{kind_of, header_with, entry_below, module_with}
 
 -- a module begins before its end
 pub begins-within : (name : List ℕ) (kind : ℕ) (code : List ℕ) (end entry : ℕ) →
@@ -33,7 +33,7 @@ module _ (all : Reached) (m : ModuleFields) (code : List ℕ) where
   made b entry = if b then option_map (λ entry. made_module m.name (header_with all m entry) code) entry else None
 
   abbrev entry_there : Option ℕ
-  entry_there = entry_at all (kind_of m) (code_offset m.name (kind_of m) + length code)
+  entry_there = entry_below all (kind_of m) (code_offset m.name (kind_of m) + length code)
 
   unmade : tests ≡ false → None ≡ module_with all m code
   unmade is = sym (ap (λ b. made b entry_there) is)
@@ -58,23 +58,23 @@ module _ (all : Reached) (m : ModuleFields) (code : List ℕ) where
       room_parts : (nat_le (guest_size name kind code) MOST_GROUP_BYTES ≡ true) × (code_offset name kind + length code ≡ end)
       room_parts = cond_some (nat_le (guest_size name kind code) MOST_GROUP_BYTES) (code_offset name kind + length code) end (sym room)
 
-      entry_is : entry_at all kind end ≡ entry_there
+      entry_is : entry_below all kind end ≡ entry_there
       entry_is =
-          ap (entry_at all kind) (sym room_parts.1) ∙ ap (λ n. entry_at all kind (code_offset n kind + length code)) (sym named_parts.1)
-          ∙ ap (λ k. entry_at all k (code_offset m.name k + length code)) kind_is
+          ap (entry_below all kind) (sym room_parts.1) ∙ ap (λ n. entry_below all kind (code_offset n kind + length code)) (sym named_parts.1)
+          ∙ ap (λ k. entry_below all k (code_offset m.name k + length code)) kind_is
 
       tested : tests ≡ true
       tested =
           ap (λ b. b && nat_le (guest_size m.name (kind_of m) code) MOST_GROUP_BYTES) named_parts.0
           ∙ ap (λ n. nat_le n MOST_GROUP_BYTES) (sym size_is) ∙ room_parts.0
 
-      module_is : (found : Option ℕ) → found ≡ entry_at all kind end → made true found ≡ module_with all m code
+      module_is : (found : Option ℕ) → found ≡ entry_below all kind end → made true found ≡ module_with all m code
       module_is found is = ap (made true) (is ∙ entry_is) ∙ sym (ap (λ b. made b entry_there) tested)
 
-      pub no-entry : None ≡ entry_at all kind end → None ≡ module_with all m code
+      pub no-entry : None ≡ entry_below all kind end → None ≡ module_with all m code
       no-entry is = module_is None is
 
-      module _ (entry : ℕ) (enters : Some entry ≡ entry_at all kind end) where
+      module _ (entry : ℕ) (enters : Some entry ≡ entry_below all kind end) where
         pub is-made : (bytes : List ℕ) (head : Header) → bytes ≡ made_module name head code → head ≡ header_with all m entry → Some bytes ≡ module_with all m code
         is-made bytes head is head_is =
             ap Some (is ∙ ap (λ n. made_module n head code) (sym named_parts.1) ∙ ap (λ h. made_module m.name h code) head_is)

@@ -142,11 +142,11 @@ offset_below end _ = None
 
 -- the entry of a module of this type that ends there: for a program the label `start`, if it is before the CRC; for
 -- another module 0
-abbrev pub entry_at : Reached → ℕ → ℕ → Option ℕ
-entry_at all kind end = if is_program_kind kind then offset_below end (start_value all) else Some 0
+abbrev pub entry_below : Reached → ℕ → ℕ → Option ℕ
+entry_below all kind end = if is_program_kind kind then offset_below end (start_value all) else Some 0
 
 abbrev pub entry_of : Reached → ModuleFields → List ℕ → Option ℕ
-entry_of all m code = entry_at all (kind_of m) (code_offset m.name (kind_of m) + length code)
+entry_of all m code = entry_below all (kind_of m) (code_offset m.name (kind_of m) + length code)
 
 -- the module of this code, if it has a valid name, is not too long and has an entry
 abbrev pub module_with : Reached → ModuleFields → List ℕ → Option (List ℕ)

@@ -6,7 +6,7 @@ ghost use Rattle.asm_model.specs.Statements.{is_module_name as is_module_name_mo
 ghost use Rattle.asm_lines.specs.Labels.{IsReached};
 ghost use Rattle.asm_lines.specs.Lines.{action_said, fields_said, line_said};
 ghost use Rattle.asm6809.specs.Stages.{stage_after as stage_after_model, stage_behind as stage_behind_model};
-ghost use Rattle.asm6809.specs.Assembled.{actions_of, entry_at, first_start as first_start_model, is_framed as is_framed_model, kind_of as kind_of_model, module_of as module_of_model, module_with as module_with_model, start_of as start_of_model};
+ghost use Rattle.asm6809.specs.Assembled.{actions_of, entry_below, first_start as first_start_model, is_framed as is_framed_model, kind_of as kind_of_model, module_of as module_of_model, module_with as module_with_model, start_of as start_of_model};
 
 use crate::emit::{byte_at, code_of, word_at};
 use asm_lines::{
@@ -115,7 +115,7 @@ fn kind_of(fields: ModuleFields) -> u8
 // The entry of a module that ends at this offset: for a program the label `start`, otherwise 0.
 fn entry_of(all: &Reached, kind: u8, end: u16) -> Option<u16>
     requires { 0 < end }
-    ensures entry { (m : ReachedOf) → IsReached all.now m → result ≡ entry_at m kind end }
+    ensures entry { (m : ReachedOf) → IsReached all.now m → result ≡ entry_below m kind end }
     ensures within { IfSome result (λ entry.
         (if is_program_kind kind then entry else 0) < end) }
 {

@@ -21,7 +21,7 @@ use Rattle.time_rules.specs.Step.{TimeStep, refused, tells, sets, needs, refuses
 use Rattle.time_rules.specs.declared.clock.Clock.{Clock}
 use Rattle.time_rules.specs.declared.time_call.TimeCall.{TimeCall}
 use Rattle.time_rules.specs.declared.time_call.TimeCall.TheVariants as Call
-use Rattle.call_dispatch.specs.CallAttempt.{Attempts, AttemptsNow, step_end}
+use Rattle.call_dispatch.specs.TimeAttempt.{Attempts, AttemptsNow, step_end}
 
 -- an attempt whose step is known
 attempt-of : (call : TimeCall) (m : Processes) (clock new : Clock) (now : TimePacket) (p : ℕ) (step : TimeStep) (end : CallEnd)

@@ -1,10 +1,9 @@
-pub mod CallAttempt
+pub mod TimeAttempt
 pub mod Waits
 pub mod Staying
 pub mod Attempts
 pub mod Bounds
 pub mod Calls
 pub mod Dates
-pub mod Keeping
 pub mod Numbers
 pub mod Uses

@@ -29,7 +29,7 @@ use proc_state::state::ProcState;
 /// An attempt of a call by a living process (System Programmer's Manual, "User mode service
 /// requests"). A completed call clears carry. A refused one sets carry and returns its number in B.
 /// The scheduler knows what a call waits for.
-pub fn attempt(s: &mut ProcState, p: Pid, call: ProcCall) -> CallEnd
+pub fn attempt_on_process(s: &mut ProcState, p: Pid, call: ProcCall) -> CallEnd
     requires lives { IsLiving s.old.table p.0 }
     ensures call { (m : Processes) → Represents s.old m
         → Represents s.new (after_attempt m p.0 (attempted call m p.0))

@@ -13,8 +13,8 @@ ghost use Rattle.proc_state.specs.Tie.{Represents};
 ghost use Rattle.proc_state.specs.declared.state.ProcState.{ProcState};
 
 /// If a call on paths is the next event of a process, among processes that these represent, the
-/// requirements of [`attempt`](crate::device_calls::attempt) hold: what is kept of pending calls belongs to them,
-/// and the terminal of each open path exists.
+/// requirements of [`attempt_on_stream`](crate::device_calls::attempt_on_stream) hold: what is kept
+/// of pending calls belongs to them, and the terminal of each open path exists.
 pub fn a_process_may_attempt_its_call()
     ensures { (processes : ProcState) (m : Processes) (io : Io) (terms p code : ℕ) (call : IoCall)
         → p < 33 → Represents processes m → ArePending m io → AreOnTerminals terms io.paths

@@ -1,14 +1,14 @@
 //! Calls on terminals and pipes, as calls on paths, files and directories.
 
 ghost use Rattle.std.specs.Prelude.{◌≡◌, None, vec_len};
-ghost use Rattle.io_state.specs.Context.{InCall, KeepsDrives};
-ghost use Rattle.file_state.specs.Context.{seen};
+ghost use Rattle.io_state.specs.Context.{InCall, SameDrives};
+ghost use Rattle.file_state.specs.Context.{machine_seen};
 ghost use Rattle.device_table.specs.Seen.{terminals_seen};
 ghost use Rattle.call_dispatch.specs.Attempts.{TriesOnDevice};
 ghost use Rattle.call_dispatch.specs.Staying.{MayAttempt};
 ghost use Rattle.io_rules.specs.Io.{pending_at};
 
-use crate::device_calls::attempt;
+use crate::device_calls::attempt_on_stream;
 use device_table::devices::Devices;
 use file_state::machine::Machine;
 use io_rules::io_call::IoCall;
@@ -38,12 +38,12 @@ pub fn attempt_on_device(
     requires status { call ≡ IoCall.SetStt → pending_at machine.old.files.io by.p.0 ≡ None }
     ensures call { TriesOnDevice call by.p.0 (vec_len devices.old.drives) result
         (terminals_seen CharDriver-box devices.old) (terminals_seen CharDriver-box devices.new)
-        (seen BlockDriver-box machine.old devices.old)
-        (seen BlockDriver-box machine.new devices.new) }
-    ensures kept { KeepsDrives by machine.new.processes devices.old devices.new }
+        (machine_seen BlockDriver-box machine.old devices.old)
+        (machine_seen BlockDriver-box machine.new devices.new) }
+    ensures kept { SameDrives by machine.new.processes devices.old devices.new }
 {
     machine.files.records.cancel(by.p);
-    attempt(
+    attempt_on_stream(
         &mut machine.processes,
         &mut machine.files.io,
         devices,

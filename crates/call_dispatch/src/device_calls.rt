@@ -1,7 +1,7 @@
 //! The calls on paths by their names.
 
 ghost use Rattle.std.specs.Prelude.{◌≡◌, None, vec_len};
-ghost use Rattle.io_state.specs.Context.{InCall, KeepsDrives};
+ghost use Rattle.io_state.specs.Context.{InCall, SameDrives};
 ghost use Rattle.call_dispatch.specs.Staying.{MayAttempt};
 ghost use Rattle.io_rules.specs.Io.{pending_at};
 ghost use Rattle.device_io.specs.Streams.{streams};
@@ -29,7 +29,7 @@ use proc_state::state::ProcState;
 ///
 /// Those of the calls, in the order of their definitions.
 #[tactic(auto, using(crate::proofs::Quiet::is_first_if))]
-pub fn attempt(
+pub fn attempt_on_stream(
     s: &mut ProcState,
     io: &mut IoState,
     devices: &mut Devices,
@@ -43,7 +43,7 @@ pub fn attempt(
         (streams CharDriver-box io.old devices.old) (streams CharDriver-box io.new devices.new) }
     ensures memory { WantsMemoryFrom call (vec_len devices.old.drives) by.p.0 result s.old
         (streams CharDriver-box io.old devices.old) (streams CharDriver-box io.new devices.new) }
-    ensures kept { KeepsDrives by s.new devices.old devices.new }
+    ensures kept { SameDrives by s.new devices.old devices.new }
 {
     // A call that moves no byte is at its first attempt; SS.Size and SS.Lock wait on files alone.
     prove!(io.pending(by.p).is_none() || call.direction().is_some());

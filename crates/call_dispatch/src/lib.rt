@@ -1,5 +1,5 @@
-//! Attempts of calls: the function of each call on processes and the clock, and of each call on paths,
-//! files and directories by what its path is on.
+//! Attempts of calls: the function of each call on processes and the clock, and of each call on
+//! paths, files and directories by what its path is on.
 #![tactic(auto)]
 
 mod calls;
@@ -16,4 +16,4 @@ pub mod path_use;
 pub mod time_calls;
 mod waits;
 
-pub use calls::attempt;
+pub use calls::attempt_on_process;

@@ -1,14 +1,13 @@
 //! Calls that take a path list.
 
-ghost use Rattle.std.specs.Prelude.{◌≡◌, None, List, length, vec_len};
-ghost use Rattle.io_state.specs.Context.{InCall, KeepsTerminals};
-ghost use Rattle.file_state.specs.Context.{seen};
+ghost use Rattle.std.specs.Prelude.{◌≡◌, List, length, vec_len};
+ghost use Rattle.io_state.specs.Context.{SameTerminals};
+ghost use Rattle.file_state.specs.Context.{InFirstAttempt, machine_seen};
 ghost use Rattle.call_dispatch.specs.Bounds.{attempt_calls};
 ghost use Rattle.call_dispatch.specs.Calls.{list_call};
 ghost use Rattle.call_dispatch.specs.Dates.{IsTimeFor};
 ghost use Rattle.file_state.specs.Counted.{AttemptsWithin};
 ghost use Rattle.file_state.specs.Tie.{IsSound};
-ghost use Rattle.io_rules.specs.Io.{pending_at};
 ghost use Rattle.os9_base.specs.declared.registers.TimePacket.{TimePacket};
 ghost use Rattle.os9_outer.specs.TerminalState.{TerminalState};
 ghost use Rattle.file_drives.specs.Drives.{drives_seen};
@@ -41,9 +40,9 @@ pub enum ListCall {
     DeletX,
 }
 
-/// An attempt, at a time, of a call that takes a path list, by a living process (System
-/// Programmer's Manual, "I/O service requests"). The result is not yet given to the process. The
-/// call never waits, and puts no byte on a terminal.
+/// An attempt, at the time of the request, of a call that takes a path list, by a living process
+/// (System Programmer's Manual, "I/O service requests"). The result is not yet given to the
+/// process. The call never waits, and puts no byte on a terminal.
 ///
 /// # Errors
 ///
@@ -54,15 +53,14 @@ pub fn attempt_on_list(
     by: Requester,
     call: ListCall,
 ) -> CallEnd
-    requires calls { InCall by machine.old.processes }
-    requires first { pending_at machine.old.files.io by.p.0 ≡ None }
+    requires calls { InFirstAttempt by machine.old }
     requires sound { IsSound machine.old.files (drives_seen BlockDriver-box devices.old) }
     ensures call { (time : TimePacket) (terms : List TerminalState)
-        → IsTimeFor (list_call call) by.now time → length terms ≡ vec_len devices.old.terms
+        → IsTimeFor (list_call call) by.time time → length terms ≡ vec_len devices.old.terms
         → AttemptsWithin (attempt_calls (list_call call)) (list_call call) time by.p.0 result terms
-        terms (seen BlockDriver-box machine.old devices.old)
-        (seen BlockDriver-box machine.new devices.new) }
-    ensures kept { KeepsTerminals by machine.new.processes devices.old devices.new }
+        terms (machine_seen BlockDriver-box machine.old devices.old)
+        (machine_seen BlockDriver-box machine.new devices.new) }
+    ensures kept { SameTerminals by machine.new.processes devices.old devices.new }
 {
     match call {
         ListCall::Create => i_create(machine, devices, by),

@@ -1,12 +1,11 @@
 //! Calls on the number of a path.
 
 ghost use Rattle.std.specs.Prelude.{vec_len};
-ghost use Rattle.io_state.specs.Context.{InCall};
-ghost use Rattle.file_state.specs.Context.{seen};
+ghost use Rattle.io_state.specs.Context.{AsManyTerminals, InCall};
+ghost use Rattle.file_state.specs.Context.{machine_seen};
 ghost use Rattle.device_table.specs.Seen.{terminals_seen};
 ghost use Rattle.call_dispatch.specs.Attempts.{MayAttempt, TriesAt};
 ghost use Rattle.call_dispatch.specs.Numbers.{number_call};
-ghost use Rattle.call_dispatch.specs.Keeping.{KeepsCount};
 ghost use Rattle.file_state.specs.Tie.{IsSound};
 ghost use Rattle.file_drives.specs.Drives.{drives_seen};
 
@@ -35,10 +34,11 @@ pub enum NumberCall {
     Use(PathUse),
 }
 
-/// An attempt, at a time, of a call on the number of a path, by a living process (System
-/// Programmer's Manual, "I/O service requests"). The result is not yet given to the process. If a
-/// call of the process is pending, this is a further attempt of it. `NoMemory` is returned only if
-/// there was no memory for a byte that is put on a terminal, or for an entry of the history.
+/// An attempt, at the time of the request, of a call on the number of a path, by a living process
+/// (System Programmer's Manual, "I/O service requests"). The result is not yet given to the
+/// process. If a call of the process is pending, this is a further attempt of it. `NoMemory` is
+/// returned only if there was no memory for a byte that is put on a terminal, or for an entry of
+/// the history.
 ///
 /// # Errors
 ///
@@ -53,11 +53,11 @@ pub fn attempt_on_number(
     requires may { MayAttempt (number_call call) machine.old.processes machine.old.files by.p.0
         (vec_len devices.old.terms) }
     requires sound { IsSound machine.old.files (drives_seen BlockDriver-box devices.old) }
-    ensures call { TriesAt (number_call call) by.now by.p.0 result
+    ensures call { TriesAt (number_call call) by.time by.p.0 result
         (terminals_seen CharDriver-box devices.old) (terminals_seen CharDriver-box devices.new)
-        (seen BlockDriver-box machine.old devices.old)
-        (seen BlockDriver-box machine.new devices.new) }
-    ensures kept { KeepsCount by machine.new.processes devices.old devices.new }
+        (machine_seen BlockDriver-box machine.old devices.old)
+        (machine_seen BlockDriver-box machine.new devices.new) }
+    ensures kept { AsManyTerminals by machine.new.processes devices.old devices.new }
 {
     match call {
         NumberCall::Dup => attempt_on_device(machine, devices, by, IoCall::Dup),

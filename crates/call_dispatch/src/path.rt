@@ -1,8 +1,8 @@
 //! Calls that use an open path, by what it was opened on.
 
-ghost use Rattle.std.specs.Prelude.{◌≡◌, List, None, vec_len};
-ghost use Rattle.io_state.specs.Context.{InCall, KeepsTerminals};
-ghost use Rattle.file_state.specs.Context.{beside, seen};
+ghost use Rattle.std.specs.Prelude.{List, vec_len};
+ghost use Rattle.io_state.specs.Context.{AsManyTerminals, InCall, SameTerminals};
+ghost use Rattle.file_state.specs.Context.{InFirstAttempt, beside, machine_seen};
 ghost use Rattle.file_io.specs.Opened.{IsOpened};
 ghost use Rattle.call_dispatch.specs.Attempts.{TriesAt, TriesFileAt, TriesFrom};
 ghost use Rattle.call_dispatch.specs.Bounds.{attempt_calls};
@@ -10,12 +10,10 @@ ghost use Rattle.call_dispatch.specs.Uses.{call_of, device_of};
 ghost use Rattle.file_drives.specs.Drives.{DriveView, drives_seen};
 ghost use Rattle.file_rules.specs.declared.path_call.PathCall.TheVariants as Call;
 ghost use Rattle.file_state.specs.Asking.{KeepsRequest, TriesAgain};
-ghost use Rattle.call_dispatch.specs.Keeping.{KeepsCount};
 ghost use Rattle.file_state.specs.Counted.{AttemptsWithin};
 ghost use Rattle.file_state.specs.Tie.{IsSound};
 ghost use Rattle.call_dispatch.specs.Staying.{MayAttempt};
 ghost use Rattle.io_rules.specs.Again.{path_number};
-ghost use Rattle.io_rules.specs.Io.{pending_at};
 ghost use Rattle.os9_base.specs.declared.registers.TimePacket.{TimePacket};
 ghost use Rattle.os9_outer.specs.TerminalState.{TerminalState};
 ghost use Rattle.device_table.specs.Seen.{terminals_seen};
@@ -37,11 +35,11 @@ use os9_base::call::CallEnd;
 use os9_outer::drive::BlockDriver;
 use os9_outer::terminal::CharDriver;
 
-/// An attempt, at a time, of a call that uses an open path, by a living process (System
-/// Programmer's Manual, "I/O service requests"). A path on a file or a directory uses the call of
-/// files, any other the call of terminals and pipes. If a call of the process is pending, this is a
-/// further attempt of it. `NoMemory` is returned only if there was no memory for a byte that is put
-/// on a terminal, or for an entry of the history.
+/// An attempt, at the time of the request, of a call that uses an open path, by a living process
+/// (System Programmer's Manual, "I/O service requests"). A path on a file or a directory uses the
+/// call of files, any other the call of terminals and pipes. If a call of the process is pending,
+/// this is a further attempt of it. `NoMemory` is returned only if there was no memory for a byte
+/// that is put on a terminal, or for an entry of the history.
 ///
 /// # Errors
 ///
@@ -57,11 +55,11 @@ pub fn use_path(
         (vec_len devices.old.terms) }
     requires kept { KeepsRequest machine.old.files.io machine.old.files.records.locks by.p.0 }
     requires sound { IsSound machine.old.files (drives_seen BlockDriver-box devices.old) }
-    ensures call { TriesAt (call_of call) by.now by.p.0 result
+    ensures call { TriesAt (call_of call) by.time by.p.0 result
         (terminals_seen CharDriver-box devices.old) (terminals_seen CharDriver-box devices.new)
-        (seen BlockDriver-box machine.old devices.old)
-        (seen BlockDriver-box machine.new devices.new) }
-    ensures kept { KeepsCount by machine.new.processes devices.old devices.new }
+        (machine_seen BlockDriver-box machine.old devices.old)
+        (machine_seen BlockDriver-box machine.new devices.new) }
+    ensures kept { AsManyTerminals by machine.new.processes devices.old devices.new }
 {
     match machine.files.open_file(by.p, call.path_number(by.regs)) {
         Some(opened) => use_file(machine, devices, by, call, &opened),
@@ -86,10 +84,10 @@ fn use_file(
     requires sound { IsSound machine.old.files (drives_seen BlockDriver-box devices.old) }
     requires opened { IsOpened machine.old.files by.p.0 (path_number (device_of call) by.regs)
         opened.now }
-    ensures call { TriesFileAt (call_of call) by.now by.p.0 result
-        (seen BlockDriver-box machine.old devices.old)
-        (seen BlockDriver-box machine.new devices.new) }
-    ensures kept { KeepsTerminals by machine.new.processes devices.old devices.new }
+    ensures call { TriesFileAt (call_of call) by.time by.p.0 result
+        (machine_seen BlockDriver-box machine.old devices.old)
+        (machine_seen BlockDriver-box machine.new devices.new) }
+    ensures kept { SameTerminals by machine.new.processes devices.old devices.new }
 {
     match call {
         PathUse::Read => read(machine, devices, by, opened),
@@ -114,8 +112,7 @@ fn use_file(
 ///
 /// E$BPNum exactly if A names no path.
 pub fn seek_path(machine: &mut Machine, by: Requester) -> CallEnd
-    requires calls { InCall by machine.old.processes }
-    requires first { pending_at machine.old.files.io by.p.0 ≡ None }
+    requires calls { InFirstAttempt by machine.old }
     ensures call { (now : TimePacket) (views : List DriveView) (terms : List TerminalState)
         → AttemptsWithin (attempt_calls Call.Seek) Call.Seek now by.p.0 result terms terms
         (beside machine.old views) (beside machine.new views) }
@@ -142,9 +139,9 @@ pub fn close_path(machine: &mut Machine, devices: &mut Devices, by: Requester) -
         (vec_len devices.old.terms) }
     ensures call { (now : TimePacket) → TriesFrom Call.Close now by.p.0 result
         (terminals_seen CharDriver-box devices.old) (terminals_seen CharDriver-box devices.new)
-        (seen BlockDriver-box machine.old devices.old)
-        (seen BlockDriver-box machine.new devices.new) }
-    ensures kept { KeepsCount by machine.new.processes devices.old devices.new }
+        (machine_seen BlockDriver-box machine.old devices.old)
+        (machine_seen BlockDriver-box machine.new devices.new) }
+    ensures kept { AsManyTerminals by machine.new.processes devices.old devices.new }
 {
     // A call that closes a path is at its first attempt.
     prove!(machine.files.io.pending(by.p).is_none());

@@ -1,13 +1,12 @@
 //! The calls on paths, files and directories by their names.
 
 ghost use Rattle.std.specs.Prelude.{◌≡◌, vec_len};
-ghost use Rattle.io_state.specs.Context.{InCall};
-ghost use Rattle.file_state.specs.Context.{seen};
+ghost use Rattle.io_state.specs.Context.{AsManyTerminals, InCall};
+ghost use Rattle.file_state.specs.Context.{machine_seen};
 ghost use Rattle.device_table.specs.Seen.{terminals_seen};
 ghost use Rattle.call_dispatch.specs.Attempts.{MayAttempt, TriesAt};
 ghost use Rattle.call_dispatch.specs.Calls.{kind_call};
 ghost use Rattle.call_dispatch.specs.Dates as model;
-ghost use Rattle.call_dispatch.specs.Keeping.{KeepsCount};
 ghost use Rattle.file_state.specs.Tie.{IsSound};
 ghost use Rattle.file_drives.specs.Drives.{drives_seen};
 
@@ -79,16 +78,17 @@ pub fn sets_date(call: PathCall) -> bool
     }
 }
 
-/// An attempt, at a time, of a call on paths, files and directories by a living process (System
-/// Programmer's Manual, "I/O service requests"). A call that sets no date is the same at any time.
-/// The result is not yet given to the process. If a call of the process is pending, this is a
-/// further attempt of it, with the registers that it was made with. `NoMemory` is returned only if
-/// there was no memory for a byte that is put on a terminal, or for an entry of the history.
+/// An attempt, at the time of the request, of a call on paths, files and directories by a living
+/// process (System Programmer's Manual, "I/O service requests"). A call that sets no date is the
+/// same at any time. The result is not yet given to the process. If a call of the process is
+/// pending, this is a further attempt of it, with the registers that it was made with. `NoMemory`
+/// is returned only if there was no memory for a byte that is put on a terminal, or for an entry of
+/// the history.
 ///
 /// # Errors
 ///
 /// Those of the calls, in the order of their definitions.
-pub fn attempt(
+pub fn attempt_on_path(
     machine: &mut Machine,
     devices: &mut Devices,
     by: Requester,
@@ -98,10 +98,11 @@ pub fn attempt(
     requires may { MayAttempt call machine.old.processes machine.old.files by.p.0
         (vec_len devices.old.terms) }
     requires sound { IsSound machine.old.files (drives_seen BlockDriver-box devices.old) }
-    ensures call { TriesAt call by.now by.p.0 result (terminals_seen CharDriver-box devices.old)
-        (terminals_seen CharDriver-box devices.new) (seen BlockDriver-box machine.old devices.old)
-        (seen BlockDriver-box machine.new devices.new) }
-    ensures kept { KeepsCount by machine.new.processes devices.old devices.new }
+    ensures call { TriesAt call by.time by.p.0 result (terminals_seen CharDriver-box devices.old)
+        (terminals_seen CharDriver-box devices.new)
+        (machine_seen BlockDriver-box machine.old devices.old)
+        (machine_seen BlockDriver-box machine.new devices.new) }
+    ensures kept { AsManyTerminals by machine.new.processes devices.old devices.new }
 {
     match kind_of(call) {
         CallKind::Number(number) => attempt_on_number(machine, devices, by, number),

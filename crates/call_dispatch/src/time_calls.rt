@@ -9,7 +9,7 @@ ghost use Rattle.time_rules.specs.Clock.{IsClock};
 ghost use Rattle.time_rules.specs.STime.{sets_clock};
 ghost use Rattle.time_rules.specs.declared.clock.Clock.{Clock};
 ghost use Rattle.time_rules.specs.declared.time_call.TimeCall.TheVariants as Call;
-ghost use Rattle.call_dispatch.specs.CallAttempt.{Attempts, AttemptsNow, step_end};
+ghost use Rattle.call_dispatch.specs.TimeAttempt.{Attempts, AttemptsNow, step_end};
 
 use crate::clock::now;
 use crate::packets::{read_packet, store_packet};
@@ -23,7 +23,7 @@ use time_rules::time_call::TimeCall;
 
 /// An attempt of a call on the time, F$Time or F$STime, as in [`f_time`] and [`f_stime`] (System
 /// Programmer's Manual, "System calls").
-pub fn attempt(s: &mut ProcState, clock: &mut Clock, p: Pid, call: TimeCall) -> CallEnd
+pub fn attempt_on_clock(s: &mut ProcState, clock: &mut Clock, p: Pid, call: TimeCall) -> CallEnd
     requires lives { IsLiving s.old.table p.0 }
     requires clock { IsClock clock.old s.old.tick }
     ensures call { (m : Processes) → Represents s.old m

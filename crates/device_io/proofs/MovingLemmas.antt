@@ -22,13 +22,13 @@ use Rattle.io_rules.specs.declared.io_call.IoCall.{IoCall}
 use Rattle.io_rules.specs.Again.{IsAgain, IsPending, KeepsCount, path_number}
 use Rattle.io_state.proofs.HeldLemmas.{slot-held}
 use Rattle.io_state.proofs.WaitLemmas.{none-some, some-same}
-use Rattle.io_state.specs.Sound.{IsIo, read_kind, read_kind_of, target_at}
+use Rattle.io_state.specs.Sound.{IsIo, MayWait, read_kind, read_kind_of, target_at}
 use Rattle.proc_state.specs.Tie.{Represents}
 use Rattle.proc_state.specs.declared.state.ProcState.{ProcState}
 use Rattle.proc_rules.specs.Records.{record_at}
 use Rattle.io_state.specs.Context.{InCall}
 use Rattle.io_state.specs.declared.requester.Requester.{Requester}
-use Rattle.device_io.specs.Moving.{MayAttempt, MayMove, StaysAllowed, StaysIfPending, read_call, read_code}
+use Rattle.device_io.specs.Moving.{MayAttempt, StaysAllowed, StaysIfPending, read_call, read_code}
 
 -- the registers of the processes are those of the machine
 pub regs-tied : (s : ProcState) (m : Processes) (p : ℕ) → Represents s m → (record_at s.table p).regs ≡ regs_at m p
@@ -101,6 +101,13 @@ code-of WholeLine = refl
 way-of : (kind : ReadKind) → direction_of (read_code kind) ≡ Some Way.Reading
 way-of Bytes = refl
 way-of WholeLine = refl
+
+-- a process may attempt this call, whose path has this target: it may wait in it, and it is the pending call, if there
+-- is one
+pub record MayMove (io : Io) (p : ℕ) (target : Target) (call : PendingCall) : Type 0 where
+  pub may : MayWait io.paths p call
+  pub on : target_at io.paths call.path.0 ≡ Some target
+  pub same : IfSome (pending_at io p) (λ pending. pending ≡ call)
 
 -- what is known of the call of a read
 pub record IsReadCall (kind : ReadKind) (regs : Regs) (io : Io) (p : ℕ) (target : Target) (call : PendingCall) : Type 0 where

@@ -1,13 +1,12 @@
 -- What an attempt of a call on a pipe leaves of the kernel's processes and of its state of input and output.
-use Rattle.std.specs.Prelude.{◌≡◌, ℕ, IfSome}
+use Rattle.std.specs.Prelude.{◌≡◌, ℕ}
 use Rattle.os9_base.specs.declared.call.CallEnd.{CallEnd}
 use Rattle.os9_base.specs.declared.call.CallEnd.TheVariants.{Done, Error, Wait}
 use Rattle.os9_base.specs.declared.registers.Regs.{Regs}
 use Rattle.proc_rules.specs.Processes.{Processes}
 use Rattle.io_rules.specs.Attempts.{io_after, result_of}
-use Rattle.io_rules.specs.Io.{Io, pending_at}
+use Rattle.io_rules.specs.Io.{Io}
 use Rattle.io_rules.specs.Step.{IoEffect, IoEnd, answers, fails, keeps}
-use Rattle.io_state.specs.Sound.{IsNoRead}
 use Rattle.proc_state.specs.Tie.{Comes}
 use Rattle.proc_state.specs.declared.state.ProcState.{ProcState}
 
@@ -25,7 +24,3 @@ IsTold (keeps pending) regs end = end ≡ Wait
 -- if it is done
 abbrev pub Settles : IoEffect → Regs → ℕ → CallEnd → Io → Type 0
 Settles effect regs p end new = IsTold effect.end regs end × (new ≡ io_after p effect)
-
--- no call of a process is pending, or the pending call is not a read of a terminal
-abbrev pub ReadsNoTerminal : Io → ℕ → Type 0
-ReadsNoTerminal io p = IfSome (pending_at io p) (IsNoRead io)

@@ -21,19 +21,12 @@ use Rattle.io_rules.specs.Step.{Caller, IoStep, reads, refuses}
 use Rattle.io_rules.specs.Transfer.{on_path, unless_nothing, call_now}
 use Rattle.io_rules.specs.declared.io_call.IoCall.{IoCall}
 use Rattle.io_rules.specs.declared.io_call.IoCall.TheVariants as Call
-use Rattle.io_state.specs.Sound.{MayWait, target_at}
+use Rattle.io_state.specs.Sound.{target_at}
 use Rattle.proc_state.specs.declared.state.ProcState.{ProcState}
 
 -- each path on a terminal is on one of the first `count` terminals
 abbrev pub AreTerminals : PathTable → ℕ → Type 0
 AreTerminals paths count = (s n : ℕ) → target_at paths s ≡ Some (Term n) → n < count
-
--- a process may attempt this call, whose path has this target: it may wait in it, and it is the pending call, if there
--- is one
-pub record MayMove (io : Io) (p : ℕ) (target : Target) (call : PendingCall) : Type 0 where
-  pub may : MayWait io.paths p call
-  pub on : target_at io.paths call.path.0 ≡ Some target
-  pub same : IfSome (pending_at io p) (λ pending. pending ≡ call)
 
 -- ---- reads
 

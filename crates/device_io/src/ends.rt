@@ -5,10 +5,10 @@ ghost use Rattle.io_model.specs.Pending as model;
 ghost use Rattle.io_rules.specs.Attempts.{result_by};
 ghost use Rattle.io_rules.specs.Io.{Io, pending_at, with_call};
 ghost use Rattle.io_rules.specs.Step.{IoEnd, leaves};
-ghost use Rattle.io_state.specs.Sound.{IsIo, MayWait};
+ghost use Rattle.io_state.specs.Sound.{IsIo, MayWait, ReadsNoTerminal};
 ghost use Rattle.proc_rules.specs.Records.{IsLiving};
 ghost use Rattle.proc_rules.specs.Processes.{Processes, with_regs_of};
-ghost use Rattle.device_io.specs.Leaving.{IsTold, ReadsNoTerminal};
+ghost use Rattle.device_io.specs.Leaving.{IsTold};
 ghost use Rattle.proc_state.specs.Tie.{Comes, Represents};
 
 use io_model::path::SysPath;

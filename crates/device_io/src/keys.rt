@@ -105,13 +105,13 @@ fn send_to_user(s: &mut ProcState, user: Option<Pid>, signal: Option<u8>)
     ensures tick { s.new.tick ≡ s.old.tick }
 {
     match (user, signal) {
-        (Some(user), Some(signal)) => send(s, user, signal),
+        (Some(user), Some(signal)) => send_signal(s, user, signal),
         (Some(_), None) | (None, _) => {}
     }
 }
 
 /// Sends a signal to a process. It is dropped if the process has a pending signal.
-fn send(s: &mut ProcState, to: Pid, signal: u8)
+fn send_signal(s: &mut ProcState, to: Pid, signal: u8)
     ensures sent { (m : Processes) → Represents s.old m
         → Represents s.new (after_signal_to m to signal) }
     ensures tick { s.new.tick ≡ s.old.tick }

@@ -12,11 +12,11 @@ ghost use Rattle.io_rules.specs.Attempts.{caller_of};
 ghost use Rattle.io_rules.specs.Pipes.{line_ended};
 ghost use Rattle.io_rules.specs.Read.{pipe_read};
 ghost use Rattle.io_rules.specs.Step.{stores};
-ghost use Rattle.io_state.specs.Sound.{MayWait};
+ghost use Rattle.io_state.specs.Sound.{MayWait, ReadsNoTerminal};
 ghost use Rattle.io_model.specs.declared.terminal.ReadKind.TheVariants as Kind;
 ghost use Rattle.proc_state.specs.Tie.{Represents};
 ghost use Rattle.io_state.specs.Context.{InCall};
-ghost use Rattle.device_io.specs.Leaving.{Leaves, ReadsNoTerminal};
+ghost use Rattle.device_io.specs.Leaving.{Leaves};
 
 use crate::ends::{answer, keep, moved_on, refuse};
 use crate::lines::has_return;

@@ -6,9 +6,9 @@ ghost use Rattle.io_model.specs.Pipe.{IsPipe, moved_count};
 ghost use Rattle.io_rules.specs.Alone.{is_alone};
 ghost use Rattle.io_rules.specs.Pipes.{writes_pipe, write_end, moved_end};
 ghost use Rattle.io_rules.specs.Step.{leaves};
-ghost use Rattle.io_state.specs.Sound.{MayWait};
+ghost use Rattle.io_state.specs.Sound.{MayWait, ReadsNoTerminal};
 ghost use Rattle.io_rules.specs.declared.io_call.Direction.TheVariants as Direction;
-ghost use Rattle.device_io.specs.Leaving.{ReadsNoTerminal, Settles};
+ghost use Rattle.device_io.specs.Leaving.{Settles};
 
 use crate::ends::{finish, keep, moved_on, refuse};
 use io_model::pending::PendingCall;

@@ -4,10 +4,10 @@ ghost use Rattle.std.specs.Prelude.{◌≡◌, ◌<◌, length, vec_len};
 ghost use Rattle.os9_base.specs.Cells.{Cells};
 ghost use Rattle.device_table.specs.Seen.{terminals_seen};
 ghost use Rattle.io_rules.specs.Again.{path_number as path_number_model};
-ghost use Rattle.device_io.specs.Leaving.{ReadsNoTerminal};
 ghost use Rattle.device_io.specs.Moving.{AreTerminals};
 ghost use Rattle.device_io.specs.Sending.{IsLineFirst, IsLineOf, IsPut, IsPutAnswer, MaySend, PutEnds, Sends, SendsFrom, put_on, sender, write_call, write_code as write_code_model, write_named};
 ghost use Rattle.device_io.specs.Streams.{streams};
+ghost use Rattle.io_state.specs.Sound.{ReadsNoTerminal};
 
 use crate::ends::{call_now, finish, refuse};
 use crate::modes::can_write;
@@ -37,7 +37,7 @@ pub(crate) enum WriteKind {
 
 /// What a call writes: the bytes, and which call it is.
 #[derive(Clone, Copy)]
-pub(crate) struct Written<'a> {
+pub(crate) struct ToWrite<'a> {
     pub(crate) kind: WriteKind,
     pub(crate) bytes: &'a [u8],
 }
@@ -54,34 +54,34 @@ pub(crate) fn send(
     io: &mut IoState,
     devices: &mut Devices,
     by: Requester,
-    written: &Written<'_>,
+    to_write: &ToWrite<'_>,
 ) -> CallEnd
     requires process { by.p.0 < 33 }
-    requires may { MaySend written.now.kind by io.old (length written.now.bytes.now) }
-    requires short { length written.now.bytes.now < 65536 }
+    requires may { MaySend to_write.now.kind by io.old (length to_write.now.bytes.now) }
+    requires short { length to_write.now.bytes.now < 65536 }
     requires terminals { AreTerminals io.old.paths (vec_len devices.old.terms) }
-    ensures call { IsLineFirst written.now.kind io.old by.p.0 written.now.bytes.now
-        → SendsFrom written.now.kind (write_named written.now.kind) by written.now.bytes.now result
-        (streams CharDriver-box io.old devices.old) (streams CharDriver-box io.new devices.new) }
+    ensures call { IsLineFirst to_write.now.kind io.old by.p.0 to_write.now.bytes.now
+        → SendsFrom to_write.now.kind (write_named to_write.now.kind) by to_write.now.bytes.now
+        result (streams CharDriver-box io.old devices.old) (streams CharDriver-box io.new devices.new) }
     ensures drives { devices.new.drives ≡ devices.old.drives }
     ensures count { vec_len devices.new.terms ≡ vec_len devices.old.terms }
 {
-    let Some((path, desc)) = io.open_path(by.p, path_number(written.kind, by.regs)) else {
+    let Some((path, desc)) = io.open_path(by.p, path_number(to_write.kind, by.regs)) else {
         return refuse(io, by.p, E_BPNUM);
     };
     if !can_write(desc.mode) {
         return refuse(io, by.p, E_BMODE);
     }
-    let code = write_code(written.kind);
-    let call = call_now(io, by.p, code, path, written.bytes.len() as u16);
-    if written.bytes.is_empty() {
+    let code = write_code(to_write.kind);
+    let call = call_now(io, by.p, code, path, to_write.bytes.len() as u16);
+    if to_write.bytes.is_empty() {
         return finish(io, by.p);
     }
     match desc.target {
         Target::File(_, _) => refuse(io, by.p, E_UNKSVC),
         Target::Folder(_, _) => refuse(io, by.p, E_UNKSVC),
-        Target::Term(n) => put(io, devices, by.p, n, written),
-        Target::Pipe(pipe) => write_pipe(io, by.p, pipe, call, written.bytes),
+        Target::Term(n) => put(io, devices, by.p, n, to_write),
+        Target::Pipe(pipe) => write_pipe(io, by.p, pipe, call, to_write.bytes),
     }
 }
 
@@ -111,39 +111,45 @@ fn write_code(kind: WriteKind) -> u8
 /// # Errors
 ///
 /// E$Write if the terminal failed.
-fn put(io: &mut IoState, devices: &mut Devices, p: Pid, n: u8, written: &Written<'_>) -> CallEnd
+fn put(io: &mut IoState, devices: &mut Devices, p: Pid, n: u8, to_write: &ToWrite<'_>) -> CallEnd
     requires process { p.0 < 33 }
     requires no_read { ReadsNoTerminal io.old p.0 }
     requires terminal { n < 4 }
     requires there { n < vec_len devices.old.terms }
-    requires short { length written.now.bytes.now < 65536 }
-    ensures call { (regs told : Regs) (cells : Cells) → IsLineOf written.now.kind
-        written.now.bytes.now → Sends (put_on written.now.kind n written.now.bytes.now told) (sender
-        p regs cells) io.old told result io.new (terminals_seen CharDriver-box devices.old)
+    requires short { length to_write.now.bytes.now < 65536 }
+    ensures call { (regs told : Regs) (cells : Cells) → IsLineOf to_write.now.kind
+        to_write.now.bytes.now → Sends (put_on to_write.now.kind n to_write.now.bytes.now told)
+        (sender p regs cells) io.old told result io.new (terminals_seen CharDriver-box devices.old)
         (terminals_seen CharDriver-box devices.new) }
     ensures drives { devices.new.drives ≡ devices.old.drives }
     ensures count { vec_len devices.new.terms ≡ vec_len devices.old.terms }
 {
-    let answer = put_as(io, devices, p, n, written);
+    let answer = put_as(io, devices, p, n, to_write);
     put_end(answer)
 }
 
 /// As `put`, but returns the terminal's answer.
-fn put_as(io: &mut IoState, devices: &mut Devices, p: Pid, n: u8, written: &Written<'_>) -> Progress
+fn put_as(
+    io: &mut IoState,
+    devices: &mut Devices,
+    p: Pid,
+    n: u8,
+    to_write: &ToWrite<'_>,
+) -> Progress
     requires process { p.0 < 33 }
     requires no_read { ReadsNoTerminal io.old p.0 }
     requires terminal { n < 4 }
     requires there { n < vec_len devices.old.terms }
-    requires short { length written.now.bytes.now < 65536 }
-    ensures put { IsPut written.now.kind p n written.now.bytes.now result
+    requires short { length to_write.now.bytes.now < 65536 }
+    ensures put { IsPut to_write.now.kind p n to_write.now.bytes.now result
         (streams CharDriver-box io.old devices.old) (streams CharDriver-box io.new devices.new) }
     ensures drives { devices.new.drives ≡ devices.old.drives }
     ensures count { vec_len devices.new.terms ≡ vec_len devices.old.terms }
 {
-    match written.kind {
-        WriteKind::Bytes => io.write_terminal(p, n, written.bytes, devices),
-        WriteKind::Line => io.write_terminal_line(p, n, written.bytes, devices),
-        WriteKind::ErrorLine => io.write_terminal_line(p, n, written.bytes, devices),
+    match to_write.kind {
+        WriteKind::Bytes => io.write_terminal(p, n, to_write.bytes, devices),
+        WriteKind::Line => io.write_terminal_line(p, n, to_write.bytes, devices),
+        WriteKind::ErrorLine => io.write_terminal_line(p, n, to_write.bytes, devices),
     }
 }
 

@@ -2,7 +2,7 @@
 
 ghost use Rattle.std.specs.Prelude.{◌≡◌, ℕ, vec_len};
 ghost use Rattle.io_rules.specs.declared.io_call.IoCall.TheVariants as Call;
-ghost use Rattle.io_state.specs.Context.{InCall, KeepsDrives};
+ghost use Rattle.io_state.specs.Context.{InCall, SameDrives};
 ghost use Rattle.device_io.specs.Moving as model;
 ghost use Rattle.device_io.specs.Moving.{MayAttempt, read_call, read_step};
 ghost use Rattle.device_io.specs.Streams.{streams};
@@ -17,7 +17,7 @@ use io_model::path::Target;
 use io_model::terminal::ReadKind;
 use io_state::requester::Requester;
 use io_state::state::IoState;
-use io_state::terminal_calls::TerminalAttempt;
+use io_state::terminal_calls::AttemptedRead;
 use os9_base::call::CallEnd;
 use os9_base::calls::{I_READ, I_READLN};
 use os9_base::errors::{E_BMODE, E_BPADDR, E_BPNUM, E_UNKSVC};
@@ -41,7 +41,7 @@ pub fn i_read(s: &mut ProcState, io: &mut IoState, devices: &mut Devices, by: Re
         (streams CharDriver-box io.old devices.old) (streams CharDriver-box io.new devices.new) }
     ensures memory { (drives : ℕ) → WantsMemoryFrom Call.Read drives by.p.0 result s.old
         (streams CharDriver-box io.old devices.old) (streams CharDriver-box io.new devices.new) }
-    ensures kept { KeepsDrives by s.new devices.old devices.new }
+    ensures kept { SameDrives by s.new devices.old devices.new }
 {
     read(s, io, devices, by, ReadKind::Bytes)
 }
@@ -68,7 +68,7 @@ pub fn i_readln(
         (streams CharDriver-box io.old devices.old) (streams CharDriver-box io.new devices.new) }
     ensures memory { (drives : ℕ) → WantsMemoryFrom Call.ReadLn drives by.p.0 result s.old
         (streams CharDriver-box io.old devices.old) (streams CharDriver-box io.new devices.new) }
-    ensures kept { KeepsDrives by s.new devices.old devices.new }
+    ensures kept { SameDrives by s.new devices.old devices.new }
 {
     read(s, io, devices, by, ReadKind::WholeLine)
 }
@@ -85,7 +85,7 @@ fn read(
     requires may { MayAttempt (read_call kind) s.old io.old by.p.0 (vec_len devices.old.terms) }
     ensures call { TriesFrom (read_step kind) by result s.old s.new
         (streams CharDriver-box io.old devices.old) (streams CharDriver-box io.new devices.new) }
-    ensures kept { KeepsDrives by s.new devices.old devices.new }
+    ensures kept { SameDrives by s.new devices.old devices.new }
 {
     let regs = by.regs;
     if !s.is_named(by.p, regs.x, regs.y) {
@@ -106,7 +106,7 @@ fn read(
         Target::File(_, _) => refuse(io, by.p, E_UNKSVC),
         Target::Folder(_, _) => refuse(io, by.p, E_UNKSVC),
         Target::Term(terminal) => {
-            let read = TerminalAttempt {
+            let read = AttemptedRead {
                 terminal,
                 kind,
                 call,

@@ -8,7 +8,7 @@ ghost use Rattle.io_rules.specs.Write as model;
 ghost use Rattle.io_rules.specs.Write.{line_bytes};
 ghost use Rattle.io_rules.specs.declared.io_call.IoCall.TheVariants as Call;
 ghost use Rattle.proc_state.specs.Tie.{IsSame, Represents};
-ghost use Rattle.io_state.specs.Context.{InCall, KeepsDrives};
+ghost use Rattle.io_state.specs.Context.{InCall, SameDrives};
 ghost use Rattle.device_io.specs.Moving.{MayAttempt};
 ghost use Rattle.device_io.specs.Reading.{IsRead};
 ghost use Rattle.device_io.specs.Streams.{streams};
@@ -16,7 +16,7 @@ ghost use Rattle.device_io.specs.Trying.{AttemptsFrom, WantsMemoryFrom};
 
 use crate::ends::{refuse, tell};
 use crate::moving::read_moving;
-use crate::sending::{WriteKind, Written, send};
+use crate::sending::{ToWrite, WriteKind, send};
 use device_table::devices::Devices;
 use io_state::requester::Requester;
 use io_state::state::IoState;
@@ -43,14 +43,14 @@ pub fn i_write(s: &mut ProcState, io: &mut IoState, devices: &mut Devices, by: R
         (streams CharDriver-box io.old devices.old) (streams CharDriver-box io.new devices.new) }
     ensures memory { (drives : ℕ) → WantsMemoryFrom Call.Write drives by.p.0 result s.old
         (streams CharDriver-box io.old devices.old) (streams CharDriver-box io.new devices.new) }
-    ensures kept { KeepsDrives by s.new devices.old devices.new }
+    ensures kept { SameDrives by s.new devices.old devices.new }
 {
     match read_moving(s, io, by, by.regs.y) {
         None => refuse(io, by.p, E_BPADDR),
         Some(y) => {
             let kind = WriteKind::Bytes;
             let bytes = &s.buffer[..y as usize];
-            let end = send(io, devices, by, &Written { kind, bytes });
+            let end = send(io, devices, by, &ToWrite { kind, bytes });
             tell(s, by.p, end, by.regs);
             end
         }
@@ -80,14 +80,14 @@ pub fn i_writln(
         (streams CharDriver-box io.old devices.old) (streams CharDriver-box io.new devices.new) }
     ensures memory { (drives : ℕ) → WantsMemoryFrom Call.WritLn drives by.p.0 result s.old
         (streams CharDriver-box io.old devices.old) (streams CharDriver-box io.new devices.new) }
-    ensures kept { KeepsDrives by s.new devices.old devices.new }
+    ensures kept { SameDrives by s.new devices.old devices.new }
 {
     match read_line_now(s, io, by) {
         None => refuse(io, by.p, E_BPADDR),
         Some(y) => {
             let kind = WriteKind::Line;
             let bytes = &s.buffer[..y as usize];
-            let end = send(io, devices, by, &Written { kind, bytes });
+            let end = send(io, devices, by, &ToWrite { kind, bytes });
             tell(s, by.p, end, Regs { y, ..by.regs });
             end
         }
@@ -109,11 +109,11 @@ pub fn f_perr(s: &mut ProcState, io: &mut IoState, devices: &mut Devices, by: Re
         (streams CharDriver-box io.old devices.old) (streams CharDriver-box io.new devices.new) }
     ensures memory { (drives : ℕ) → WantsMemoryFrom Call.PErr drives by.p.0 result s.old
         (streams CharDriver-box io.old devices.old) (streams CharDriver-box io.new devices.new) }
-    ensures kept { KeepsDrives by s.new devices.old devices.new }
+    ensures kept { SameDrives by s.new devices.old devices.new }
 {
     let kind = WriteKind::ErrorLine;
     let bytes = &error_line(by.regs.b);
-    let end = send(io, devices, by, &Written { kind, bytes });
+    let end = send(io, devices, by, &ToWrite { kind, bytes });
     tell(s, by.p, end, by.regs);
     end
 }

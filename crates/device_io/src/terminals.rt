@@ -10,7 +10,7 @@ ghost use Rattle.io_rules.specs.Step.{TerminalRead};
 ghost use Rattle.io_rules.specs.Terminals.{read_ends};
 ghost use Rattle.io_state.specs.Terminals.{MayRead, count_of};
 ghost use Rattle.proc_state.specs.Tie.{Represents};
-ghost use Rattle.io_state.specs.Context.{InCall, KeepsDrives};
+ghost use Rattle.io_state.specs.Context.{InCall, SameDrives};
 ghost use Rattle.device_io.specs.Moving.{read_terminal as read_terminal_model};
 ghost use Rattle.device_io.specs.Streams.{streams};
 ghost use Rattle.device_io.specs.Trying.{EndsBy, TriesFrom};
@@ -19,7 +19,7 @@ use device_table::devices::Devices;
 use io_model::terminal::{Progress, TYPE_AHEAD};
 use io_state::requester::Requester;
 use io_state::state::IoState;
-use io_state::terminal_calls::TerminalAttempt;
+use io_state::terminal_calls::AttemptedRead;
 use os9_base::call::CallEnd;
 use os9_base::errors::{E_EOF, E_WRITE};
 use os9_base::registers::Regs;
@@ -38,7 +38,7 @@ pub(crate) fn read_terminal(
     io: &mut IoState,
     devices: &mut Devices,
     by: Requester,
-    read: TerminalAttempt,
+    read: AttemptedRead,
 ) -> CallEnd
     requires calls { InCall by s.old }
     requires named { FitsIn (cells_of s.old.memory by.p.0) by.regs.x read.call.count }
@@ -47,7 +47,7 @@ pub(crate) fn read_terminal(
     ensures call { TriesFrom (read_terminal_model read.kind read.terminal read.call) by
         result s.old s.new
         (streams CharDriver-box io.old devices.old) (streams CharDriver-box io.new devices.new) }
-    ensures kept { KeepsDrives by s.new devices.old devices.new }
+    ensures kept { SameDrives by s.new devices.old devices.new }
 {
     let mut bytes = [0; TYPE_AHEAD];
     let answer = io.read_terminal(by.p, read, &mut bytes, devices);

@@ -37,9 +37,9 @@ pub fn a_new_directory_is_what_it_is_said_to_be()
         → Leaves (makes_directory d name attributes) user now v old new answer }
 {}
 
-/// A deletion of file n by `delete_at` of rbf_entries leaves what the calls on files say of a deletion
-/// (System Programmer's Manual, I$Delete): the volume without the file, or after a fault of the
-/// drive one of those that a fault may leave.
+/// A deletion of file n by `delete_at` of rbf_entries leaves what the calls on files say of a
+/// deletion (System Programmer's Manual, I$Delete): the volume without the file, or after a fault
+/// of the drive one of those that a fault may leave.
 pub fn a_deletion_is_what_it_is_said_to_be()
     ensures { (v : DiskVolume) (d n user : ℕ) (name : List ℕ) (now : TimePacket)
         (old new : Option (List ℕ)) (answer : Result (Unit {0}) FileFault) → Represents old v

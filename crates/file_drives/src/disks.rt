@@ -228,9 +228,9 @@ impl Disks {
     }
 
     /// Writes bytes to a file that is not a directory, from a place on. If the place is past the
-    /// end, zeros fill the file between its end and the place. A write that changes the size sets the date. A write
-    /// of no bytes changes nothing and does not call the drive (OS-9 System Programmer's Manual,
-    /// I$Write).
+    /// end, zeros fill the file between its end and the place. A write that changes the size sets
+    /// the date. A write of no bytes changes nothing and does not call the drive (OS-9 System
+    /// Programmer's Manual, I$Write).
     ///
     /// # Errors
     ///

@@ -14,7 +14,8 @@ use Rattle.file_state.specs.Tie.{IsSound}
 use Rattle.file_state.specs.declared.state.FileState.{FileState}
 use Rattle.file_state.specs.declared.state.OpenFile.{OpenFile}
 use Rattle.file_io.proofs.OpenedLemmas.{IsNamed, is-named}
-use Rattle.file_io.specs.Opened.{IsOpened, ReadsNoTerminal}
+use Rattle.file_io.specs.Opened.{IsOpened}
+use Rattle.io_state.specs.Sound.{ReadsNoTerminal}
 
 pub again-no_read : (io : Io) (p n : ℕ) (opened : OpenFile) (call : IoCall) (regs : Regs) → IsAgain call regs io p → path_number call regs ≡ n → IsNamed io p n opened → ReadsNoTerminal io p
 again-no_read io p n opened call regs again number named = no-read-again io p n opened call regs again number named.names named.place

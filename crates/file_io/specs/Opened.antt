@@ -5,7 +5,6 @@ use Rattle.rbf_model.specs.Volume.{DiskVolume}
 use Rattle.io_model.specs.Path.{with_desc}
 use Rattle.io_rules.specs.Io.{Io, with_paths}
 use Rattle.io_rules.specs.Modes.{can_write}
-pub use Rattle.device_io.specs.Leaving.{ReadsNoTerminal}
 use Rattle.rbf_access.specs.declared.volume.Volume.{Volume}
 use Rattle.file_drives.specs.Drives.{DriveView}
 use Rattle.file_drives.specs.Mounted.{HasDataFileAt, HasFileAt}

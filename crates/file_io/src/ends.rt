@@ -3,10 +3,11 @@
 ghost use Rattle.std.specs.Prelude.{◌≡◌, ◌<◌, None};
 ghost use Rattle.file_state.specs.Context.{InFileCall};
 ghost use Rattle.proc_rules.specs.Processes.{Processes, with_regs_of};
-ghost use Rattle.file_io.specs.Opened.{IsPathOf, ReadsNoTerminal, moved_to};
+ghost use Rattle.file_io.specs.Opened.{IsPathOf, moved_to};
 ghost use Rattle.io_rules.specs.Io.{with_call};
 ghost use Rattle.proc_rules.specs.Records.{IsLiving};
 ghost use Rattle.proc_state.specs.Tie.{Represents};
+ghost use Rattle.io_state.specs.Sound.{ReadsNoTerminal};
 
 use file_state::machine::Machine;
 use file_state::state::OpenFile;
@@ -47,7 +48,7 @@ pub(crate) fn answer(s: &mut ProcState, io: &mut IoState, p: Pid, regs: Regs) ->
 pub(crate) fn answer_at(
     machine: &mut Machine,
     by: Requester,
-    regs: Regs,
+    told: Regs,
     opened: &OpenFile,
     at: u32,
 ) -> CallEnd
@@ -55,13 +56,13 @@ pub(crate) fn answer_at(
     requires path { IsPathOf machine.old.files.io opened.now }
     ensures end { result ≡ CallEnd.Done }
     ensures tied { (m : Processes) → Represents machine.old.processes m
-        → Represents machine.new.processes (with_regs_of m by.p.0 regs) }
+        → Represents machine.new.processes (with_regs_of m by.p.0 told) }
     ensures io { machine.new.files.io
         ≡ with_call (moved_to machine.old.files.io opened.now at) by.p.0 None }
     ensures rest { machine.new.files ≡ record machine.old.files { io = machine.new.files.io } }
     ensures lives { IsLiving machine.new.processes.table by.p.0 }
 {
-    let end = answer(&mut machine.processes, &mut machine.files.io, by.p, regs);
+    let end = answer(&mut machine.processes, &mut machine.files.io, by.p, told);
     machine.files.io.set_position(opened.path, at);
     end
 }

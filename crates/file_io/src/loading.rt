@@ -32,8 +32,8 @@ pub(crate) struct FilePart {
     pub most: u16,
 }
 
-/// Reads a part of a file into the front of the buffer, and returns the number of its bytes: 0 at or
-/// past the end of the file.
+/// Reads a part of a file into the front of the buffer, and returns the number of its bytes: 0 at
+/// or past the end of the file.
 ///
 /// # Errors
 ///

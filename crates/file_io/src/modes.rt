@@ -20,7 +20,8 @@ pub(crate) fn can_write(mode: u8) -> bool
     mode & MODE_WRITE != 0
 }
 
-/// May a path of this mode be read and written? Then its reads request records, and it may hold one.
+/// May a path of this mode be read and written? Then its reads request records, and it may hold
+/// one.
 pub(crate) fn is_for_update(mode: u8) -> bool
     ensures { result ≡ is_for_update_model mode }
 {

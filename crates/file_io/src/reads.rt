@@ -1,7 +1,7 @@
 //! I$Read and I$ReadLn (System Programmer's Manual, I$Read and I$ReadLn).
 
-ghost use Rattle.io_state.specs.Context.{InCall, KeepsTerminals};
-ghost use Rattle.file_state.specs.Context.{InFileCall, seen};
+ghost use Rattle.io_state.specs.Context.{InCall, SameTerminals};
+ghost use Rattle.file_state.specs.Context.{InFileCall, machine_seen};
 ghost use Rattle.std.specs.Prelude.{◌≡◌, ◌+◌, ◌<◌, ◌≤◌, ◌^◌, List, length, take};
 ghost use Rattle.proc_rules.specs.Processes.{Processes};
 ghost use Rattle.file_io.specs.Calls.{granted_read_calls, i_read_calls, reading_attempt_calls};
@@ -66,9 +66,9 @@ pub fn read(
     requires opened { IsOpened machine.old.files by.p.0 by.regs.a opened.now }
     ensures call { (now : TimePacket) (terms : List TerminalState)
         → TriesWithin i_read_calls Call.Read now by.p.0 result terms terms
-        (seen BlockDriver-box machine.old devices.old)
-        (seen BlockDriver-box machine.new devices.new) }
-    ensures kept { KeepsTerminals by machine.new.processes devices.old devices.new }
+        (machine_seen BlockDriver-box machine.old devices.old)
+        (machine_seen BlockDriver-box machine.new devices.new) }
+    ensures kept { SameTerminals by machine.new.processes devices.old devices.new }
 {
     read_opened(machine, devices, by, opened, ReadKind::Bytes)
 }
@@ -91,9 +91,9 @@ pub fn read_line(
     requires opened { IsOpened machine.old.files by.p.0 by.regs.a opened.now }
     ensures call { (now : TimePacket) (terms : List TerminalState)
         → TriesWithin i_read_calls Call.ReadLn now by.p.0 result terms terms
-        (seen BlockDriver-box machine.old devices.old)
-        (seen BlockDriver-box machine.new devices.new) }
-    ensures kept { KeepsTerminals by machine.new.processes devices.old devices.new }
+        (machine_seen BlockDriver-box machine.old devices.old)
+        (machine_seen BlockDriver-box machine.new devices.new) }
+    ensures kept { SameTerminals by machine.new.processes devices.old devices.new }
 {
     read_opened(machine, devices, by, opened, ReadKind::WholeLine)
 }
@@ -109,12 +109,12 @@ fn read_opened(
     requires calls { InFileCall by machine.old }
     requires may { MayRead machine.old.files.io machine.old.files.records.locks by.p.0 opened.now
         by.regs }
-    requires opened { IsOnFile opened.now (seen BlockDriver-box machine.old devices.old) }
+    requires opened { IsOnFile opened.now (machine_seen BlockDriver-box machine.old devices.old) }
     ensures call { TriesAlways (model.read_opened kind) reading_attempt_calls opened.now by.p.0
         result
-        (seen BlockDriver-box machine.old devices.old)
-        (seen BlockDriver-box machine.new devices.new) }
-    ensures kept { KeepsTerminals by machine.new.processes devices.old devices.new }
+        (machine_seen BlockDriver-box machine.old devices.old)
+        (machine_seen BlockDriver-box machine.new devices.new) }
+    ensures kept { SameTerminals by machine.new.processes devices.old devices.new }
 {
     let regs = by.regs;
     if !machine.processes.is_named(by.p, regs.x, regs.y) {
@@ -157,12 +157,12 @@ fn read_for_update(
     requires calls { InFileCall by machine.old }
     requires may { MayUpdate machine.old.files.io machine.old.files.records.locks by.p.0 opened.now
         by.regs }
-    requires opened { IsOnFile opened.now (seen BlockDriver-box machine.old devices.old) }
+    requires opened { IsOnFile opened.now (machine_seen BlockDriver-box machine.old devices.old) }
     requires buffer { IsBuffer (cells_of machine.old.processes.memory by.p.0) by.regs }
     ensures call { TriesAlways (model.read_file kind) reading_attempt_calls opened.now by.p.0 result
-        (seen BlockDriver-box machine.old devices.old)
-        (seen BlockDriver-box machine.new devices.new) }
-    ensures kept { KeepsTerminals by machine.new.processes devices.old devices.new }
+        (machine_seen BlockDriver-box machine.old devices.old)
+        (machine_seen BlockDriver-box machine.new devices.new) }
+    ensures kept { SameTerminals by machine.new.processes devices.old devices.new }
 {
     let size = match machine.files.disks.size(devices, opened.place) {
         Ok(size) => size,
@@ -216,14 +216,14 @@ fn read_granted(
     reading: LockedRead,
 ) -> CallEnd
     requires calls { InFileCall by machine.old }
-    requires opened { IsOnFile opened.now (seen BlockDriver-box machine.old devices.old) }
+    requires opened { IsOnFile opened.now (machine_seen BlockDriver-box machine.old devices.old) }
     requires granted { IsGranted machine.old.files.records.locks reading.lock }
     requires room { HasRoom (cells_of machine.old.processes.memory by.p.0) by.regs reading.lock }
     ensures call { (now : TimePacket) → TriesGranted (model.read_granted reading.kind reading.lock)
         (granted_read_calls reading.lock) opened.now now by.p.0 result
-        (seen BlockDriver-box machine.old devices.old)
-        (seen BlockDriver-box machine.new devices.new) }
-    ensures kept { KeepsTerminals by machine.new.processes devices.old devices.new }
+        (machine_seen BlockDriver-box machine.old devices.old)
+        (machine_seen BlockDriver-box machine.new devices.new) }
+    ensures kept { SameTerminals by machine.new.processes devices.old devices.new }
 {
     let part = FilePart {
         place: opened.place,

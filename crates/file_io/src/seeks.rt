@@ -4,7 +4,7 @@ ghost use Rattle.file_state.specs.Context.{InFileCall, beside};
 ghost use Rattle.std.specs.Prelude.{◌≡◌, List};
 ghost use Rattle.proc_rules.specs.Processes.{Processes};
 ghost use Rattle.file_io.specs.Calls.{i_seek_calls};
-ghost use Rattle.file_io.specs.Opened.{IsOpened, ReadsNoTerminal};
+ghost use Rattle.file_io.specs.Opened.{IsOpened};
 ghost use Rattle.file_drives.specs.Drives.{DriveView};
 ghost use Rattle.file_rules.specs.Seek as model;
 ghost use Rattle.file_rules.specs.Seek.{seeks_nothing};
@@ -16,6 +16,7 @@ ghost use Rattle.os9_outer.specs.TerminalState.{TerminalState};
 ghost use Rattle.device_paths.specs.Quiet.{Ends};
 ghost use Rattle.proc_rules.specs.Records.{IsLiving};
 ghost use Rattle.proc_state.specs.Tie.{Represents};
+ghost use Rattle.io_state.specs.Sound.{ReadsNoTerminal};
 
 use crate::ends::{answer, answer_at, refuse};
 use file_state::machine::Machine;

@@ -1,7 +1,7 @@
 //! I$Write, I$WritLn and F$PErr (System Programmer's Manual, I$Write, I$WritLn and F$PErr).
 
-ghost use Rattle.io_state.specs.Context.{InCall, KeepsTerminals};
-ghost use Rattle.file_state.specs.Context.{InFileCall, seen};
+ghost use Rattle.io_state.specs.Context.{InCall, SameTerminals};
+ghost use Rattle.file_state.specs.Context.{InFileCall, machine_seen};
 ghost use Rattle.std.specs.Prelude.{◌≡◌, ◌≢◌, ◌+◌, ◌<◌, ◌≤◌, ◌^◌, false, IfSome, List, Ok, Some, length, option_map, take};
 ghost use Rattle.proc_rules.specs.Processes.{Processes, cells_at};
 ghost use Rattle.proc_rules.specs.UserBytes.{user_bytes};
@@ -48,11 +48,11 @@ use rbf_write::NewBytes;
 /// The number of bytes in the line of an error.
 const ERROR_LINE_BYTES: u16 = 11;
 
-/// I$Write to a file on the path that the number in A names, at this time (System Programmer's
-/// Manual, I$Write). Takes the address of the bytes in X and their count in Y; returns the count in
-/// Y. The position moves past the bytes written. If the write begins past the old end, zeros fill
-/// the gap. The path then holds no lock (Level Two manual, RBF record locking). The call waits if
-/// another process holds a byte of its range.
+/// I$Write to a file on the path that the number in A names, at the time of the request (System
+/// Programmer's Manual, I$Write). Takes the address of the bytes in X and their count in Y; returns
+/// the count in Y. The position moves past the bytes written. If the write begins past the old end,
+/// zeros fill the gap. The path then holds no lock (Level Two manual, RBF record locking). The call
+/// waits if another process holds a byte of its range.
 ///
 /// # Errors
 ///
@@ -73,10 +73,10 @@ pub fn write(
     requires sound { IsSound machine.old.files (drives_seen BlockDriver-box devices.old) }
     requires opened { IsOpened machine.old.files by.p.0 by.regs.a opened.now }
     ensures call { (terms : List TerminalState)
-        → TriesWithin i_write_calls Call.Write by.now by.p.0 result terms terms
-        (seen BlockDriver-box machine.old devices.old)
-        (seen BlockDriver-box machine.new devices.new) }
-    ensures kept { KeepsTerminals by machine.new.processes devices.old devices.new }
+        → TriesWithin i_write_calls Call.Write by.time by.p.0 result terms terms
+        (machine_seen BlockDriver-box machine.old devices.old)
+        (machine_seen BlockDriver-box machine.new devices.new) }
+    ensures kept { SameTerminals by machine.new.processes devices.old devices.new }
 {
     let regs = by.regs;
     if !machine.processes.read_bytes(by.p, regs.x, regs.y) {
@@ -90,9 +90,9 @@ pub fn write(
     send(machine, devices, by, opened, sent)
 }
 
-/// I$WritLn to a file on the path that the number in A names, at this time (System Programmer's
-/// Manual, I$WritLn): as [`write`], but only up to and including the first carriage return, and at
-/// most Y bytes.
+/// I$WritLn to a file on the path that the number in A names, at the time of the request (System
+/// Programmer's Manual, I$WritLn): as [`write`], but only up to and including the first carriage
+/// return, and at most Y bytes.
 ///
 /// # Errors
 ///
@@ -108,10 +108,10 @@ pub fn write_line(
     requires sound { IsSound machine.old.files (drives_seen BlockDriver-box devices.old) }
     requires opened { IsOpened machine.old.files by.p.0 by.regs.a opened.now }
     ensures call { (terms : List TerminalState)
-        → TriesWithin i_writln_calls Call.WritLn by.now by.p.0 result terms terms
-        (seen BlockDriver-box machine.old devices.old)
-        (seen BlockDriver-box machine.new devices.new) }
-    ensures kept { KeepsTerminals by machine.new.processes devices.old devices.new }
+        → TriesWithin i_writln_calls Call.WritLn by.time by.p.0 result terms terms
+        (machine_seen BlockDriver-box machine.old devices.old)
+        (machine_seen BlockDriver-box machine.new devices.new) }
+    ensures kept { SameTerminals by machine.new.processes devices.old devices.new }
 {
     let regs = by.regs;
     match line_count(&mut machine.processes, &machine.files, by.p, regs) {
@@ -173,8 +173,8 @@ fn pending_count(
     }
 }
 
-/// F$PErr to a file on the path of standard error, at this time: writes the number in B as a line
-/// (System Programmer's Manual, F$PErr). The registers are unchanged.
+/// F$PErr to a file on the path of standard error, at the time of the request: writes the number in
+/// B as a line (System Programmer's Manual, F$PErr). The registers are unchanged.
 ///
 /// # Errors
 ///
@@ -190,10 +190,10 @@ pub fn write_error(
     requires sound { IsSound machine.old.files (drives_seen BlockDriver-box devices.old) }
     requires opened { IsOpened machine.old.files by.p.0 STANDARD_ERROR opened.now }
     ensures call { (terms : List TerminalState)
-        → TriesWithin f_perr_calls Call.PErr by.now by.p.0 result terms terms
-        (seen BlockDriver-box machine.old devices.old)
-        (seen BlockDriver-box machine.new devices.new) }
-    ensures kept { KeepsTerminals by machine.new.processes devices.old devices.new }
+        → TriesWithin f_perr_calls Call.PErr by.time by.p.0 result terms terms
+        (machine_seen BlockDriver-box machine.old devices.old)
+        (machine_seen BlockDriver-box machine.new devices.new) }
+    ensures kept { SameTerminals by machine.new.processes devices.old devices.new }
 {
     if !can_write(opened.desc.mode) {
         return refuse(&mut machine.files.io, by.p, E_BMODE);
@@ -232,10 +232,10 @@ fn send(
         by.regs sent }
     ensures call { Tries (write_opened_model sent.code
         (take sent.count machine.old.processes.buffer.items))
-        (writing_attempt_calls sent.count) opened.now by.now by.p.0 result
-        (seen BlockDriver-box machine.old devices.old)
-        (seen BlockDriver-box machine.new devices.new) }
-    ensures kept { KeepsTerminals by machine.new.processes devices.old devices.new }
+        (writing_attempt_calls sent.count) opened.now by.time by.p.0 result
+        (machine_seen BlockDriver-box machine.old devices.old)
+        (machine_seen BlockDriver-box machine.new devices.new) }
+    ensures kept { SameTerminals by machine.new.processes devices.old devices.new }
 {
     if !can_write(opened.desc.mode) {
         return refuse(&mut machine.files.io, by.p, E_BMODE);
@@ -263,10 +263,10 @@ fn write_file(
         (drives_seen BlockDriver-box devices.old) opened.now.place }
     ensures call { Tries (write_file_model sent.code
         (take sent.count machine.old.processes.buffer.items) sent.done)
-        (writing_attempt_calls sent.count) opened.now by.now by.p.0 result
-        (seen BlockDriver-box machine.old devices.old)
-        (seen BlockDriver-box machine.new devices.new) }
-    ensures kept { KeepsTerminals by machine.new.processes devices.old devices.new }
+        (writing_attempt_calls sent.count) opened.now by.time by.p.0 result
+        (machine_seen BlockDriver-box machine.old devices.old)
+        (machine_seen BlockDriver-box machine.new devices.new) }
+    ensures kept { SameTerminals by machine.new.processes devices.old devices.new }
 {
     let size = match machine.files.disks.size(devices, opened.place) {
         Ok(size) => size,
@@ -283,19 +283,16 @@ fn write_file(
         return end;
     }
     let writing = LockedWrite {
-        count: sent.count,
-        done: sent.done,
+        sent,
         lock: request.lock,
     };
     write_granted(machine, devices, by, opened, writing)
 }
 
-/// A write of the bytes at the front of the buffer under the lock that it was granted: their count,
-/// and the registers that it answers.
+/// A write of the bytes at the front of the buffer, and the lock that it was granted.
 #[derive(Clone, Copy, Debug, PartialEq, Eq)]
 struct LockedWrite {
-    count: u16,
-    done: Regs,
+    sent: Sending,
     lock: Held,
 }
 
@@ -313,18 +310,18 @@ fn write_granted(
         (drives_seen BlockDriver-box devices.old) opened.now.place }
     requires granted { IsGranted machine.old.files.records.locks writing.lock }
     ensures call { TriesGranted (write_granted_model writing.lock
-        (take writing.count machine.old.processes.buffer.items) writing.done)
-        (granted_write_calls writing.lock writing.count) opened.now by.now by.p.0 result
-        (seen BlockDriver-box machine.old devices.old)
-        (seen BlockDriver-box machine.new devices.new) }
-    ensures kept { KeepsTerminals by machine.new.processes devices.old devices.new }
+        (take writing.sent.count machine.old.processes.buffer.items) writing.sent.done)
+        (granted_write_calls writing.lock writing.sent.count) opened.now by.time by.p.0 result
+        (machine_seen BlockDriver-box machine.old devices.old)
+        (machine_seen BlockDriver-box machine.new devices.new) }
+    ensures kept { SameTerminals by machine.new.processes devices.old devices.new }
 {
     let processes = &machine.processes;
-    let bytes = &processes.buffer[..writing.count as usize];
+    let bytes = &processes.buffer[..writing.sent.count as usize];
     let write = NewBytes {
         at: writing.lock.range.start,
         bytes,
-        now: by.now,
+        now: by.time,
     };
     let disks = &mut machine.files.disks;
     match disks.write_at(devices, opened.place, write) {
@@ -343,22 +340,22 @@ fn enter_write(
     requires calls { InFileCall by machine.old }
     requires path { IsPathOf machine.old.files.io opened.now }
     requires free { conflicts machine.old.files.records.locks writing.lock ≡ false }
-    requires fits { writing.lock.range.start + writing.count < 2 ^ 32 }
+    requires fits { writing.lock.range.start + writing.sent.count < 2 ^ 32 }
     ensures call { (m : Processes) → Represents machine.old.processes m → EndsWrite (Ok tt)
         writing.lock
-        (take writing.count machine.old.processes.buffer.items) writing.done opened.now m by.p.0
-        machine.old.files result machine.new.processes machine.new.files }
+        (take writing.sent.count machine.old.processes.buffer.items) writing.sent.done opened.now m
+        by.p.0 machine.old.files result machine.new.processes machine.new.files }
     ensures lives { IsLiving machine.new.processes.table by.p.0 }
 {
-    let LockedWrite { count, done, lock } = writing;
+    let LockedWrite { sent, lock } = writing;
     let processes = &machine.processes;
-    let bytes = &processes.buffer[..count as usize];
+    let bytes = &processes.buffer[..sent.count as usize];
     let records = &mut machine.files.records;
     if records.write(opened.path.0, lock, bytes).is_err() {
         return CallEnd::NoMemory;
     }
-    let at = lock.range.start + u32::from(count);
-    answer_at(machine, by, done, opened, at)
+    let at = lock.range.start + u32::from(sent.count);
+    answer_at(machine, by, sent.done, opened, at)
 }
 
 /// Puts the line of the number of an error at the front of the buffer.

@@ -47,7 +47,7 @@ module _ (walker : Walker) (files : Files) (from : FilePlace) (names : List (Lis
   there = volume-there disks before from files.volumes has mounted
 
   answered : (result : Result FilePlace DirError) → Walks walker from names result disks before new after
-      → AnswersWalk (walk there.0.files walker.user walker.execute from.number names) (number_arrived result)
+      → AnswersWalk (walk there.0.files walker.by.user walker.by.execute from.number names) (number_arrived result)
   answered result walks = walks.walked files.volumes there.0 has.file mounted there.1 (file-there disks before from has files.volumes there.0 mounted there.1)
 
   pub walk-comes : (result : Result FilePlace DirError) → Walks walker from names result disks before new after → WalkComes walker files from names result
@@ -72,17 +72,17 @@ module _ (walker : Walker) (files : Files) (from : FilePlace) (names : List (Lis
 
 -- ---- how a call goes on
 
-module _ {E : Type 0} (asker : Asker) (walker : Walker) (files : Files) (from : FilePlace) (names : List (List ℕ)) (user : asker.user ≡ walker.user) (next : Found → Step E) where
-  on-volume : (v : DiskVolume) (end : WalkEnd) → volume_at files from.drive ≡ Some v → walk v.files walker.user
-      walker.execute from.number names ≡ end → walks asker files walker.execute from names next ≡ reaches from.drive
+module _ {E : Type 0} (asker : Asker) (walker : Walker) (files : Files) (from : FilePlace) (names : List (List ℕ)) (user : asker.user ≡ walker.by.user) (next : Found → Step E) where
+  on-volume : (v : DiskVolume) (end : WalkEnd) → volume_at files from.drive ≡ Some v → walk v.files walker.by.user
+      walker.by.execute from.number names ≡ end → walks asker files walker.by.execute from names next ≡ reaches from.drive
       (walk_ends from.drive v end next)
   on-volume v end is ends =
-      ap (λ (volume : Option DiskVolume). needs volume E_MNF (λ v. reaches from.drive (walk_ends from.drive v (walk v.files asker.user walker.execute from.number names) next))) is
-      ∙ ap (λ (user : ℕ). reaches from.drive (walk_ends from.drive v (walk v.files user walker.execute from.number names) next)) user
+      ap (λ (volume : Option DiskVolume). needs volume E_MNF (λ v. reaches from.drive (walk_ends from.drive v (walk v.files asker.user walker.by.execute from.number names) next))) is
+      ∙ ap (λ (user : ℕ). reaches from.drive (walk_ends from.drive v (walk v.files user walker.by.execute from.number names) next)) user
       ∙ ap (λ (end : WalkEnd). reaches from.drive (walk_ends from.drive v end next)) ends
 
   -- with the file that is found
-  pub walks-found : (place : FilePlace) (it : Finds walker files from names place) → walks asker files walker.execute from names next ≡ reaches from.drive (next it.found)
+  pub walks-found : (place : FilePlace) (it : Finds walker files from names place) → walks asker files walker.by.execute from names next ≡ reaches from.drive (next it.found)
   walks-found place it =
       on-volume it.found.volume (arrives place.number) it.volume_is it.end_is
       ∙ ap (λ (file : Option DiskFile). reaches from.drive
@@ -97,13 +97,13 @@ module _ {E : Type 0} (asker : Asker) (walker : Walker) (files : Files) (from : 
       same = ap (λ (drive : ℕ). let at : FilePlace = record { drive = drive; number = place.number } in at) (sym it.drive_is) ∙ sym it.place_is
 
   -- or it is refused
-  pub walks-forbidden : EndsOn walker files from names not_allowed → walks asker files walker.execute from names next ≡ reaches from.drive (refused E_FNA)
+  pub walks-forbidden : EndsOn walker files from names not_allowed → walks asker files walker.by.execute from names next ≡ reaches from.drive (refused E_FNA)
   walks-forbidden it = on-volume it.volume not_allowed it.volume_is it.end_is
 
-  pub walks-unfound : EndsOn walker files from names not_found → walks asker files walker.execute from names next ≡ reaches from.drive (refused E_PNNF)
+  pub walks-unfound : EndsOn walker files from names not_found → walks asker files walker.by.execute from names next ≡ reaches from.drive (refused E_PNNF)
   walks-unfound it = on-volume it.volume not_found it.volume_is it.end_is
 
   -- or its drive is reached
-  pub walks-reaches : (v : DiskVolume) → volume_at files from.drive ≡ Some v → drive_of (walks asker files walker.execute from names next) ≡ Some from.drive
+  pub walks-reaches : (v : DiskVolume) → volume_at files from.drive ≡ Some v → drive_of (walks asker files walker.by.execute from names next) ≡ Some from.drive
   walks-reaches v is =
-      ap drive_of (on-volume v (walk v.files walker.user walker.execute from.number names) is refl)
+      ap drive_of (on-volume v (walk v.files walker.by.user walker.by.execute from.number names) is refl)

@@ -66,10 +66,11 @@ pub record IsWalkedTo (cells : Cells) (walker : Walker) (from : FilePlace) (name
   pub rest : List (List ℕ)
   pub stand : NamesStand cells next rest
   pub last : last_of names ≡ last_of rest
-  pub walked : OnDisks disks before from (λ v file. walk v.files walker.user walker.execute from.number (before_last names) ≡ walk v.files walker.user walker.execute at.number (before_last rest))
+  pub walked : OnDisks disks before from (λ v file. walk v.files walker.by.user walker.by.execute from.number
+      (before_last names) ≡ walk v.files walker.by.user walker.by.execute at.number (before_last rest))
   pub reads : OnDisks disks before from (λ v file. (made : ℕ) × ReadsDrive None made from.drive before views ×
-      (made + walk_calls v.files walker.user walker.execute at.number (before_last rest) ≤ walk_calls v.files
-      walker.user walker.execute from.number (before_last names)))
+      (made + walk_calls v.files walker.by.user walker.by.execute at.number (before_last rest) ≤ walk_calls v.files
+      walker.by.user walker.by.execute from.number (before_last names)))
 
 -- and a file is there
 pub record IsThere (from at : FilePlace) (disks : List (Option Volume)) (before : List DriveView) (now : List (Option Volume)) (views : List DriveView) : Type 0 where
@@ -103,18 +104,18 @@ module _ (walker : Walker) (from at : FilePlace) (disks : List (Option Volume)) 
   module _ (name : List ℕ) (result : Result FilePlace DirError) (new : List (Option Volume)) (after : List DriveView) (walks : WalksBy walker at name result now views new after) where
     -- what the step by the name comes to on the volume
     stepped : (volumes : List (Option DiskVolume)) (v : DiskVolume) → AreMounted disks before volumes
-        → mounted_at volumes from.drive ≡ Some v → AnswersWalk (step (v.files at.number) walker.user walker.execute
+        → mounted_at volumes from.drive ≡ Some v → AnswersWalk (step (v.files at.number) walker.by.user walker.by.execute
         name) (number_arrived result)
     stepped volumes v mounted is =
-        subst (λ (file : Option DiskFile). AnswersWalk (step file walker.user walker.execute name) (number_arrived result)) (sym (here volumes v mounted is))
+        subst (λ (file : Option DiskFile). AnswersWalk (step file walker.by.user walker.by.execute name) (number_arrived result)) (sym (here volumes v mounted is))
         (walks.walked volumes v so_far.has.file (so_far.stay volumes mounted) (ap (mounted_at volumes) so_far.drive_is ∙ is) (here volumes v mounted is))
 
     read : (volumes : List (Option DiskVolume)) (v : DiskVolume) → AreMounted disks before volumes
         → mounted_at volumes from.drive ≡ Some v → ReadsDrive (directory_fault result) (step_calls (v.files at.number)
-        walker.user walker.execute name) from.drive views after
+        walker.by.user walker.by.execute name) from.drive views after
     read volumes v mounted is =
-        subst (λ (drive : ℕ). ReadsDrive (directory_fault result) (step_calls (v.files at.number) walker.user walker.execute name) drive views after) so_far.drive_is
-        (subst (λ (file : Option DiskFile). ReadsDrive (directory_fault result) (step_calls file walker.user walker.execute name) at.drive views after) (sym (here volumes v mounted is))
+        subst (λ (drive : ℕ). ReadsDrive (directory_fault result) (step_calls (v.files at.number) walker.by.user walker.by.execute name) drive views after) so_far.drive_is
+        (subst (λ (file : Option DiskFile). ReadsDrive (directory_fault result) (step_calls file walker.by.user walker.by.execute name) at.drive views after) (sym (here volumes v mounted is))
         (walks.drive.drive volumes v so_far.has.file (so_far.stay volumes mounted) (ap (mounted_at volumes) so_far.drive_is ∙ is) (here volumes v mounted is)))
 
     stay : StayMounted disks before new after
@@ -135,67 +136,67 @@ module _ (walker : Walker) (from at : FilePlace) (disks : List (Option Volume)) 
       module _ (volumes : List (Option DiskVolume)) (v : DiskVolume) (file : DiskFile) (mounted : AreMounted disks
           before volumes) (is : mounted_at volumes from.drive ≡ Some v) (there : v.files from.number ≡ Some file)
         where
-          whole : walk v.files walker.user walker.execute from.number (before_last names) ≡ go_on
-              (step (v.files at.number) walker.user walker.execute name) (λ n. walk v.files walker.user walker.execute n
+          whole : walk v.files walker.by.user walker.by.execute from.number (before_last names) ≡ go_on
+              (step (v.files at.number) walker.by.user walker.by.execute name) (λ n. walk v.files walker.by.user walker.by.execute n
               (before_last rest))
-          whole = walked_to.walked volumes v file mounted is there ∙ ap (walk v.files walker.user walker.execute at.number) behind
+          whole = walked_to.walked volumes v file mounted is there ∙ ap (walk v.files walker.by.user walker.by.execute at.number) behind
 
-          calls : walk_calls v.files walker.user walker.execute at.number (before_last walked_to.rest) ≡ step_calls
-              (v.files at.number) walker.user walker.execute name + calls_on (step (v.files at.number) walker.user
-              walker.execute name) (λ n. walk_calls v.files walker.user walker.execute n (before_last rest))
-          calls = ap (walk_calls v.files walker.user walker.execute at.number) behind
+          calls : walk_calls v.files walker.by.user walker.by.execute at.number (before_last walked_to.rest) ≡ step_calls
+              (v.files at.number) walker.by.user walker.by.execute name + calls_on (step (v.files at.number) walker.by.user
+              walker.by.execute name) (λ n. walk_calls v.files walker.by.user walker.by.execute n (before_last rest))
+          calls = ap (walk_calls v.files walker.by.user walker.by.execute at.number) behind
 
-          stopped : (error : DirError) → result ≡ Err error → AnswersWalk (walk v.files walker.user walker.execute from.number (before_last names)) (Err error)
+          stopped : (error : DirError) → result ≡ Err error → AnswersWalk (walk v.files walker.by.user walker.by.execute from.number (before_last names)) (Err error)
           stopped error failed =
-              let ends : AnswersWalk (step (v.files at.number) walker.user walker.execute name) (Err error) =
-              subst (λ (r : Result FilePlace DirError). AnswersWalk (step (v.files at.number) walker.user walker.execute name) (number_arrived r)) failed (stepped volumes v mounted is) in
+              let ends : AnswersWalk (step (v.files at.number) walker.by.user walker.by.execute name) (Err error) =
+              subst (λ (r : Result FilePlace DirError). AnswersWalk (step (v.files at.number) walker.by.user walker.by.execute name) (number_arrived r)) failed (stepped volumes v mounted is) in
               subst (λ (end : WalkEnd). AnswersWalk end (Err error)) (sym whole)
-              (stops (step (v.files at.number) walker.user walker.execute name) (λ n. walk v.files walker.user walker.execute n (before_last rest)) error ends)
+              (stops (step (v.files at.number) walker.by.user walker.by.execute name) (λ n. walk v.files walker.by.user walker.by.execute n (before_last rest)) error ends)
 
           stopped-read : (error : DirError) → result ≡ Err error
-              → ReadsDrive (directory_fault {A = FilePlace} (Err error)) (walk_calls v.files walker.user walker.execute
+              → ReadsDrive (directory_fault {A = FilePlace} (Err error)) (walk_calls v.files walker.by.user walker.by.execute
               from.number (before_last names)) from.drive before after
           stopped-read error failed =
               let so : (made : ℕ) × ReadsDrive None made from.drive before views ×
-              (made + walk_calls v.files walker.user walker.execute at.number (before_last walked_to.rest) ≤
-              walk_calls v.files walker.user walker.execute from.number (before_last names)) = walked_to.reads
+              (made + walk_calls v.files walker.by.user walker.by.execute at.number (before_last walked_to.rest) ≤
+              walk_calls v.files walker.by.user walker.by.execute from.number (before_last names)) = walked_to.reads
               volumes v file mounted is there in
               let few = so.2 in
               let by_name = calls in
-              let enough : so.0 + step_calls (v.files at.number) walker.user walker.execute name ≤ walk_calls v.files
-              walker.user walker.execute from.number (before_last names) = omega (arith, few, by_name) in
+              let enough : so.0 + step_calls (v.files at.number) walker.by.user walker.by.execute name ≤ walk_calls v.files
+              walker.by.user walker.by.execute from.number (before_last names) = omega (arith, few, by_name) in
               reads-most (directory_fault {A = FilePlace} (Err error)) (so.0 + step_calls (v.files at.number)
-              walker.user walker.execute name) (walk_calls v.files walker.user walker.execute from.number
+              walker.by.user walker.by.execute name) (walk_calls v.files walker.by.user walker.by.execute from.number
               (before_last names)) from.drive before after enough
-              (reads-then (directory_fault {A = FilePlace} (Err error)) so.0 (step_calls (v.files at.number) walker.user walker.execute name) from.drive before views after so.1
+              (reads-then (directory_fault {A = FilePlace} (Err error)) so.0 (step_calls (v.files at.number) walker.by.user walker.by.execute name) from.drive before views after so.1
               (subst (λ (r : Result FilePlace DirError). ReadsDrive (directory_fault r) (step_calls (v.files at.number)
-              walker.user walker.execute name) from.drive views after) failed (read volumes v mounted is)))
+              walker.by.user walker.by.execute name) from.drive views after) failed (read volumes v mounted is)))
 
-          arrived-at : (place : FilePlace) → result ≡ Ok place → step (v.files at.number) walker.user walker.execute name ≡ arrives place.number
+          arrived-at : (place : FilePlace) → result ≡ Ok place → step (v.files at.number) walker.by.user walker.by.execute name ≡ arrives place.number
           arrived-at place arrived =
-              subst (λ (r : Result FilePlace DirError). AnswersWalk (step (v.files at.number) walker.user walker.execute name) (number_arrived r)) arrived (stepped volumes v mounted is)
+              subst (λ (r : Result FilePlace DirError). AnswersWalk (step (v.files at.number) walker.by.user walker.by.execute name) (number_arrived r)) arrived (stepped volumes v mounted is)
 
-          more-walked : (place : FilePlace) → result ≡ Ok place → walk v.files walker.user walker.execute from.number
-              (before_last names) ≡ walk v.files walker.user walker.execute place.number (before_last rest)
+          more-walked : (place : FilePlace) → result ≡ Ok place → walk v.files walker.by.user walker.by.execute from.number
+              (before_last names) ≡ walk v.files walker.by.user walker.by.execute place.number (before_last rest)
           more-walked place arrived =
-              whole ∙ ap (λ (end : WalkEnd). go_on end (λ n. walk v.files walker.user walker.execute n (before_last rest))) (arrived-at place arrived)
+              whole ∙ ap (λ (end : WalkEnd). go_on end (λ n. walk v.files walker.by.user walker.by.execute n (before_last rest))) (arrived-at place arrived)
 
           more-read : (place : FilePlace) → result ≡ Ok place → (made : ℕ) × ReadsDrive None made from.drive before
-              after × (made + walk_calls v.files walker.user walker.execute place.number (before_last rest) ≤ walk_calls
-              v.files walker.user walker.execute from.number (before_last names))
+              after × (made + walk_calls v.files walker.by.user walker.by.execute place.number (before_last rest) ≤ walk_calls
+              v.files walker.by.user walker.by.execute from.number (before_last names))
           more-read place arrived =
               let so : (made : ℕ) × ReadsDrive None made from.drive before views ×
-              (made + walk_calls v.files walker.user walker.execute at.number (before_last walked_to.rest) ≤
-              walk_calls v.files walker.user walker.execute from.number (before_last names)) = walked_to.reads
+              (made + walk_calls v.files walker.by.user walker.by.execute at.number (before_last walked_to.rest) ≤
+              walk_calls v.files walker.by.user walker.by.execute from.number (before_last names)) = walked_to.reads
               volumes v file mounted is there in
               let few = so.2 in
-              let by_name = calls ∙ ap (λ (end : WalkEnd). step_calls (v.files at.number) walker.user walker.execute
-              name + calls_on end (λ n. walk_calls v.files walker.user walker.execute n (before_last rest)))
+              let by_name = calls ∙ ap (λ (end : WalkEnd). step_calls (v.files at.number) walker.by.user walker.by.execute
+              name + calls_on end (λ n. walk_calls v.files walker.by.user walker.by.execute n (before_last rest)))
               (arrived-at place arrived) in (
-                so.0 + step_calls (v.files at.number) walker.user walker.execute name,
-                reads-then None so.0 (step_calls (v.files at.number) walker.user walker.execute name) from.drive before views after so.1
+                so.0 + step_calls (v.files at.number) walker.by.user walker.by.execute name,
+                reads-then None so.0 (step_calls (v.files at.number) walker.by.user walker.by.execute name) from.drive before views after so.1
                     (subst (λ (r : Result FilePlace DirError). ReadsDrive (directory_fault r)
-                    (step_calls (v.files at.number) walker.user walker.execute name) from.drive views after) arrived
+                    (step_calls (v.files at.number) walker.by.user walker.by.execute name) from.drive views after) arrived
                     (read volumes v mounted is)),
                 omega (arith, few, by_name),
               )
@@ -224,27 +225,27 @@ module _ (walker : Walker) (from at : FilePlace) (disks : List (Option Volume)) 
       module _ (volumes : List (Option DiskVolume)) (v : DiskVolume) (file : DiskFile) (mounted : AreMounted disks
           before volumes) (is : mounted_at volumes from.drive ≡ Some v) (there : v.files from.number ≡ Some file)
         where
-          comes-here : walk v.files walker.user walker.execute from.number (before_last names) ≡ arrives at.number
+          comes-here : walk v.files walker.by.user walker.by.execute from.number (before_last names) ≡ arrives at.number
           comes-here = walks_before.walked volumes v file mounted is there
 
-          all-walked : AnswersWalk (walk v.files walker.user walker.execute from.number names) (number_arrived result)
+          all-walked : AnswersWalk (walk v.files walker.by.user walker.by.execute from.number names) (number_arrived result)
           all-walked =
-              subst (λ (end : WalkEnd). AnswersWalk end (number_arrived result)) (sym (walk-last v.files walker.user walker.execute names from.number name last))
-              (goes-on (walk v.files walker.user walker.execute from.number (before_last names))
-              (λ n. step (v.files n) walker.user walker.execute name) at.number (number_arrived result) comes-here
+              subst (λ (end : WalkEnd). AnswersWalk end (number_arrived result)) (sym (walk-last v.files walker.by.user walker.by.execute names from.number name last))
+              (goes-on (walk v.files walker.by.user walker.by.execute from.number (before_last names))
+              (λ n. step (v.files n) walker.by.user walker.by.execute name) at.number (number_arrived result) comes-here
               (stepped volumes v mounted is))
 
-          all-read : ReadsDrive (directory_fault result) (walk_calls v.files walker.user walker.execute from.number names) from.drive before after
+          all-read : ReadsDrive (directory_fault result) (walk_calls v.files walker.by.user walker.by.execute from.number names) from.drive before after
           all-read =
-              let most : walk_calls v.files walker.user walker.execute from.number names ≡ walk_calls v.files
-              walker.user walker.execute from.number (before_last names) + step_calls (v.files at.number)
-              walker.user walker.execute name =
-              calls-last v.files walker.user walker.execute names from.number name last
-              ∙ ap (λ (end : WalkEnd). walk_calls v.files walker.user walker.execute from.number (before_last names) +
-              calls_on end (λ n. step_calls (v.files n) walker.user walker.execute name)) comes-here in
+              let most : walk_calls v.files walker.by.user walker.by.execute from.number names ≡ walk_calls v.files
+              walker.by.user walker.by.execute from.number (before_last names) + step_calls (v.files at.number)
+              walker.by.user walker.by.execute name =
+              calls-last v.files walker.by.user walker.by.execute names from.number name last
+              ∙ ap (λ (end : WalkEnd). walk_calls v.files walker.by.user walker.by.execute from.number (before_last names) +
+              calls_on end (λ n. step_calls (v.files n) walker.by.user walker.by.execute name)) comes-here in
               subst (λ (most : ℕ). ReadsDrive (directory_fault result) most from.drive before after) (sym most)
-              (reads-then (directory_fault result) (walk_calls v.files walker.user walker.execute from.number
-              (before_last names)) (step_calls (v.files at.number) walker.user walker.execute name) from.drive
+              (reads-then (directory_fault result) (walk_calls v.files walker.by.user walker.by.execute from.number
+              (before_last names)) (step_calls (v.files at.number) walker.by.user walker.by.execute name) from.drive
               before views after (walks_before.drive.drive volumes v file mounted is there)
               (read volumes v mounted is))
 
@@ -262,16 +263,16 @@ module _ (walker : Walker) (from at : FilePlace) (disks : List (Option Volume)) 
   ends-there cells names next walked_to name one = record {
     walks = record {
       walked = λ volumes v file mounted is there.
-          walked_to.walked volumes v file mounted is there ∙ ap (λ (rest : List (List ℕ)). walk v.files walker.user walker.execute at.number (before_last rest)) one;
+          walked_to.walked volumes v file mounted is there ∙ ap (λ (rest : List (List ℕ)). walk v.files walker.by.user walker.by.execute at.number (before_last rest)) one;
       file = record { drive_is = so_far.drive_is; file = so_far.has };
       drive = record {
         drive = λ volumes v file mounted is there.
             let so : (made : ℕ) × ReadsDrive None made from.drive before views ×
-            (made + walk_calls v.files walker.user walker.execute at.number (before_last walked_to.rest) ≤
-            walk_calls v.files walker.user walker.execute from.number (before_last names)) = walked_to.reads
+            (made + walk_calls v.files walker.by.user walker.by.execute at.number (before_last walked_to.rest) ≤
+            walk_calls v.files walker.by.user walker.by.execute from.number (before_last names)) = walked_to.reads
             volumes v file mounted is there in
             let few = so.2 in
-            reads-most None so.0 (walk_calls v.files walker.user walker.execute from.number (before_last names)) from.drive before views (omega (arith, few)) so.1;
+            reads-most None so.0 (walk_calls v.files walker.by.user walker.by.execute from.number (before_last names)) from.drive before views (omega (arith, few)) so.1;
         mounted = so_far.stay;
       };
     };
@@ -306,16 +307,16 @@ stops-before walker from names error disks before new after some walks =
     let last : (last : List ℕ) × (last_of names ≡ Some last) = some-last names some in
     record {
       walked = λ volumes v file mounted is there.
-          subst (λ (end : WalkEnd). AnswersWalk end (Err error)) (sym (walk-last v.files walker.user walker.execute names from.number last.0 last.1))
-          (stops (walk v.files walker.user walker.execute from.number (before_last names))
-          (λ n. step (v.files n) walker.user walker.execute last.0) error (walks.walked volumes v file mounted is
+          subst (λ (end : WalkEnd). AnswersWalk end (Err error)) (sym (walk-last v.files walker.by.user walker.by.execute names from.number last.0 last.1))
+          (stops (walk v.files walker.by.user walker.by.execute from.number (before_last names))
+          (λ n. step (v.files n) walker.by.user walker.by.execute last.0) error (walks.walked volumes v file mounted is
           there));
       file = tt;
       drive = record {
         drive = λ volumes v file mounted is there.
-            let all = calls-last v.files walker.user walker.execute names from.number last.0 last.1 in
-            reads-most (directory_fault {A = FilePlace} (Err error)) (walk_calls v.files walker.user walker.execute
-            from.number (before_last names)) (walk_calls v.files walker.user walker.execute from.number names)
+            let all = calls-last v.files walker.by.user walker.by.execute names from.number last.0 last.1 in
+            reads-most (directory_fault {A = FilePlace} (Err error)) (walk_calls v.files walker.by.user walker.by.execute
+            from.number (before_last names)) (walk_calls v.files walker.by.user walker.by.execute from.number names)
             from.drive before after (omega (arith, all))
             (walks.drive.drive volumes v file mounted is there);
         mounted = walks.drive.mounted;

@@ -15,7 +15,7 @@ pub record EndsOn (walker : Walker) (files : Files) (from : FilePlace) (names : 
     : Type 0 where
   pub volume : DiskVolume
   pub volume_is : volume_at files from.drive ≡ Some volume
-  pub end_is : walk volume.files walker.user walker.execute from.number names ≡ end
+  pub end_is : walk volume.files walker.by.user walker.by.execute from.number names ≡ end
 
 -- it arrives at this file
 pub record Finds (walker : Walker) (files : Files) (from : FilePlace) (names : List (List ℕ)) (place : FilePlace)
@@ -24,7 +24,7 @@ pub record Finds (walker : Walker) (files : Files) (from : FilePlace) (names : L
   pub place_is : found.place ≡ place
   pub drive_is : place.drive ≡ from.drive
   pub volume_is : volume_at files from.drive ≡ Some found.volume
-  pub end_is : walk found.volume.files walker.user walker.execute from.number names ≡ arrives place.number
+  pub end_is : walk found.volume.files walker.by.user walker.by.execute from.number names ≡ arrives place.number
   pub file_is : found.volume.files place.number ≡ Some found.file
 
 -- by its result

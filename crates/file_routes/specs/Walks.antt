@@ -35,20 +35,20 @@ pub record WalksBy (walker : Walker) (at : FilePlace) (name : List ℕ) (result 
     (disks : List (Option Volume)) (before : List DriveView) (new : List (Option Volume)) (after : List DriveView)
     : Type 0 where
   pub walked : OnDisks disks before at (λ v file.
-      AnswersWalk (step (Some file) walker.user walker.execute name) (number_arrived result))
+      AnswersWalk (step (Some file) walker.by.user walker.by.execute name) (number_arrived result))
   pub file : IfOk result (ArrivesOn at.drive new after)
   pub drive : ReadsFile at (directory_fault result) (λ v file.
-      step_calls (Some file) walker.user walker.execute name) disks before new after
+      step_calls (Some file) walker.by.user walker.by.execute name) disks before new after
 
 -- along these names: it has the end of the walk on the volume, unless a fault of the drive ended it before
 pub record Walks (walker : Walker) (from : FilePlace) (names : List (List ℕ)) (result : Result FilePlace DirError)
     (disks : List (Option Volume)) (before : List DriveView) (new : List (Option Volume)) (after : List DriveView)
     : Type 0 where
   pub walked : OnDisks disks before from (λ v file.
-      AnswersWalk (walk v.files walker.user walker.execute from.number names) (number_arrived result))
+      AnswersWalk (walk v.files walker.by.user walker.by.execute from.number names) (number_arrived result))
   pub file : IfOk result (ArrivesOn from.drive new after)
   pub drive : ReadsFile from (directory_fault result) (λ v file.
-      walk_calls v.files walker.user walker.execute from.number names) disks before new after
+      walk_calls v.files walker.by.user walker.by.execute from.number names) disks before new after
 
 -- the end of a walk along all names but the last
 abbrev pub directory_reached : Result LastName DirError → Result FilePlace DirError

@@ -15,7 +15,7 @@ ghost use Rattle.file_routes.specs.Walks.{SomeFrom, SomeStand, Walks, WalksToLas
 ghost use Rattle.file_routes.specs.Routes.{Asks, IsRouteFor, RouteHasNames, RouteStarts};
 
 use crate::route::{Query, Route, find_route};
-use crate::walk::{LastName, NamePlace, Start, Walker, walk, walk_to_last};
+use crate::walk::{LastName, NamePlace, WalkStart, Walker, walk, walk_to_last};
 use device_table::devices::Devices;
 use file_drives::disks::Disks;
 use lock_model::place::FilePlace;
@@ -60,7 +60,7 @@ pub fn call_walk(
     disks: &mut Disks,
     devices: &mut Devices,
     walker: Walker,
-    start: Start,
+    start: WalkStart,
 ) -> Result<FilePlace, DirError>
     requires process { walker.process.0 < 33 }
     requires names { SomeFrom (cells_of s.old.memory walker.process.0) start.first }

@@ -14,7 +14,7 @@ ghost use Rattle.device_paths.specs.Standing.{NamesFrom};
 ghost use Rattle.file_routes.specs.Routes as model;
 ghost use Rattle.file_routes.specs.Routes.{Asks, IsDevice, IsRouteFor, IsRouteOf, NamesOn, RouteHasNames, RouteStarts, StartsOn, along_from, names_root, route_for, route_on};
 
-use crate::walk::Start;
+use crate::walk::WalkStart;
 use device_paths::list::{Listed, read_path_list};
 use device_table::devices::{Dev, Devices};
 use file_drives::disks::Disks;
@@ -48,11 +48,11 @@ pub struct Query {
     pub refusal: Option<u8>,
 }
 
-/// The course of a route.
+/// Where a route goes: along names, or to a device.
 #[derive(Clone, Copy, Debug, PartialEq, Eq)]
 pub enum Course {
     /// From a directory along the names of the path list.
-    Along(Start),
+    Along(WalkStart),
     /// To a terminal or a pipe.
     Device,
 }
@@ -221,7 +221,7 @@ fn along(directory: Option<FilePlace>, first: Option<u16>, number: u8) -> Result
 {
     match directory {
         None => Err(number),
-        Some(directory) => Ok(Course::Along(Start { directory, first })),
+        Some(directory) => Ok(Course::Along(WalkStart { directory, first })),
     }
 }
 

@@ -18,13 +18,12 @@ use os9_outer::drive::BlockDriver;
 use rbf_walk::{DirError, Searcher};
 
 /// Who walks along a path list, and for what.
-#[derive(Clone, Copy, Debug, PartialEq, Eq)]
+#[derive(Clone, Copy, Debug)]
 pub struct Walker {
     /// The process in whose memory the path list is.
     pub process: Pid,
-    pub user: u16,
-    /// The walk is in search of a file to execute.
-    pub execute: bool,
+    /// Who searches the directories.
+    pub by: Searcher,
 }
 
 /// The last name of a path list, and the directory in which it has to be looked up.
@@ -44,7 +43,7 @@ pub struct NamePlace {
 /// The directory in which a walk begins, and the address of the first name of its path list; None
 /// if there are no names.
 #[derive(Clone, Copy, Debug, PartialEq, Eq)]
-pub struct Start {
+pub struct WalkStart {
     pub directory: FilePlace,
     pub first: Option<u16>,
 }
@@ -71,7 +70,7 @@ pub fn walk(
     disks: &mut Disks,
     devices: &mut Devices,
     walker: Walker,
-    start: Start,
+    start: WalkStart,
 ) -> Result<FilePlace, DirError>
     requires process { walker.process.0 < 33 }
     requires names { SomeFrom (cells_of memory.old walker.process.0) start.first }
@@ -221,11 +220,7 @@ fn walk_by(
         disks.new (drives_seen BlockDriver-box devices.new) }
     ensures terms_kept { devices.new.terms ≡ devices.old.terms }
 {
-    let by = Searcher {
-        user: walker.user,
-        execute: walker.execute,
-    };
-    disks.walk_to(devices, directory, name, by)
+    disks.walk_to(devices, directory, name, walker.by)
 }
 
 /// The result of a name: the file that it names, if there is one, with the address of the next

@@ -1,13 +1,9 @@
 -- What an attempt of a call on paths, files and directories does to the kernel's processes and its files.
 use Rattle.std.specs.Prelude.{ℕ, None, List}
-use Rattle.std.specs.declared.alloc.Global.{Global}
-use Rattle.std.specs.declared.dyn_box.DynBox.{DynBox}
 use Rattle.os9_base.specs.declared.call.CallEnd.{CallEnd}
 use Rattle.os9_base.specs.declared.call.CallEnd.TheVariants.{Wait}
 use Rattle.os9_base.specs.declared.registers.TimePacket.{TimePacket}
 use Rattle.os9_outer.specs.TerminalState.{TerminalState}
-use Rattle.os9_outer.specs.declared.drive.BlockDriver.{Ghosts}
-use Rattle.device_table.specs.declared.devices.DeviceTable.{DeviceTable}
 use Rattle.proc_rules.specs.CallResult.{CallResult}
 use Rattle.proc_rules.specs.Processes.{Processes}
 use Rattle.lock_model.specs.Records.{Records, with_waiting}
@@ -16,7 +12,7 @@ use Rattle.proc_state.specs.declared.state.ProcState.{ProcState}
 use Rattle.file_rules.specs.Attempts.{FileAttempts}
 use Rattle.file_rules.specs.Files.{Files, with_records}
 use Rattle.file_rules.specs.declared.path_call.PathCall.{PathCall}
-use Rattle.file_drives.specs.Drives.{DriveView, drives_seen}
+use Rattle.file_drives.specs.Drives.{DriveView}
 use Rattle.file_laws.specs.Kinds.{AreKinds}
 use Rattle.file_state.specs.Tie.{StandsFor}
 use Rattle.file_state.specs.declared.state.FileState.{FileState}
@@ -55,13 +51,6 @@ pub record Standing : Type 0 where
   pub processes : ProcState
   pub files : FileState
   pub views : List DriveView
-
--- the same with the drives of a table, as `standing BlockDriver-box s.old files.old devices.old`
-abbrev pub standing : {Table : Type 0} {Driver : Table → Type 0} {Terminals : Type 0}
-    → ((drive : DynBox Table Global Driver) → Ghosts (Driver drive.vtable)) → ProcState → FileState
-    → DeviceTable (DynBox Table Global Driver) Terminals → Standing
-standing members processes files devices =
-    record { processes = processes; files = files; views = drives_seen members devices }
 
 -- a fact of each state of the machine that it represents, in which the targets of paths and directories exist
 abbrev pub OnEach : Standing → (Processes → Files → Type 0) → Type 0

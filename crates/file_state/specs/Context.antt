@@ -1,12 +1,12 @@
 -- The context of a call on files: what it sees, and what is true before it.
-use Rattle.std.specs.Prelude.{◌≡◌, None, IfSome, List}
+use Rattle.std.specs.Prelude.{◌≡◌, None, List}
 use Rattle.std.specs.declared.alloc.Global.{Global}
 use Rattle.std.specs.declared.dyn_box.DynBox.{DynBox}
 use Rattle.device_table.specs.declared.devices.DeviceTable.{DeviceTable}
 use Rattle.os9_outer.specs.declared.drive.BlockDriver.{Ghosts}
-use Rattle.proc_rules.specs.Records.{IsLiving, record_at}
 use Rattle.io_rules.specs.Io.{pending_at}
-use Rattle.io_state.specs.Sound.{IsNoRead}
+use Rattle.io_state.specs.Context.{InCall}
+use Rattle.io_state.specs.Sound.{ReadsNoTerminal}
 use Rattle.io_state.specs.declared.requester.Requester.{Requester}
 use Rattle.file_drives.specs.Drives.{DriveView, drives_seen}
 use Rattle.file_state.specs.Attempt.{Standing}
@@ -16,21 +16,18 @@ use Rattle.file_state.specs.declared.machine.Machine.{Machine}
 abbrev pub beside : Machine → List DriveView → Standing
 beside machine views = record { processes = machine.processes; files = machine.files; views = views }
 
--- the machine with its drives, as `seen BlockDriver-box machine.old devices.old`
-abbrev pub seen : {Disk : Type 0} {Drive : Disk → Type 0} {Terminals : Type 0}
+-- the machine with its drives, as `machine_seen BlockDriver-box machine.old devices.old`
+abbrev pub machine_seen : {Disk : Type 0} {Drive : Disk → Type 0} {Terminals : Type 0}
     → ((drive : DynBox Disk Global Drive) → Ghosts (Drive drive.vtable)) → Machine
     → DeviceTable (DynBox Disk Global Drive) Terminals → Standing
-seen members machine devices = beside machine (drives_seen members devices)
+machine_seen members machine devices = beside machine (drives_seen members devices)
 
--- the process that asks is alive, these are its registers, and it has no pending call, or one that is not a read of a
--- terminal
+-- the requester's call may act on a file: it has no pending call, or one that is not a read of a terminal
 pub record InFileCall (by : Requester) (machine : Machine) : Type 0 where
-  pub lives : IsLiving machine.processes.table by.p.0
-  pub regs : by.regs ≡ (record_at machine.processes.table by.p.0).regs
-  pub no_read : IfSome (pending_at machine.files.io by.p.0) (IsNoRead machine.files.io)
+  pub calls : InCall by machine.processes
+  pub no_read : ReadsNoTerminal machine.files.io by.p.0
 
--- the process that asks is alive, these are its registers, and no call of it is pending
+-- the requester's call is at its first attempt: no call of it is pending
 pub record InFirstAttempt (by : Requester) (machine : Machine) : Type 0 where
-  pub lives : IsLiving machine.processes.table by.p.0
-  pub regs : by.regs ≡ (record_at machine.processes.table by.p.0).regs
+  pub calls : InCall by machine.processes
   pub none_pending : pending_at machine.files.io by.p.0 ≡ None

@@ -1,8 +1,8 @@
 //! Requests of calls for records of files, and what they are answered.
 
-ghost use Rattle.std.specs.Prelude.{◌≡◌, ◌<◌, None, Some, IfSome, unwrap_or};
-ghost use Rattle.io_rules.specs.Io.{pending_at, with_call};
-ghost use Rattle.io_state.specs.Sound.{IsNoRead, MayWait};
+ghost use Rattle.std.specs.Prelude.{◌≡◌, ◌<◌, None, Some, unwrap_or};
+ghost use Rattle.io_rules.specs.Io.{with_call};
+ghost use Rattle.io_state.specs.Sound.{MayWait, ReadsNoTerminal};
 ghost use Rattle.lock_model.specs.Locks.{request_of};
 ghost use Rattle.lock_model.specs.Records.{with_waiting};
 ghost use Rattle.file_rules.specs.Locking as model;
@@ -18,8 +18,8 @@ use os9_base::call::CallEnd;
 use os9_base::errors::{E_DEADLK, E_LOCK};
 use os9_base::registers::Pid;
 
-/// So many bytes from a position on of a file of this size; all from there on if they reach past its
-/// end.
+/// So many bytes from a position on of a file of this size; all from there on if they reach past
+/// its end.
 pub fn range_of(size: u32, at: u32, count: u32) -> Range
     ensures { result ≡ model.range_of size at count }
 {
@@ -66,13 +66,13 @@ impl FileState {
         }
     }
 
-    /// Asks for the record of a request of a process in a tick (Level Two manual, RBF record locking).
-    /// The answer is None if it is granted; otherwise it is how the call ends: it is refused, or it
-    /// waits in its request.
+    /// Asks for the record of a request of a process in a tick (Level Two manual, RBF record
+    /// locking). The answer is None if it is granted; otherwise it is how the call ends: it is
+    /// refused, or it waits in its request.
     pub fn ask(&mut self, p: Pid, request: Request, tick: u32) -> Option<CallEnd>
         requires process { p.0 < 33 }
         requires request { IsRequestOf self.old.io self.old.records.locks p.0 request }
-        requires no_read { IfSome (pending_at self.old.io p.0) (IsNoRead self.old.io) }
+        requires no_read { ReadsNoTerminal self.old.io p.0 }
         ensures end { result ≡ end_by (answer_in self.old.records.locks p.0 tick request) }
         ensures state { self.new ≡ asked self.old p.0 request
             (answer_in self.old.records.locks p.0 tick request) }
@@ -106,7 +106,7 @@ impl FileState {
     /// The call of a process is refused with this number. It is not pending.
     fn refuse(&mut self, p: Pid, number: u8) -> CallEnd
         requires process { p.0 < 33 }
-        requires no_read { IfSome (pending_at self.old.io p.0) (IsNoRead self.old.io) }
+        requires no_read { ReadsNoTerminal self.old.io p.0 }
         ensures end { result ≡ CallEnd.Error number }
         ensures state { self.new ≡ record self.old { io = with_call self.old.io p.0 None } }
     {
@@ -118,7 +118,7 @@ impl FileState {
     fn wait(&mut self, p: Pid, request: Request) -> CallEnd
         requires process { p.0 < 33 }
         requires may { MayWait self.old.io.paths p.0 (model.call_of request) }
-        requires no_read { IfSome (pending_at self.old.io p.0) (IsNoRead self.old.io) }
+        requires no_read { ReadsNoTerminal self.old.io p.0 }
         ensures end { result ≡ CallEnd.Wait }
         ensures state { self.new
             ≡ record self.old { io = with_call self.old.io p.0 (Some (model.call_of request)) } }

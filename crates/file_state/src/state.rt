@@ -275,9 +275,9 @@ impl FileState {
         }
     }
 
-    /// The waiting call of a process is broken off, if one waits: neither it nor its request is kept
-    /// any longer. The answer is the count in Y: what a write or a line read of a pipe has moved;
-    /// None for any other call (System Programmer's Manual, F$Icpt).
+    /// The waiting call of a process is broken off, if one waits: neither it nor its request is
+    /// kept any longer. The answer is the count in Y: what a write or a line read of a pipe has
+    /// moved; None for any other call (System Programmer's Manual, F$Icpt).
     pub fn interrupt(&mut self, p: Pid) -> Option<u16>
         requires { p.0 < 33 }
         ensures count { result ≡ interrupted_count self.old.io p.0 }

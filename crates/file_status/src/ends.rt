@@ -1,9 +1,8 @@
 //! The ends of calls on files.
 
-ghost use Rattle.std.specs.Prelude.{◌≡◌, ◌<◌, IfSome};
+ghost use Rattle.std.specs.Prelude.{◌≡◌, ◌<◌};
 ghost use Rattle.file_state.specs.Context.{InFileCall};
-ghost use Rattle.io_rules.specs.Io.{pending_at};
-ghost use Rattle.io_state.specs.Sound.{IsNoRead};
+ghost use Rattle.io_state.specs.Sound.{ReadsNoTerminal};
 ghost use Rattle.proc_rules.specs.Records.{IsLiving};
 ghost use Rattle.proc_rules.specs.Processes.{Processes, with_regs_of};
 ghost use Rattle.proc_state.specs.Tie.{Represents};
@@ -18,7 +17,7 @@ use os9_base::registers::{Pid, Regs};
 /// Refuses the call with this number. Nothing is kept of the call.
 pub(crate) fn refuse(files: &mut FileState, p: Pid, number: u8) -> CallEnd
     requires process { p.0 < 33 }
-    requires no_read { IfSome (pending_at files.old.io p.0) (IsNoRead files.old.io) }
+    requires no_read { ReadsNoTerminal files.old.io p.0 }
     ensures end { result ≡ CallEnd.Error number }
     ensures files { files.new ≡ uncalled files.old p.0 }
 {

@@ -1,12 +1,11 @@
 //! I$GetStt of a file or a directory.
 
-ghost use Rattle.std.specs.Prelude.{◌≡◌, min, None, List};
-ghost use Rattle.io_state.specs.Context.{InCall, KeepsTerminals};
-ghost use Rattle.file_state.specs.Context.{InFileCall, beside, seen};
+ghost use Rattle.std.specs.Prelude.{◌≡◌, min, List};
+ghost use Rattle.io_state.specs.Context.{SameTerminals};
+ghost use Rattle.file_state.specs.Context.{InFileCall, InFirstAttempt, beside, machine_seen};
 ghost use Rattle.os9_base.specs.declared.registers.TimePacket.{TimePacket};
 ghost use Rattle.os9_outer.specs.TerminalState.{TerminalState};
 ghost use Rattle.proc_rules.specs.Records.{IsLiving};
-ghost use Rattle.io_rules.specs.Io.{pending_at};
 ghost use Rattle.file_rules.specs.declared.path_call.PathCall.TheVariants as Call;
 ghost use Rattle.file_rules.specs.Status.{gets_size as gets_size_model, gets_end as gets_end_model, gets_descriptor as gets_descriptor_model};
 ghost use Rattle.file_drives.specs.Drives.{DriveView, drives_seen};
@@ -47,15 +46,15 @@ pub fn get_status(
     by: Requester,
     opened: &OpenFile,
 ) -> CallEnd
-    requires calls { InCall by machine.old.processes }
-    requires first { pending_at machine.old.files.io by.p.0 ≡ None }
+    requires calls { InFirstAttempt by machine.old }
     requires sound { IsSound machine.old.files (drives_seen BlockDriver-box devices.old) }
-    requires named { IsNamedInA by.p.0 opened.now (seen BlockDriver-box machine.old devices.old) }
+    requires named { IsNamedInA by.p.0 opened.now
+        (machine_seen BlockDriver-box machine.old devices.old) }
     ensures call { (now : TimePacket) (terms : List TerminalState)
         → AttemptsWithin i_getstt_calls Call.GetStt now by.p.0 result terms terms
-        (seen BlockDriver-box machine.old devices.old)
-        (seen BlockDriver-box machine.new devices.new) }
-    ensures kept { KeepsTerminals by machine.new.processes devices.old devices.new }
+        (machine_seen BlockDriver-box machine.old devices.old)
+        (machine_seen BlockDriver-box machine.new devices.new) }
+    ensures kept { SameTerminals by machine.new.processes devices.old devices.new }
 {
     get_status_of(machine, devices, by, opened)
 }
@@ -72,9 +71,9 @@ fn get_status_of(
         opened.now.place }
     ensures call { (now : TimePacket) → EndsOn opened.now gets_by_code getting_calls now by.p.0
         result
-        (seen BlockDriver-box machine.old devices.old)
-        (seen BlockDriver-box machine.new devices.new) }
-    ensures kept { KeepsTerminals by machine.new.processes devices.old devices.new }
+        (machine_seen BlockDriver-box machine.old devices.old)
+        (machine_seen BlockDriver-box machine.new devices.new) }
+    ensures kept { SameTerminals by machine.new.processes devices.old devices.new }
 {
     let regs = by.regs;
     match regs.b {
@@ -119,9 +118,9 @@ fn get_size(
         opened.now.place }
     ensures call { (now : TimePacket)
         → EndsOn opened.now gets_size_model getting_calls now by.p.0 result
-        (seen BlockDriver-box machine.old devices.old)
-        (seen BlockDriver-box machine.new devices.new) }
-    ensures kept { KeepsTerminals by machine.new.processes devices.old devices.new }
+        (machine_seen BlockDriver-box machine.old devices.old)
+        (machine_seen BlockDriver-box machine.new devices.new) }
+    ensures kept { SameTerminals by machine.new.processes devices.old devices.new }
 {
     match machine.files.disks.fd(devices, opened.place) {
         Ok(fd) => answer(machine, by, long_regs(by.regs, fd.size)),
@@ -141,9 +140,9 @@ fn get_end(
         opened.now.place }
     ensures call { (now : TimePacket)
         → EndsOn opened.now gets_end_model getting_calls now by.p.0 result
-        (seen BlockDriver-box machine.old devices.old)
-        (seen BlockDriver-box machine.new devices.new) }
-    ensures kept { KeepsTerminals by machine.new.processes devices.old devices.new }
+        (machine_seen BlockDriver-box machine.old devices.old)
+        (machine_seen BlockDriver-box machine.new devices.new) }
+    ensures kept { SameTerminals by machine.new.processes devices.old devices.new }
 {
     match machine.files.disks.fd(devices, opened.place) {
         Ok(fd) => {
@@ -168,9 +167,9 @@ fn get_descriptor(
         opened.now.place }
     ensures call { (now : TimePacket)
         → EndsOn opened.now gets_descriptor_model getting_calls now by.p.0 result
-        (seen BlockDriver-box machine.old devices.old)
-        (seen BlockDriver-box machine.new devices.new) }
-    ensures kept { KeepsTerminals by machine.new.processes devices.old devices.new }
+        (machine_seen BlockDriver-box machine.old devices.old)
+        (machine_seen BlockDriver-box machine.new devices.new) }
+    ensures kept { SameTerminals by machine.new.processes devices.old devices.new }
 {
     let regs = by.regs;
     let count = asked_count(regs.y);

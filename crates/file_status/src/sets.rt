@@ -1,8 +1,8 @@
 //! I$SetStt of a file or a directory.
 
 ghost use Rattle.std.specs.Prelude.{◌≡◌, false, true, List};
-ghost use Rattle.io_state.specs.Context.{InCall, KeepsTerminals};
-ghost use Rattle.file_state.specs.Context.{InFileCall, beside, seen};
+ghost use Rattle.io_state.specs.Context.{InCall, SameTerminals};
+ghost use Rattle.file_state.specs.Context.{InFileCall, beside, machine_seen};
 ghost use Rattle.proc_rules.specs.Processes.{Processes, with_regs_of};
 ghost use Rattle.os9_base.specs.declared.registers.TimePacket.{TimePacket as Time};
 ghost use Rattle.os9_outer.specs.TerminalState.{TerminalState};
@@ -39,12 +39,12 @@ use os9_base::errors::{E_BMODE, E_UNKSVC};
 use os9_outer::drive::BlockDriver;
 use rbf_entries::NewAttributes;
 
-/// I$SetStt of a file or a directory, at a time (System Programmer's Manual, I$SetStt; the argument
-/// of SS.Attr is this project's own): sets the status of the path in A, by the code in B. SS.Size
-/// gives the file the size in bytes in X, the high half, and U, and leaves the position unchanged.
-/// SS.Ticks sets how many ticks the requests of the path wait for a record, to the number in X.
-/// SS.Lock locks the bytes from the position on, as many as X and U say. SS.Attr gives the file the
-/// attributes in the low byte of X, whose bit 7 has no effect.
+/// I$SetStt of a file or a directory, at the time of the request (System Programmer's Manual,
+/// I$SetStt; the argument of SS.Attr is this project's own): sets the status of the path in A, by
+/// the code in B. SS.Size gives the file the size in bytes in X, the high half, and U, and leaves
+/// the position unchanged. SS.Ticks sets how many ticks the requests of the path wait for a record,
+/// to the number in X. SS.Lock locks the bytes from the position on, as many as X and U say.
+/// SS.Attr gives the file the attributes in the low byte of X, whose bit 7 has no effect.
 ///
 /// # Errors
 ///
@@ -65,12 +65,13 @@ pub fn set_status(
     requires calls { InCall by machine.old.processes }
     requires again { TriesAgain Device.SetStt by.regs machine.old.files by.p.0 }
     requires sound { IsSound machine.old.files (drives_seen BlockDriver-box devices.old) }
-    requires named { IsNamedInA by.p.0 opened.now (seen BlockDriver-box machine.old devices.old) }
+    requires named { IsNamedInA by.p.0 opened.now
+        (machine_seen BlockDriver-box machine.old devices.old) }
     ensures call { (terms : List TerminalState)
-        → TriesWithin i_setstt_calls Call.SetStt by.now by.p.0 result terms terms
-        (seen BlockDriver-box machine.old devices.old)
-        (seen BlockDriver-box machine.new devices.new) }
-    ensures kept { KeepsTerminals by machine.new.processes devices.old devices.new }
+        → TriesWithin i_setstt_calls Call.SetStt by.time by.p.0 result terms terms
+        (machine_seen BlockDriver-box machine.old devices.old)
+        (machine_seen BlockDriver-box machine.new devices.new) }
+    ensures kept { SameTerminals by machine.new.processes devices.old devices.new }
 {
     set_status_of(machine, devices, by, opened)
 }
@@ -89,10 +90,10 @@ fn set_status_of(
     requires written { can_write_model opened.now.desc.mode ≡ true → HasDataFileAt
         machine.old.files.disks
         (drives_seen BlockDriver-box devices.old) opened.now.place }
-    ensures call { SetsOn opened.now sets_by_code calls_by_code by.now by.p.0 result
-        (seen BlockDriver-box machine.old devices.old)
-        (seen BlockDriver-box machine.new devices.new) }
-    ensures kept { KeepsTerminals by machine.new.processes devices.old devices.new }
+    ensures call { SetsOn opened.now sets_by_code calls_by_code by.time by.p.0 result
+        (machine_seen BlockDriver-box machine.old devices.old)
+        (machine_seen BlockDriver-box machine.new devices.new) }
+    ensures kept { SameTerminals by machine.new.processes devices.old devices.new }
 {
     match by.regs.b {
         SS_SIZE => set_size(machine, devices, by, opened),
@@ -129,10 +130,10 @@ fn set_size(
     requires written { can_write_model opened.now.desc.mode ≡ true → HasDataFileAt
         machine.old.files.disks
         (drives_seen BlockDriver-box devices.old) opened.now.place }
-    ensures call { SetsOn opened.now sets_size_model (setting_calls SS_SIZE) by.now by.p.0 result
-        (seen BlockDriver-box machine.old devices.old)
-        (seen BlockDriver-box machine.new devices.new) }
-    ensures kept { KeepsTerminals by machine.new.processes devices.old devices.new }
+    ensures call { SetsOn opened.now sets_size_model (setting_calls SS_SIZE) by.time by.p.0 result
+        (machine_seen BlockDriver-box machine.old devices.old)
+        (machine_seen BlockDriver-box machine.new devices.new) }
+    ensures kept { SameTerminals by machine.new.processes devices.old devices.new }
 {
     if !can_write(opened.desc.mode) {
         return refuse(&mut machine.files, by.p, E_BMODE);
@@ -153,7 +154,7 @@ fn set_size(
         return end;
     }
     let sizing = LockedSizing {
-        old,
+        size_before: old,
         lock: request.lock,
     };
     size_granted(machine, devices, by, opened, sizing)
@@ -173,7 +174,7 @@ fn status_claim(range: Range) -> Claim
 /// A change of a file's size under the lock that was granted for it: the size before, and the lock.
 #[derive(Clone, Copy, Debug, PartialEq, Eq)]
 struct LockedSizing {
-    old: u32,
+    size_before: u32,
     lock: Held,
 }
 
@@ -191,15 +192,14 @@ fn size_granted(
     requires file { HasDataFileAt machine.old.files.disks
         (drives_seen BlockDriver-box devices.old) opened.now.place }
     requires granted { IsGranted machine.old.files.records.locks sizing.lock }
-    ensures call { SetsGranted opened.now (sizes_granted sizing.old sizing.lock) granted_size_calls
-        by.now
-        by.p.0 result (seen BlockDriver-box machine.old devices.old)
-        (seen BlockDriver-box machine.new devices.new) }
-    ensures kept { KeepsTerminals by machine.new.processes devices.old devices.new }
+    ensures call { SetsGranted opened.now (sizes_granted sizing.size_before sizing.lock)
+        granted_size_calls by.time by.p.0 result (machine_seen BlockDriver-box machine.old devices.old)
+        (machine_seen BlockDriver-box machine.new devices.new) }
+    ensures kept { SameTerminals by machine.new.processes devices.old devices.new }
 {
     let size = long_of(by.regs);
     let disks = &mut machine.files.disks;
-    match disks.set_size(devices, opened.place, size, by.now) {
+    match disks.set_size(devices, opened.place, size, by.time) {
         Ok(()) => enter_size(machine, by, opened, sizing),
         Err(fault) => refuse(&mut machine.files, by.p, fault.number()),
     }
@@ -216,13 +216,13 @@ fn enter_size(
     requires calls { InFileCall by machine.old }
     requires path { IsPathOf machine.old.files.io opened.now }
     requires free { conflicts machine.old.files.records.locks sizing.lock ≡ false }
-    ensures call { (m : Processes) → Represents machine.old.processes m → EndsSized sizing.old
-        sizing.lock by.regs opened.now m by.p.0 machine.old.files result machine.new.processes
+    ensures call { (m : Processes) → Represents machine.old.processes m → EndsSized
+        sizing.size_before sizing.lock by.regs opened.now m by.p.0 machine.old.files result machine.new.processes
         machine.new.files }
     ensures lives { IsLiving machine.new.processes.table by.p.0 }
 {
-    let LockedSizing { old, lock } = sizing;
-    if old == long_of(by.regs) {
+    let LockedSizing { size_before, lock } = sizing;
+    if size_before == long_of(by.regs) {
         return end_lock(machine, by, opened);
     }
     let records = &mut machine.files.records;
@@ -260,9 +260,9 @@ fn set_lock(
         opened.now.place }
     ensures call { (now : Time) → SetsOn opened.now sets_lock_model (setting_calls SS_LOCK) now
         by.p.0
-        result (seen BlockDriver-box machine.old devices.old)
-        (seen BlockDriver-box machine.new devices.new) }
-    ensures kept { KeepsTerminals by machine.new.processes devices.old devices.new }
+        result (machine_seen BlockDriver-box machine.old devices.old)
+        (machine_seen BlockDriver-box machine.new devices.new) }
+    ensures kept { SameTerminals by machine.new.processes devices.old devices.new }
 {
     if !is_for_update(opened.desc.mode) {
         return refuse(&mut machine.files, by.p, E_BMODE);
@@ -326,17 +326,17 @@ fn set_attributes(
     requires calls { InFileCall by machine.old }
     requires there { HasFileAt machine.old.files.disks (drives_seen BlockDriver-box devices.old)
         opened.now.place }
-    ensures call { EndsOn opened.now sets_attributes_model (setting_calls SS_ATTR) by.now by.p.0
+    ensures call { EndsOn opened.now sets_attributes_model (setting_calls SS_ATTR) by.time by.p.0
         result
-        (seen BlockDriver-box machine.old devices.old)
-        (seen BlockDriver-box machine.new devices.new) }
-    ensures kept { KeepsTerminals by machine.new.processes devices.old devices.new }
+        (machine_seen BlockDriver-box machine.old devices.old)
+        (machine_seen BlockDriver-box machine.new devices.new) }
+    ensures kept { SameTerminals by machine.new.processes devices.old devices.new }
 {
     let user = machine.processes.table.user(by.p);
     let asked = NewAttributes {
         attr: (by.regs.x % 256) as u8,
         user,
-        date: by.now,
+        date: by.time,
     };
     let disks = &mut machine.files.disks;
     match disks.set_attr(devices, opened.place, asked) {

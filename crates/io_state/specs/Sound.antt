@@ -1,5 +1,5 @@
 -- The invariant of the state of input and output.
-use Rattle.std.specs.Prelude.{◌≡◌, ◌⊎◌, ℕ, ◌<◌, min, true, ⊤, Option, Some, None, IsSome, List, option_map, option_and_then, length}
+use Rattle.std.specs.Prelude.{◌≡◌, ◌⊎◌, ℕ, ◌<◌, min, true, ⊤, Option, Some, None, IfSome, IsSome, List, option_map, option_and_then, length}
 use Rattle.std.specs.Option.{option_map_or}
 use Rattle.io_model.specs.Pending.{pending_of}
 use Rattle.io_model.specs.Path.{PathTable, ArePaths, desc_of, holds_path, new_number, paths_after_begin}
@@ -90,6 +90,10 @@ pub record AreWaits (io : Io) : Type 0 where
 abbrev pub IsNoRead : Io → PendingCall → Type 0
 IsNoRead io call =
     (n : ℕ) → target_at io.paths call.path.0 ≡ Some (Term n) → direction_of call.code ≡ Some Way.Reading → ⊥
+
+-- no call of a process is pending, or the pending call is not a read of a terminal
+abbrev pub ReadsNoTerminal : Io → ℕ → Type 0
+ReadsNoTerminal io p = IfSome (pending_at io p) (IsNoRead io)
 
 -- ---- the state
 

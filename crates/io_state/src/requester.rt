@@ -2,11 +2,14 @@
 
 use os9_base::registers::{Pid, Regs, TimePacket};
 
-/// Who requests a service of the kernel: the process, its registers at the call, and the time
-/// (System Programmer's Manual, "Service requests").
+/// Who requests a service of the kernel (System Programmer's Manual, "Service requests").
 #[derive(Clone, Copy, Debug, PartialEq, Eq)]
 pub struct Requester {
+    /// The process that requests.
     pub p: Pid,
+    /// Its registers at the call.
     pub regs: Regs,
-    pub now: TimePacket,
+    /// The time of the clock for a call that may set a date (`sets_date`), and any time for
+    /// another.
+    pub time: TimePacket,
 }

@@ -6,7 +6,7 @@ ghost use Rattle.io_model.specs.Path.{ArePaths, IsOpen, slot_of, new_number, fre
 ghost use Rattle.io_model.specs.Pipe.{pipes_after_begin};
 ghost use Rattle.io_model.specs.declared.path.Target.TheVariants.{Term};
 ghost use Rattle.io_rules.specs.Status.{ready_count as ready_count_model};
-ghost use Rattle.io_state.specs.Sound.{IsThere, MayWait, IsNoRead, pipe_number, pipe_opened};
+ghost use Rattle.io_state.specs.Sound.{IsThere, MayWait, ReadsNoTerminal, pipe_number, pipe_opened};
 ghost use Rattle.io_rules.specs.Close.{after_close};
 ghost use Rattle.io_rules.specs.Io.{first_io, first_paths as first_paths_model, new_desc as new_desc_model, open_path as open_path_model, with_paths, with_pipes, with_call, pending_at};
 
@@ -162,7 +162,7 @@ impl IoState {
     pub fn keep(&mut self, p: Pid, pending: Option<PendingCall>)
         requires process { p.0 < 33 }
         requires may { IfSome pending (MayWait self.old.paths p.0) }
-        requires no_read { IfSome (pending_at self.old p.0) (IsNoRead self.old) }
+        requires no_read { ReadsNoTerminal self.old p.0 }
         ensures { self.new ≡ with_call self.old p.0 pending }
     {
         self.calls[p.0 as usize] = pending;

@@ -1,10 +1,10 @@
 //! Reads and writes of terminals.
 
-ghost use Rattle.std.specs.Prelude.{◌≡◌, ◌<◌, ◌≤◌, None, IfSome, length, take, vec_len};
+ghost use Rattle.std.specs.Prelude.{◌≡◌, ◌<◌, ◌≤◌, None, length, take, vec_len};
 ghost use Rattle.io_model.specs.Line.{line_length, line_put};
 ghost use Rattle.io_model.specs.Terminal.{Arrives, Reads, Writes, stored_bytes};
-ghost use Rattle.io_rules.specs.Io.{pending_at, terminal_at, with_terminal};
-ghost use Rattle.io_state.specs.Sound.{IsNoRead, most_of};
+ghost use Rattle.io_rules.specs.Io.{terminal_at, with_terminal};
+ghost use Rattle.io_state.specs.Sound.{ReadsNoTerminal, most_of};
 ghost use Rattle.io_state.specs.Terminals as model;
 ghost use Rattle.io_state.specs.Terminals.{ChangesInCall, ChangesWithDriver, MayRead, count_of};
 ghost use Rattle.terminal_mgr.specs.Term.{read_of};
@@ -18,7 +18,7 @@ use os9_outer::terminal::CharDriver;
 
 /// An attempt of a read of a terminal: the terminal, which call reads it, and that call.
 #[derive(Clone, Copy, Debug, PartialEq, Eq)]
-pub struct TerminalAttempt {
+pub struct AttemptedRead {
     pub terminal: u8,
     pub kind: ReadKind,
     pub call: PendingCall,
@@ -31,7 +31,7 @@ impl IoState {
     pub fn read_terminal(
         &mut self,
         p: Pid,
-        read: TerminalAttempt,
+        read: AttemptedRead,
         into: &mut [u8; TYPE_AHEAD],
         devices: &mut Devices,
     ) -> Progress
@@ -69,7 +69,7 @@ impl IoState {
         devices: &mut Devices,
     ) -> Progress
         requires process { p.0 < 33 }
-        requires no_read { IfSome (pending_at self.old p.0) (IsNoRead self.old) }
+        requires no_read { ReadsNoTerminal self.old p.0 }
         requires terminal { terminal < 4 }
         requires there { terminal < vec_len devices.old.terms }
         requires most { length bytes.now ≤ 65535 }
@@ -96,7 +96,7 @@ impl IoState {
         devices: &mut Devices,
     ) -> Progress
         requires process { p.0 < 33 }
-        requires no_read { IfSome (pending_at self.old p.0) (IsNoRead self.old) }
+        requires no_read { ReadsNoTerminal self.old p.0 }
         requires terminal { terminal < 4 }
         requires there { terminal < vec_len devices.old.terms }
         requires most { length bytes.now ≤ 65535 }

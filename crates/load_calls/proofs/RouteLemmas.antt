@@ -33,7 +33,7 @@ use Rattle.file_routes.proofs.RouteLemmas.{leads-on}
 use Rattle.file_routes.specs.Reached.{Finds, WalkComes}
 use Rattle.file_routes.specs.Walks.{SomeFrom, Walks}
 use Rattle.file_routes.specs.Routes.{HasNames, IsRoute, Led, NamesOn, leads, led_by, next_step, refuses_by, route_on}
-use Rattle.file_routes.specs.declared.walk.Start.{Start}
+use Rattle.file_routes.specs.declared.walk.WalkStart.{WalkStart}
 use Rattle.file_routes.specs.declared.walk.Walker.{Walker}
 use Rattle.file_routes.specs.declared.route.Route.{Route}
 use Rattle.file_routes.specs.declared.route.Course.{Course}
@@ -42,7 +42,7 @@ use Rattle.os9_base.specs.Cells.{Cells}
 use Rattle.device_paths.specs.Standing.{NamesFrom}
 use Rattle.load_calls.proofs.FoundLemmas.{found-step}
 use Rattle.load_calls.proofs.ReadingLemmas.{OnlyReads, only-none, only-read, reads-behind, reads-broken, reads-well}
-use Rattle.load_calls.specs.Calls.{calls_at_end, calls_on_volume, found_calls, list_calls, program_calls, route_calls}
+use Rattle.load_calls.specs.Calls.{calls_at_end, calls_on_volume, found_calls, list_calls, program_calls, program_route_calls}
 use Rattle.load_calls.specs.Found.{IsFoundAt, program_by, program_size, program_there}
 use Rattle.load_calls.specs.Reading.{ReadsTo}
 use Rattle.load_calls.specs.declared.reading.ProgramRead.{ProgramRead}
@@ -96,11 +96,11 @@ module _ (asker : Asker) (files : Files) (terms : ℕ) (refusal : Option ℕ) wh
 
   calls-along : (list : PathList) (from : FilePlace) (names : List (List ℕ)) → list_of asker ≡ Ok list
       → leads asker refusal (route_of asker files terms true) ≡ comes (record { list = list; route = along from names })
-      → program_calls asker files terms refusal ≡ route_calls asker files (along from names)
+      → program_calls asker files terms refusal ≡ program_route_calls asker files (along from names)
   calls-along list from names read is =
       ap (λ (step : Step ProgramFile). calls_of step (list_calls asker files terms (list_of asker))) (program-route list (along from names) is)
       ∙ ap (λ (read : Result PathList NameFault). calls_of (program_on_route asker files list (along from names)) (list_calls asker files terms read)) read
-      ∙ ap (λ (meant : Rule.Route). calls_of (program_on_route asker files list (along from names)) (route_calls asker files meant)) (listed-route list (along from names) read is)
+      ∙ ap (λ (meant : Rule.Route). calls_of (program_on_route asker files list (along from names)) (program_route_calls asker files meant)) (listed-route list (along from names) read is)
       ∙ calls-reached from names (volume_at files from.drive) (λ v. walk_ends from.drive v (walk v.files asker.user true from.number names) (program_found asker files list))
 
   -- what comes of a call whose list leads to no file
@@ -118,7 +118,7 @@ module _ (asker : Asker) (files : Files) (terms : ℕ) (refusal : Option ℕ) wh
       (new : FileState) (before after : List DriveView) → list_of asker ≡ Ok list → leads asker refusal
       (route_of asker files terms true) ≡ comes (record { list = list; route = along from list.names })
       → ReadsTo (program_on_route asker files list (along from list.names))
-      (route_calls asker files (along from list.names)) files result buffer new before after
+      (program_route_calls asker files (along from list.names)) files result buffer new before after
       → ReadsTo (program_file asker files terms (refuses_by refusal)) (program_calls asker files terms refusal) files
       result buffer new before after
   program-along list from result buffer new before after read is it =
@@ -135,20 +135,20 @@ pub record Arrives (asker : Asker) (files : Files) (list : PathList) (from place
   pub step_is : program_on_route asker files list (along from list.names) ≡ program_there asker.user files list.next found
   pub walk_most : ℕ
   pub called : CalledAtMost walk_most views now
-  pub most_is : route_calls asker files (along from list.names) ≡ walk_most + found_calls asker.user files found
+  pub most_is : program_route_calls asker files (along from list.names) ≡ walk_most + found_calls asker.user files found
 
 module _ (asker : Asker) (process : Pid) (user : ℕ) (files : Files) (list : PathList) (from : FilePlace)
     (state new : FileState) (views now : List DriveView) (same : asker.user ≡ user) (stands : StandsFor state views
     files) (has : HasFileAt state.disks views from) (io : new.io ≡ state.io) (directories : new.directories ≡
     state.directories) (records : new.records ≡ state.records) where
   abbrev walker : Walker
-  walker = record { process = process; user = user; execute = true }
+  walker = record { process = process; by = record { user = user; execute = true } }
 
   abbrev step : Step ProgramFile
   step = program_on_route asker files list (along from list.names)
 
   abbrev most : ℕ
-  most = route_calls asker files (along from list.names)
+  most = program_route_calls asker files (along from list.names)
 
   abbrev walked : DiskVolume → ℕ
   walked v = walk_calls v.files user true from.number list.names
@@ -267,7 +267,7 @@ module _ (asker : Asker) (files : Files) (list : PathList) (from place : FilePla
 
   pub arrived-reads : (next user : ℕ) (result : Result ProgramRead ℕ) (buffer : List ℕ) → asker.user ≡ user
       → next ≡ list.next → ReadsTo (program_there user files next at.found) (found_calls user files at.found) files
-      result buffer new views after → ReadsTo whole (route_calls asker files (along from list.names)) files result
+      result buffer new views after → ReadsTo whole (program_route_calls asker files (along from list.names)) files result
       buffer new before after
   arrived-reads next user result buffer same is it =
       let there : program_there asker.user files next at.found ≡ whole = ap (λ (next : ℕ). program_there asker.user files next at.found) is ∙ sym at.step_is in
@@ -279,11 +279,11 @@ module _ (asker : Asker) (files : Files) (list : PathList) (from place : FilePla
 -- ---- the route
 
 -- the names of a course
-pub route-names : (cells : Cells) (course : Course) (start : Start) → course ≡ Along start → HasNames cells course → SomeFrom cells start.first
+pub route-names : (cells : Cells) (course : Course) (start : WalkStart) → course ≡ Along start → HasNames cells course → SomeFrom cells start.first
 route-names cells course start is has = subst (λ (course : Course). HasNames cells course) is has
 
 -- where a route leads along names, so does the list
-pub route-along : (cells : Cells) (asker : Asker) (led : Step Led) (route : Route) (start : Start)
+pub route-along : (cells : Cells) (asker : Asker) (led : Step Led) (route : Route) (start : WalkStart)
     (it : IsRoute cells asker led route) → route.course ≡ Along start
     → (led ≡ comes (record { list = it.list; route = along start.directory it.list.names })) × NamesFrom cells start.first it.list.names
 route-along cells asker led route start it is = (

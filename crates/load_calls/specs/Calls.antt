@@ -38,14 +38,14 @@ calls_on_volume user files from names (Some v) =
     + calls_on (walk v.files user true from.number names)
     (λ n. calls_at_end user files (record { drive = from.drive; number = n }) v (v.files n))
 
-abbrev pub route_calls : Asker → Files → Route → ℕ
-route_calls asker files (along from names) =
+abbrev pub program_route_calls : Asker → Files → Route → ℕ
+program_route_calls asker files (along from names) =
     calls_on_volume asker.user files from names (volume_at files from.drive)
-route_calls asker files to_device = 0
-route_calls asker files (nowhere number) = 0
+program_route_calls asker files to_device = 0
+program_route_calls asker files (nowhere number) = 0
 
 abbrev pub list_calls : Asker → Files → ℕ → Result PathList NameFault → ℕ
-list_calls asker files terms (Ok list) = route_calls asker files (route_of asker files terms true list)
+list_calls asker files terms (Ok list) = program_route_calls asker files (route_of asker files terms true list)
 list_calls asker files terms (Err fault) = 0
 
 -- for the file of the path list at X, of a call with this refusal, if any

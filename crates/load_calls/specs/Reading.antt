@@ -19,7 +19,7 @@ use Rattle.file_state.specs.Tie.{StandsFor}
 use Rattle.file_state.specs.declared.state.FileState.{FileState}
 use Rattle.rbf_access.specs.Faults.{file_error}
 use Rattle.rbf_access.specs.declared.faults.FileFault.{FileFault}
-use Rattle.load_calls.specs.Calls.{route_calls}
+use Rattle.load_calls.specs.Calls.{program_route_calls}
 use Rattle.load_calls.specs.Found.{IsFoundAt}
 use Rattle.load_calls.specs.declared.reading.ProgramRead.{ProgramRead}
 
@@ -76,7 +76,7 @@ ReadsAlong p from first next result before after =
     (m : Processes) (was : Files) (now : TimePacket) (list : PathList) → Represents before.processes m
     → StandsFor before.files before.views was → NamesFrom (cells_at m p) first list.names → next ≡ list.next
     → ReadsBetween (program_on_route (asker_of m p now) was list (along from list.names))
-    (route_calls (asker_of m p now) was (along from list.names)) was result before after
+    (program_route_calls (asker_of m p now) was (along from list.names)) was result before after
 
 -- a file was found at a place, and its drive has only been read
 pub record HasFound (place : FilePlace) (was : Files) (found : Found) (now : Standing) : Type 0 where

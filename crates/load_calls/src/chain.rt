@@ -13,8 +13,8 @@ ghost use Rattle.load_calls.specs.Loading.{GoesOn, HasFirst};
 ghost use Rattle.os9_base.specs.declared.limits.TheConstants.{MOST_GROUP_BYTES as MOST};
 ghost use Rattle.proc_model.specs.Memory.{MemoryState};
 ghost use Rattle.proc_rules.specs.Records.{IsLiving};
-ghost use Rattle.io_state.specs.Context.{InCall, KeepsTerminals};
-ghost use Rattle.file_state.specs.Context.{seen};
+ghost use Rattle.io_state.specs.Context.{InCall, SameTerminals};
+ghost use Rattle.file_state.specs.Context.{machine_seen};
 ghost use Rattle.file_drives.specs.Drives.{drives_seen};
 ghost use Rattle.proc_state.specs.Tie.{Represents};
 ghost use Rattle.load_calls.specs.Reading.{IsInBuffer};
@@ -52,9 +52,9 @@ pub fn f_chain(machine: &mut Machine, devices: &mut Devices, by: Requester) -> C
     requires calls { InCall by machine.old.processes }
     requires sound { IsSound machine.old.files (drives_seen BlockDriver-box devices.old) }
     ensures call { (now : TimePacket) → ChainsFrom now by.p.0 result (vec_len devices.old.terms)
-        (seen BlockDriver-box machine.old devices.old)
-        (seen BlockDriver-box machine.new devices.new) }
-    ensures kept { KeepsTerminals by machine.new.processes devices.old devices.new }
+        (machine_seen BlockDriver-box machine.old devices.old)
+        (machine_seen BlockDriver-box machine.new devices.new) }
+    ensures kept { SameTerminals by machine.new.processes devices.old devices.new }
     ensures io { machine.new.files.io ≡ machine.old.files.io }
     ensures directories { machine.new.files.directories ≡ machine.old.files.directories }
     ensures records { machine.new.files.records ≡ machine.old.files.records }

@@ -1,8 +1,8 @@
 //! The file of modules that a call's path list names.
 
 ghost use Rattle.std.specs.Prelude.{◌≡◌, ◌≤◌, IfOk, vec_len};
-ghost use Rattle.io_state.specs.Context.{InCall, KeepsTerminals};
-ghost use Rattle.file_state.specs.Context.{seen};
+ghost use Rattle.io_state.specs.Context.{InCall, SameTerminals};
+ghost use Rattle.file_state.specs.Context.{machine_seen};
 ghost use Rattle.file_drives.specs.Drives.{drives_seen};
 ghost use Rattle.file_drives.specs.Mounted.{HasFileAt};
 ghost use Rattle.file_rules.specs.Files.{Files};
@@ -22,12 +22,13 @@ use crate::found::{load_whole, program_size};
 use device_table::devices::Devices;
 use file_routes::calls::{call_route, call_walk};
 use file_routes::route::{Course, Located, Purpose, Query};
-use file_routes::walk::{Start, Walker};
+use file_routes::walk::{WalkStart, Walker};
 use file_state::machine::Machine;
 use io_state::requester::Requester;
 use os9_base::errors::E_FNA;
 use os9_outer::drive::BlockDriver;
 use rbf_access::FileFault;
+use rbf_walk::Searcher;
 
 /// A file of modules that was read: it is at the front of the buffer of the processes.
 #[derive(Clone, Copy, Debug, PartialEq, Eq)]
@@ -60,11 +61,11 @@ pub fn read_program(
     ensures call { ReadsFrom by.p.0
         (λ asker was. program_file asker was (vec_len devices.old.terms) (refuses_by refusal))
         (λ asker was. program_calls asker was (vec_len devices.old.terms) refusal) result
-        (seen BlockDriver-box machine.old devices.old)
-        (seen BlockDriver-box machine.new devices.new) }
+        (machine_seen BlockDriver-box machine.old devices.old)
+        (machine_seen BlockDriver-box machine.new devices.new) }
     ensures short { IfOk result (λ read. read.size ≤ MOST) }
     ensures same { IsSame machine.old.processes machine.new.processes }
-    ensures kept { KeepsTerminals by machine.new.processes devices.old devices.new }
+    ensures kept { SameTerminals by machine.new.processes devices.old devices.new }
 {
     let query = Query {
         process: by.p,
@@ -92,7 +93,7 @@ fn read_along(
     machine: &mut Machine,
     devices: &mut Devices,
     by: Requester,
-    start: Start,
+    start: WalkStart,
     next: u32,
 ) -> Result<ProgramRead, u8>
     requires calls { InCall by machine.old.processes }
@@ -100,17 +101,19 @@ fn read_along(
     requires file { HasFileAt machine.old.files.disks
         (drives_seen BlockDriver-box devices.old) start.directory }
     ensures along { ReadsAlong by.p.0 start.directory start.first next result
-        (seen BlockDriver-box machine.old devices.old)
-        (seen BlockDriver-box machine.new devices.new) }
+        (machine_seen BlockDriver-box machine.old devices.old)
+        (machine_seen BlockDriver-box machine.new devices.new) }
     ensures short { IfOk result (λ read. read.size ≤ MOST) }
     ensures same { IsSame machine.old.processes machine.new.processes }
-    ensures kept { KeepsTerminals by machine.new.processes devices.old devices.new }
+    ensures kept { SameTerminals by machine.new.processes devices.old devices.new }
 {
     let user = machine.processes.table.user(by.p);
     let walker = Walker {
         process: by.p,
-        user,
-        execute: true,
+        by: Searcher {
+            user,
+            execute: true,
+        },
     };
     let processes = &mut machine.processes;
     match call_walk(processes, &mut machine.files.disks, devices, walker, start) {
@@ -133,10 +136,10 @@ fn read_there(
     requires file { HasFileAt machine.old.files.disks
         (drives_seen BlockDriver-box devices.old) located.place }
     ensures there { (was : Files) (found : Found) → HasFound located.place was found
-        (seen BlockDriver-box machine.old devices.old)
+        (machine_seen BlockDriver-box machine.old devices.old)
         → ReadsBetween (program_there user was located.next found) (found_calls user was found) was
-        result (seen BlockDriver-box machine.old devices.old)
-        (seen BlockDriver-box machine.new devices.new) }
+        result (machine_seen BlockDriver-box machine.old devices.old)
+        (machine_seen BlockDriver-box machine.new devices.new) }
     ensures short { IfOk result (λ read. read.size ≤ MOST) }
     ensures same { IsSame machine.old.processes machine.new.processes }
     ensures terms_kept { devices.new.terms ≡ devices.old.terms }

@@ -40,7 +40,7 @@ use Rattle.file_routes.specs.declared.route.Course.{Course}
 use Rattle.name_calls.proofs.OpenLemmas.{deed-walks}
 use Rattle.file_routes.specs.Calls.{walk_and}
 use Rattle.name_calls.specs.OpenCalls.{creating_calls, new_file_calls}
-use Rattle.name_calls.specs.Steps.{creates_along, makes_there}
+use Rattle.name_calls.specs.Steps.{creates_along}
 
 -- the change that is made, beside which a path gets this number
 abbrev pub change_by : Asker → Files → PathList → List ℕ → Found → ℕ → VolumeChange
@@ -49,6 +49,10 @@ change_by asker files list name dir number = record {
   change = creates dir.place.number name asker.caller.regs.b;
   effect = opens_new asker files list dir.place.drive number;
 }
+
+-- the file is made in the directory in which its name may be entered
+abbrev pub makes_there : Asker → Files → PathList → List ℕ → Found → FileStep
+makes_there asker files list name dir = reaches dir.place.drive (creates_with_path asker files list name dir)
 
 -- ---- the tests of the directory
 

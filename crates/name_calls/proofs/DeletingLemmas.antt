@@ -137,9 +137,9 @@ module _ (asker : Asker) (files : Files) (execute : Bool) (it : NamedBy) where
 
 -- ---- by what was answered
 
-module _ (user : ℕ) (execute : Bool) (last : LastLocated) (look : Step NamedBy) (seen : ℕ) (asker : Asker)
+module _ (user : ℕ) (execute : Bool) (located : LastLocated) (look : Step NamedBy) (seen : ℕ) (asker : Asker)
     (files : Files) (old new : FileState) (before between now : List DriveView) (who : asker.user ≡ user)
-    (loc : HasFound (IsNamed Existing look files) look seen last files old before between)
+    (loc : HasFound (IsNamed Existing look files) look seen located files old before between)
     (called : CalledAtMost (deletes_it_calls seen asker execute loc.it) before now) where
   abbrev it : NamedBy
   it = loc.it
@@ -156,13 +156,13 @@ module _ (user : ℕ) (execute : Bool) (last : LastLocated) (look : Step NamedBy
   abbrev named : Option ℕ
   named = look_up dir.contents it.name
 
-  pub volume-is : volume_at files last.directory.drive ≡ Some v
+  pub volume-is : volume_at files located.last.directory.drive ≡ Some v
   volume-is = ap (λ (at : FilePlace). volume_at files at.drive) (sym loc.is.place_is) ∙ loc.is.there.volume_is
 
-  pub file-is : v.files last.directory.number ≡ Some dir
+  pub file-is : v.files located.last.directory.number ≡ Some dir
   file-is = ap (λ (at : FilePlace). v.files at.number) (sym loc.is.place_is) ∙ loc.is.there.file_is
 
-  pub at : drive_of look ≡ Some last.directory.drive
+  pub at : drive_of look ≡ Some located.last.directory.drive
   at = loc.is.reached ∙ ap (λ (place : FilePlace). Some place.drive) loc.is.place_is
 
   abbrev step : FileStep
@@ -171,19 +171,20 @@ module _ (user : ℕ) (execute : Bool) (last : LastLocated) (look : Step NamedBy
   abbrev most : ℕ
   most = deletes_it_calls seen asker execute it
 
-  refused-by : (number : ℕ) → HasRead None last.directory.drive files new before now
+  refused-by : (number : ℕ) → HasRead None located.last.directory.drive files new before now
       → deed_of (deletes_it asker files execute it) files ≡ leaves_so (refuses_so number files)
       → Tries step most asker files (Err number) new before now
-  refused-by number read deed = tries-refused look (deletes_it asker files execute) most asker files it loc.answer new before now called last.directory.drive at number read deed
+  refused-by number read deed = tries-refused look (deletes_it asker files execute) most asker files it loc.answer new before now called located.last.directory.drive at number read deed
 
   -- the name is looked for
-  pub entry-answers : (result : Result ℕ DirError) → AnswersWalk (deletion_end v.files dir last.name user execute) result → AnswersWalk (deletion_end v.files dir it.name asker.user execute) result
+  pub entry-answers : (result : Result ℕ DirError) → AnswersWalk (deletion_end v.files dir located.last.name user execute) result → AnswersWalk
+      (deletion_end v.files dir it.name asker.user execute) result
   entry-answers result fact =
       subst (λ (user : ℕ). AnswersWalk (deletion_end v.files dir it.name user execute) result) (sym who)
       (subst (λ (name : List ℕ). AnswersWalk (deletion_end v.files dir name user execute) result) (sym loc.is.name_is) fact)
 
   pub no-entry : (error : DirError) → AnswersWalk (deletion_end v.files dir it.name asker.user execute) (Err error)
-      → HasRead (directory_fault {A = Deletable} (Err error)) last.directory.drive files new before now
+      → HasRead (directory_fault {A = Deletable} (Err error)) located.last.directory.drive files new before now
       → Tries step most asker files (Err (directory_error error)) new before now
   no-entry NotAllowed fact read =
       refused-by E_FNA read (forbidden-deed (is_wanted asker files execute it) (deleted asker files execute it) files may named (by-end asker files execute it not_allowed fact))
@@ -192,13 +193,14 @@ module _ (user : ℕ) (execute : Bool) (last : LastLocated) (look : Step NamedBy
       refused-by E_PNNF read (unfound-deed (is_wanted asker files execute it) (deleted asker files execute it) files may named (by-end asker files execute it not_found fact))
   no-entry Exists fact read = absurd fact
   no-entry (File (Device number)) fact read =
-      tries-broken look (deletes_it asker files execute) most asker files it loc.answer new before now called last.directory.drive at v volume-is number (deletes-quiet asker files execute it) read
+      tries-broken look (deletes_it asker files execute) most asker files it loc.answer new before now called located.last.directory.drive at v volume-is number
+      (deletes-quiet asker files execute it) read
   no-entry (File NoCluster) fact read = absurd fact
   no-entry (File TooManyRuns) fact read = absurd fact
 
   -- the file that the entry names
   module _ (n : ℕ) (ends : deletion_end v.files dir it.name asker.user execute ≡ arrives n) (shared : Bool)
-      (shared_is : shared ≡ is_open files (record { drive = last.directory.drive; number = n })) where
+      (shared_is : shared ≡ is_open files (record { drive = located.last.directory.drive; number = n })) where
     pub names-it : named ≡ Some n
     names-it = found-named (is_wanted asker files execute it) (deleted asker files execute it) files may named n (by-end asker files execute it (arrives n) ends)
 
@@ -209,7 +211,7 @@ module _ (user : ℕ) (execute : Bool) (last : LastLocated) (look : Step NamedBy
         (ap (λ (at : FilePlace). is_open files (record { drive = at.drive; number = n })) loc.is.place_is ∙ sym shared_is)
 
     -- a path is on it
-    pub is-shared : shared ≡ true → HasRead None last.directory.drive files new before now → Tries step most asker files (Err E_SHARE) new before now
+    pub is-shared : shared ≡ true → HasRead None located.last.directory.drive files new before now → Tries step most asker files (Err E_SHARE) new before now
     is-shared is read = refused-by E_SHARE read (deed ∙ ap (λ (b : Bool). deed_of (refuses b E_SHARE (comes (changes (deletion asker files execute it n)))) files) is)
 
     -- no path is
@@ -223,22 +225,22 @@ module _ (user : ℕ) (execute : Bool) (last : LastLocated) (look : Step NamedBy
       abbrev pub asked : Asked
       asked = asked_of change asker
 
-      pub asked-is : asked.change ≡ deletes last.directory.number n last.name
+      pub asked-is : asked.change ≡ deletes located.last.directory.number n located.last.name
       asked-is =
           ap (λ (at : FilePlace). deletes at.number n it.name) loc.is.place_is
-          ∙ ap (λ (name : List ℕ). deletes last.directory.number n name) loc.is.name_is
+          ∙ ap (λ (name : List ℕ). deletes located.last.directory.number n name) loc.is.name_is
 
-      as-asked : (answer : Result ℕ DirError) → HasChanged asked answer last.directory.drive v dir files new before now → HasChanged asked answer change.drive v dir files new before now
+      as-asked : (answer : Result ℕ DirError) → HasChanged asked answer located.last.directory.drive v dir files new before now → HasChanged asked answer change.drive v dir files new before now
       as-asked answer changed = subst (λ (drive : ℕ). HasChanged asked answer drive v dir files new before now) (ap (λ (at : FilePlace). at.drive) (sym loc.is.place_is)) changed
 
-      pub is-deleted : HasChanged asked (Ok 0) last.directory.drive v dir files new before now → Tries step most asker files (Ok last.next) new before now
+      pub is-deleted : HasChanged asked (Ok 0) located.last.directory.drive v dir files new before now → Tries step most asker files (Ok located.next) new before now
       is-deleted changed =
           tries-changed look (deletes_it asker files execute) most asker files it loc.answer new before now called
-          change v dir loc.is.reached loc.is.there.volume_is loc.is.there.file_is changing 0 last.next
+          change v dir loc.is.reached loc.is.there.volume_is loc.is.there.file_is changing 0 located.next
           (ap (λ (next : ℕ). leaves (answers (record asker.caller.regs { x = next % 65536 })) files) (sym loc.is.next_is))
           (as-asked (Ok 0) changed)
 
-      pub not-deleted : (fault : FileFault) → HasChanged asked (file_answer (Err fault)) last.directory.drive v dir
+      pub not-deleted : (fault : FileFault) → HasChanged asked (file_answer (Err fault)) located.last.directory.drive v dir
           files new before now → Tries step most asker files (Err (file_error fault)) new before now
       not-deleted (Device number) changed =
           tries-broken-change look (deletes_it asker files execute) most asker files it loc.answer new before now
@@ -256,13 +258,13 @@ module _ (user : ℕ) (execute : Bool) (last : LastLocated) (look : Step NamedBy
 
 -- ---- as the calls of the drive answered
 
-module _ (user : ℕ) (execute : Bool) (last : LastLocated) (look : Step NamedBy) (seen : ℕ) (asker : Asker)
+module _ (user : ℕ) (execute : Bool) (located : LastLocated) (look : Step NamedBy) (seen : ℕ) (asker : Asker)
     (files : Files) (old mid : FileState) (before between views : List DriveView) (who : asker.user ≡ user)
-    (loc : HasFound (IsNamed Existing look files) look seen last files old before between)
+    (loc : HasFound (IsNamed Existing look files) look seen located files old before between)
     (found : Result Deletable DirError) (io : mid.io ≡ old.io) (directories : mid.directories ≡ old.directories)
-    (records : mid.records ≡ old.records) (answer : OnDisks old.disks between last.directory
-    (λ v file. AnswersWalk (deletion_end v.files file last.name user execute) (descriptor_found found)))
-    (reads : ReadsFile last.directory (directory_fault found) (λ v file. deletion_calls file last.name user execute)
+    (records : mid.records ≡ old.records) (answer : OnDisks old.disks between located.last.directory
+    (λ v file. AnswersWalk (deletion_end v.files file located.last.name user execute) (descriptor_found found)))
+    (reads : ReadsFile located.last.directory (directory_fault found) (λ v file. deletion_calls file located.last.name user execute)
     old.disks between mid.disks views) where
   abbrev way : FileStep
   way = next_step look (deletes_it asker files execute)
@@ -276,87 +278,87 @@ module _ (user : ℕ) (execute : Bool) (last : LastLocated) (look : Step NamedBy
   abbrev bound : ℕ
   bound = deletes_it_calls seen asker execute loc.it
 
-  volume-there : volume_at files last.directory.drive ≡ Some volume
+  volume-there : volume_at files located.last.directory.drive ≡ Some volume
   volume-there = ap (λ (at : FilePlace). volume_at files at.drive) (sym loc.is.place_is) ∙ loc.is.there.volume_is
 
-  file-there : volume.files last.directory.number ≡ Some folder
+  file-there : volume.files located.last.directory.number ≡ Some folder
   file-there = ap (λ (at : FilePlace). volume.files at.number) (sym loc.is.place_is) ∙ loc.is.there.file_is
 
-  searched : HasRead None last.directory.drive files old before between
+  searched : HasRead None located.last.directory.drive files old before between
   searched =
-      found-read (IsNamed Existing look files) look seen files last old before between loc last.directory.drive
+      found-read (IsNamed Existing look files) look seen files located old before between loc located.last.directory.drive
       (loc.is.reached ∙ ap (λ (place : FilePlace). Some place.drive) loc.is.place_is)
 
   -- the calls for the search and for the entry
-  same-calls : deletion_calls folder last.name user execute ≡ deletion_calls folder loc.it.name asker.user execute
+  same-calls : deletion_calls folder located.last.name user execute ≡ deletion_calls folder loc.it.name asker.user execute
   same-calls =
       ap (λ (name : List ℕ). deletion_calls folder name user execute) (sym loc.is.name_is)
       ∙ ap (λ (u : ℕ). deletion_calls folder loc.it.name u execute) (sym who)
 
-  entry-calls : CalledAtMost (seen + deletion_calls folder last.name user execute) before views
+  entry-calls : CalledAtMost (seen + deletion_calls folder located.last.name user execute) before views
   entry-calls =
-      called-then seen (deletion_calls folder last.name user execute) before between views
-      (found-calls (IsNamed Existing look files) look seen files last old before between loc)
-      (again.read-calls files last.directory volume folder volume-there file-there old mid before between views
-      searched (directory_fault found) (λ v file. deletion_calls file last.name user execute) reads)
+      called-then seen (deletion_calls folder located.last.name user execute) before between views
+      (found-calls (IsNamed Existing look files) look seen files located old before between loc)
+      (again.read-calls files located.last.directory volume folder volume-there file-there old mid before between views
+      searched (directory_fault found) (λ v file. deletion_calls file located.last.name user execute) reads)
 
   called : CalledAtMost bound before views
-  called = called-more (seen + deletion_calls folder last.name user execute) bound before views (omega (arith, same-calls)) entry-calls
+  called = called-more (seen + deletion_calls folder located.last.name user execute) bound before views (omega (arith, same-calls)) entry-calls
 
-  fact : AnswersWalk (deletion_end volume.files folder last.name user execute) (descriptor_found found)
-  fact = again.of-found files last.directory volume folder volume-there file-there old mid before between views
-      searched (λ v file. AnswersWalk (deletion_end v.files file last.name user execute) (descriptor_found found))
+  fact : AnswersWalk (deletion_end volume.files folder located.last.name user execute) (descriptor_found found)
+  fact = again.of-found files located.last.directory volume folder volume-there file-there old mid before between views
+      searched (λ v file. AnswersWalk (deletion_end v.files file located.last.name user execute) (descriptor_found found))
       answer
 
-  was-read : HasRead (directory_fault found) last.directory.drive files mid before views
-  was-read = again.read-again files last.directory volume folder volume-there file-there old mid before between views
-      searched (directory_fault found) (λ v file. deletion_calls file last.name user execute) io directories records
+  was-read : HasRead (directory_fault found) located.last.directory.drive files mid before views
+  was-read = again.read-again files located.last.directory volume folder volume-there file-there old mid before between views
+      searched (directory_fault found) (λ v file. deletion_calls file located.last.name user execute) io directories records
       reads
 
   -- no entry was found
   pub entry-refused : (error : DirError) (number : ℕ) → found ≡ Err error → number ≡ directory_error error → Tries way bound asker files (Err number) mid before views
   entry-refused error number is number_is =
       subst (λ (n : ℕ). Tries way bound asker files (Err n) mid before views) (sym number_is)
-      (no-entry user execute last look seen asker files old mid before between views who loc called error
-      (entry-answers user execute last look seen asker files old mid before between views who loc called (Err error)
-      (subst (λ (r : Result Deletable DirError). AnswersWalk (deletion_end volume.files folder last.name user
+      (no-entry user execute located look seen asker files old mid before between views who loc called error
+      (entry-answers user execute located look seen asker files old mid before between views who loc called (Err error)
+      (subst (λ (r : Result Deletable DirError). AnswersWalk (deletion_end volume.files folder located.last.name user
       execute) (descriptor_found r)) is fact))
-      (subst (λ (r : Result Deletable DirError). HasRead (directory_fault r) last.directory.drive files mid before views) is was-read))
+      (subst (λ (r : Result Deletable DirError). HasRead (directory_fault r) located.last.directory.drive files mid before views) is was-read))
 
   module _ (entry : Deletable) (is : found ≡ Ok entry) (shared : Bool) (shared_so : (f : Files) → StandsFor mid views
-      f → shared ≡ is_open f (record { drive = last.directory.drive; number = entry.descriptor })) where
-    shared_is : shared ≡ is_open files (record { drive = last.directory.drive; number = entry.descriptor })
+      f → shared ≡ is_open f (record { drive = located.last.directory.drive; number = entry.descriptor })) where
+    shared_is : shared ≡ is_open files (record { drive = located.last.directory.drive; number = entry.descriptor })
     shared_is = shared_so (with_drives files (drive_states views)) was-read.stands
 
     ends : deletion_end volume.files folder loc.it.name asker.user execute ≡ arrives entry.descriptor
-    ends = entry-answers user execute last look seen asker files old mid before between views who loc called
+    ends = entry-answers user execute located look seen asker files old mid before between views who loc called
         (Ok entry.descriptor) (subst (λ (r : Result Deletable DirError). AnswersWalk (deletion_end volume.files folder
-        last.name user execute) (descriptor_found r)) is fact)
+        located.last.name user execute) (descriptor_found r)) is fact)
 
-    read : HasRead None last.directory.drive files mid before views
-    read = subst (λ (r : Result Deletable DirError). HasRead (directory_fault r) last.directory.drive files mid before views) is was-read
+    read : HasRead None located.last.directory.drive files mid before views
+    read = subst (λ (r : Result Deletable DirError). HasRead (directory_fault r) located.last.directory.drive files mid before views) is was-read
 
     pub file-shared : shared ≡ true → Tries way bound asker files (Err E_SHARE) mid before views
-    file-shared taken = is-shared user execute last look seen asker files old mid before between views who loc called entry.descriptor ends shared shared_is taken read
+    file-shared taken = is-shared user execute located look seen asker files old mid before between views who loc called entry.descriptor ends shared shared_is taken read
 
     module _ (quiet : shared ≡ false) (new : FileState) (now : List DriveView) (new_io : new.io ≡ mid.io)
         (new_directories : new.directories ≡ mid.directories) (new_records : new.records ≡ mid.records)
-        (result : Result (Unit {0}) FileFault) (at : IsDeletableOn views last.directory last.name entry)
-        (deletes_so : (asked : Asked) → IsDeletionOn last.directory entry asked views → ChangesVolume last.directory
+        (result : Result (Unit {0}) FileFault) (at : IsDeletableOn views located.last.directory located.last.name entry)
+        (deletes_so : (asked : Asked) → IsDeletionOn located.last.directory entry asked views → ChangesVolume located.last.directory
         asked (file_answer result) (drives.deleting_calls entry.descriptor) mid.disks views new.disks now) where
       abbrev wanted : Asked
-      wanted = asked user execute last look seen asker files old mid before between views who loc called entry.descriptor ends shared shared_is quiet
+      wanted = asked user execute located look seen asker files old mid before between views who loc called entry.descriptor ends shared shared_is quiet
 
-      deleting-it : ChangesVolume last.directory wanted (file_answer result) (drives.deleting_calls entry.descriptor) mid.disks views new.disks now
+      deleting-it : ChangesVolume located.last.directory wanted (file_answer result) (drives.deleting_calls entry.descriptor) mid.disks views new.disks now
       deleting-it =
           deletes_so wanted (record {
-            name = last.name;
+            name = located.last.name;
             is = at;
-            change_is = asked-is user execute last look seen asker files old mid before between views who loc called entry.descriptor ends shared shared_is quiet;
+            change_is = asked-is user execute located look seen asker files old mid before between views who loc called entry.descriptor ends shared shared_is quiet;
           })
 
-      changed : HasChanged wanted (file_answer result) last.directory.drive volume folder files new before now
-      changed = again.changed-again files last.directory volume folder volume-there file-there mid new before views
+      changed : HasChanged wanted (file_answer result) located.last.directory.drive volume folder files new before now
+      changed = again.changed-again files located.last.directory volume folder volume-there file-there mid new before views
           now read wanted (file_answer result) (drives.deleting_calls entry.descriptor) new_io new_directories
           new_records deleting-it
 
@@ -367,23 +369,23 @@ module _ (user : ℕ) (execute : Bool) (last : LastLocated) (look : Step NamedBy
       freeing-is : option_map_or (λ n. drives.deleting_calls n volume folder volume) (look_up folder.contents loc.it.name) 0 ≡ freeing
       freeing-is =
           ap (λ (named : Option ℕ). option_map_or (λ n. drives.deleting_calls n volume folder volume) named 0)
-          (names-it user execute last look seen asker files old mid before between views who loc called entry.descriptor ends shared shared_is)
+          (names-it user execute located look seen asker files old mid before between views who loc called entry.descriptor ends shared shared_is)
 
       all-called : CalledAtMost bound before now
       all-called =
-          called-more (seen + deletion_calls folder last.name user execute + freeing) bound before now (omega (arith, same-calls, freeing-is))
-          (called-then (seen + deletion_calls folder last.name user execute) freeing before views now entry-calls
-          (again.change-calls files last.directory volume folder volume-there file-there mid new before views now read
+          called-more (seen + deletion_calls folder located.last.name user execute + freeing) bound before now (omega (arith, same-calls, freeing-is))
+          (called-then (seen + deletion_calls folder located.last.name user execute) freeing before views now entry-calls
+          (again.change-calls files located.last.directory volume folder volume-there file-there mid new before views now read
           wanted (file_answer result) (drives.deleting_calls entry.descriptor) freeing (λ left. omega arith)
           deleting-it))
 
-      pub file-deleted : result ≡ Ok tt → Tries way bound asker files (Ok last.next) new before now
+      pub file-deleted : result ≡ Ok tt → Tries way bound asker files (Ok located.next) new before now
       file-deleted done =
-          is-deleted user execute last look seen asker files old new before between now who loc all-called entry.descriptor ends shared shared_is quiet
-          (subst (λ (r : Result (Unit {0}) FileFault). HasChanged wanted (file_answer r) last.directory.drive volume folder files new before now) done changed)
+          is-deleted user execute located look seen asker files old new before between now who loc all-called entry.descriptor ends shared shared_is quiet
+          (subst (λ (r : Result (Unit {0}) FileFault). HasChanged wanted (file_answer r) located.last.directory.drive volume folder files new before now) done changed)
 
       pub file-kept : (fault : FileFault) (number : ℕ) → result ≡ Err fault → number ≡ file_error fault → Tries way bound asker files (Err number) new before now
       file-kept fault number failed number_is =
           subst (λ (n : ℕ). Tries way bound asker files (Err n) new before now) (sym number_is)
-          (not-deleted user execute last look seen asker files old new before between now who loc all-called entry.descriptor ends shared shared_is quiet fault
-          (subst (λ (r : Result (Unit {0}) FileFault). HasChanged wanted (file_answer r) last.directory.drive volume folder files new before now) failed changed))
+          (not-deleted user execute located look seen asker files old new before between now who loc all-called entry.descriptor ends shared shared_is quiet fault
+          (subst (λ (r : Result (Unit {0}) FileFault). HasChanged wanted (file_answer r) located.last.directory.drive volume folder files new before now) failed changed))

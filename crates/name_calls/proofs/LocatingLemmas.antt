@@ -24,7 +24,7 @@ use Rattle.file_routes.specs.Routes.{HasNames, IsRoute, Led, NamesOn, StartsOn, 
 use Rattle.file_routes.specs.declared.route.Route.{Route}
 use Rattle.file_routes.specs.declared.route.Course.{Course}
 use Rattle.file_routes.specs.declared.route.Course.TheVariants.{Along, Device}
-use Rattle.file_routes.specs.declared.walk.Start.{Start}
+use Rattle.file_routes.specs.declared.walk.WalkStart.{WalkStart}
 use Rattle.file_routes.specs.declared.walk.Walker.{Walker}
 use Rattle.name_calls.proofs.ListCallLemmas.{walk-part}
 use Rattle.name_calls.proofs.WalkedLemmas.{found-in, reached-there, walk-found, walk-lost}
@@ -70,13 +70,13 @@ module _ (asker : Asker) (files : Files) (terms : ℕ) (execute : Bool) (refusal
 -- ---- the walk
 
 module _ (asker : Asker) (walker : Walker) (files : Files) (list : PathList) (from : FilePlace)
-    (state new : FileState) (views now : List DriveView) (user : asker.user ≡ walker.user)
+    (state new : FileState) (views now : List DriveView) (user : asker.user ≡ walker.by.user)
     (stands : StandsFor state views files) (has : HasFileAt state.disks views from) (io : new.io ≡ state.io)
     (directories : new.directories ≡ state.directories) (records : new.records ≡ state.records) (most : ℕ)
-    (enough : (v : DiskVolume) → volume_at files from.drive ≡ Some v → walk_calls v.files walker.user walker.execute
+    (enough : (v : DiskVolume) → volume_at files from.drive ≡ Some v → walk_calls v.files walker.by.user walker.by.execute
     from.number list.names ≤ most) where
   abbrev step : Step FoundBy
-  step = walks asker files walker.execute from list.names (λ found. comes (found_by list found))
+  step = walks asker files walker.by.execute from list.names (λ found. comes (found_by list found))
 
   pub walk-located : (arrived : Result FilePlace DirError) (next : ℕ) → next ≡ list.next → Walks walker from
       list.names arrived state.disks views new.disks now → Locates step most (located_by arrived next) files new views
@@ -96,11 +96,11 @@ module _ (asker : Asker) (walker : Walker) (files : Files) (list : PathList) (fr
 -- ---- by the route
 
 -- a file is there where a course along names starts, and it has some names or none
-pub starts-along : (disks : List (Option Volume)) (views : List DriveView) (course : Course) (start : Start)
+pub starts-along : (disks : List (Option Volume)) (views : List DriveView) (course : Course) (start : WalkStart)
     → course ≡ Along start → StartsOn disks views course → HasFileAt disks views start.directory
 starts-along disks views course start is starts = subst (λ (course : Course). StartsOn disks views course) is starts
 
-pub has-along : (cells : Cells) (course : Course) (start : Start) → course ≡ Along start → HasNames cells course → SomeFrom cells start.first
+pub has-along : (cells : Cells) (course : Course) (start : WalkStart) → course ≡ Along start → HasNames cells course → SomeFrom cells start.first
 has-along cells course start is has = subst (λ (course : Course). HasNames cells course) is has
 
 module _ (asker : Asker) (files : Files) (terms : ℕ) (execute : Bool) (refusal : Option ℕ) (cells : Cells)
@@ -111,7 +111,7 @@ module _ (asker : Asker) (files : Files) (terms : ℕ) (execute : Bool) (refusal
       locates-route asker files terms execute refusal it.list it.meant it.comes_to
       ∙ ap (locates_on asker files execute it.list) (it.route_is.course_is ∙ ap (λ (course : Course). route_on (Ok course) it.list.names) is)
 
-  module _ (start : Start) (is : route.course ≡ Along start) where
+  module _ (start : WalkStart) (is : route.course ≡ Along start) where
     -- it leads along names
     locates-along : locates execute refusal asker files terms ≡ walks asker files execute start.directory it.list.names (λ found. comes (found_by it.list found))
     locates-along =
@@ -126,21 +126,21 @@ module _ (asker : Asker) (files : Files) (terms : ℕ) (execute : Bool) (refusal
         (route-is asker refusal (route_of asker files terms execute) it.list it.meant it.read it.comes_to
         ∙ it.route_is.course_is ∙ ap (λ (course : Course). route_on (Ok course) it.list.names) is)
 
-    calls-enough : (walker : Walker) → walker.execute ≡ execute → asker.user ≡ walker.user → (v : DiskVolume)
-        → volume_at files start.directory.drive ≡ Some v → walk_calls v.files walker.user walker.execute start.directory.number
+    calls-enough : (walker : Walker) → walker.by.execute ≡ execute → asker.user ≡ walker.by.user → (v : DiskVolume)
+        → volume_at files start.directory.drive ≡ Some v → walk_calls v.files walker.by.user walker.by.execute start.directory.number
         it.list.names ≤ located_calls execute (λ v file. 0) asker files terms
     calls-enough walker searches user v there =
-        subst (λ (n : ℕ). walk_calls v.files walker.user walker.execute start.directory.number it.list.names ≤ n)
-        (ap (λ (e : Bool). walk_and walker.user e start.directory.number it.list.names (λ v file. 0) (volume_at files start.directory.drive)) searches
+        subst (λ (n : ℕ). walk_calls v.files walker.by.user walker.by.execute start.directory.number it.list.names ≤ n)
+        (ap (λ (e : Bool). walk_and walker.by.user e start.directory.number it.list.names (λ v file. 0) (volume_at files start.directory.drive)) searches
         ∙ ap (λ (u : ℕ). walk_and u execute start.directory.number it.list.names (λ v file. 0) (volume_at files start.directory.drive)) (sym user)
         ∙ sym calls-along)
-        (walk-part walker.user walker.execute start.directory.number it.list.names (λ v file. 0) (volume_at files start.directory.drive) v there)
+        (walk-part walker.by.user walker.by.execute start.directory.number it.list.names (λ v file. 0) (volume_at files start.directory.drive) v there)
 
     pub names-along : NamesFrom cells start.first it.list.names
     names-along = subst (λ (course : Course). NamesOn cells course it.list.names) is it.route_is.names
 
     pub along-located : (walker : Walker) (state new : FileState) (views now : List DriveView)
-        → walker.execute ≡ execute → asker.user ≡ walker.user → StandsFor state views files → HasFileAt state.disks
+        → walker.by.execute ≡ execute → asker.user ≡ walker.by.user → StandsFor state views files → HasFileAt state.disks
         views start.directory → new.io ≡ state.io → new.directories ≡ state.directories → new.records ≡ state.records
         → (arrived : Result FilePlace DirError) (result : Result Located ℕ) → result ≡ located_by arrived route.next
         → Walks walker start.directory it.list.names arrived state.disks views new.disks now
@@ -149,7 +149,7 @@ module _ (asker : Asker) (files : Files) (terms : ℕ) (execute : Bool) (refusal
     along-located walker state new views now searches user stands has io directories records arrived result result_is walk =
         subst (λ (step : Step FoundBy). Locates step (located_calls execute (λ v file. 0) asker files terms) result files new views now)
         (ap (λ (e : Bool). walks asker files e start.directory it.list.names (λ found. comes (found_by it.list found))) searches ∙ sym locates-along)
-        (subst (λ (r : Result Located ℕ). Locates (walks asker files walker.execute start.directory it.list.names
+        (subst (λ (r : Result Located ℕ). Locates (walks asker files walker.by.execute start.directory it.list.names
         (λ found. comes (found_by it.list found))) (located_calls execute (λ v file. 0) asker files terms) r files
         new views now) (sym result_is)
         (walk-located asker walker files it.list start.directory state new views now user stands has io directories records

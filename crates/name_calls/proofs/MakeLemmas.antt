@@ -48,11 +48,11 @@ use Rattle.file_state.specs.Reached.{HasChanged, HasRead}
 use Rattle.file_state.specs.declared.state.FileState.{FileState}
 use Rattle.name_calls.proofs.BeginLemmas.{begins-numbered}
 use Rattle.name_calls.proofs.OpenCallLemmas.{entering-within, sum-behind, sum-within, within-sum}
-use Rattle.name_calls.proofs.CreateLemmas.{change_by, create-stays, creates-exists, creates-forbidden, creates-on, is-forbidden, is-proper, is-there, makes-numbered, room-broken, room-full, room-made, room-none}
+use Rattle.name_calls.proofs.CreateLemmas.{change_by, create-stays, creates-exists, creates-forbidden, creates-on, is-forbidden, is-proper, is-there, makes-numbered, makes_there, room-broken, room-full, room-made, room-none}
 use Rattle.name_calls.proofs.OpenEndLemmas.{broken, ends-as, well-refused}
 use Rattle.name_calls.specs.OpenCalls.{calls_at_place, new_file_calls}
 use Rattle.name_calls.specs.Ends.{EndsQuietly, HasReadIn}
-use Rattle.name_calls.specs.Steps.{IsFoundAt, begins, creates_there, makes_there}
+use Rattle.name_calls.specs.Steps.{IsFoundAt, begins, creates_there}
 
 -- some names have a last one
 pub last-there : (names : List (List ℕ)) → 1 ≤ length names → (name : List ℕ) × (last_of names ≡ Some name)

@@ -36,16 +36,16 @@ use Rattle.file_state.specs.Reached.{HasChanged, HasRead}
 use Rattle.file_state.specs.declared.state.FileState.{FileState}
 use Rattle.file_routes.specs.Routes.{next_step}
 use Rattle.file_routes.specs.declared.route.Purpose.TheVariants.{New}
+use Rattle.io_state.specs.declared.requester.Requester.{Requester}
 use Rattle.name_calls.proofs.AgainLemmas as again
 use Rattle.name_calls.proofs.AgainLemmas.{unchanged}
 use Rattle.name_calls.proofs.ListCallLemmas.{making-within}
 use Rattle.name_calls.proofs.LookLemmas.{found-calls, found-read}
 use Rattle.name_calls.proofs.TryLemmas.{refuses-quiet, tries-broken, tries-broken-change, tries-changed, tries-refused}
 use Rattle.name_calls.specs.Looks.{HasFound}
-use Rattle.name_calls.specs.MakDir.{Makes, makes_it, makes_it_calls}
+use Rattle.name_calls.specs.MakDir.{MakesFor, makes_it, makes_it_calls}
 use Rattle.name_calls.specs.Naming.{IsNamed, NamedBy}
 use Rattle.name_calls.specs.Tries.{Tries}
-use Rattle.name_calls.specs.declared.makdir.Making.{Making}
 use Rattle.name_calls.specs.declared.naming.LastLocated.{LastLocated}
 
 -- ---- why an entry is refused
@@ -129,9 +129,9 @@ makes-quiet asker files it =
 
 -- ---- by what was answered
 
-module _ (making : Making) (last : LastLocated) (look : Step NamedBy) (seen : ℕ) (asker : Asker) (files : Files)
-    (old new : FileState) (before between now : List DriveView) (who : Makes making asker)
-    (loc : HasFound (IsNamed New look files) look seen last files old before between)
+module _ (requester : Requester) (user : ℕ) (located : LastLocated) (look : Step NamedBy) (seen : ℕ) (asker : Asker) (files : Files)
+    (old new : FileState) (before between now : List DriveView) (who : MakesFor requester user asker)
+    (loc : HasFound (IsNamed New look files) look seen located files old before between)
     (called : CalledAtMost (makes_it_calls seen asker loc.it) before now) where
   abbrev it : NamedBy
   it = loc.it
@@ -161,13 +161,13 @@ module _ (making : Making) (last : LastLocated) (look : Step NamedBy) (seen : �
     effect = λ n. leaves (answers (past_list asker.caller.regs it.list)) files;
   }
 
-  pub volume-is : volume_at files last.directory.drive ≡ Some v
+  pub volume-is : volume_at files located.last.directory.drive ≡ Some v
   volume-is = ap (λ (at : FilePlace). volume_at files at.drive) (sym loc.is.place_is) ∙ loc.is.there.volume_is
 
-  pub file-is : v.files last.directory.number ≡ Some dir
+  pub file-is : v.files located.last.directory.number ≡ Some dir
   file-is = ap (λ (at : FilePlace). v.files at.number) (sym loc.is.place_is) ∙ loc.is.there.file_is
 
-  at : drive_of look ≡ Some last.directory.drive
+  at : drive_of look ≡ Some located.last.directory.drive
   at = loc.is.reached ∙ ap (λ (place : FilePlace). Some place.drive) loc.is.place_is
 
   abbrev step : FileStep
@@ -176,23 +176,23 @@ module _ (making : Making) (last : LastLocated) (look : Step NamedBy) (seen : �
   abbrev most : ℕ
   most = makes_it_calls seen asker it
 
-  refused-by : (number : ℕ) → HasRead None last.directory.drive files new before now
+  refused-by : (number : ℕ) → HasRead None located.last.directory.drive files new before now
       → deed_of (ladder closed there full long change) files ≡ leaves_so (refuses_so number files)
       → Tries step most asker files (Err number) new before now
-  refused-by number read deed = tries-refused look (makes_it asker files) most asker files it loc.answer new before now called last.directory.drive at number read deed
+  refused-by number read deed = tries-refused look (makes_it asker files) most asker files it loc.answer new before now called located.last.directory.drive at number read deed
 
-  broken-by : (number : ℕ) → HasRead (Some number) last.directory.drive files new before now → Tries step most asker files (Err number) new before now
+  broken-by : (number : ℕ) → HasRead (Some number) located.last.directory.drive files new before now → Tries step most asker files (Err number) new before now
   broken-by number read = tries-broken look (makes_it asker files) most asker files it loc.answer new before now
-      called last.directory.drive at v volume-is number (quiet-deed closed there full long change files tt) read
+      called located.last.directory.drive at v volume-is number (quiet-deed closed there full long change files tt) read
 
   -- the place is looked for
-  pub place-answers : (result : Result ℕ DirError) → AnswersPlace dir last.name making.user false result → AnswersPlace dir it.name asker.user false result
+  pub place-answers : (result : Result ℕ DirError) → AnswersPlace dir located.last.name user false result → AnswersPlace dir it.name asker.user false result
   place-answers result fact =
       subst (λ (user : ℕ). AnswersPlace dir it.name user false result) (sym who.user_is)
-      (subst (λ (name : List ℕ). AnswersPlace dir name making.user false result) (sym loc.is.name_is) fact)
+      (subst (λ (name : List ℕ). AnswersPlace dir name user false result) (sym loc.is.name_is) fact)
 
   pub no-place : (error : DirError) → AnswersPlace dir it.name asker.user false (Err error)
-      → HasRead (directory_fault {A = NewPlace} (Err error)) last.directory.drive files new before now
+      → HasRead (directory_fault {A = NewPlace} (Err error)) located.last.directory.drive files new before now
       → Tries step most asker files (Err (directory_error error)) new before now
   no-place NotAllowed fact read =
       refused-by E_FNA read (closed-deed closed there full long change files
@@ -210,19 +210,19 @@ module _ (making : Making) (last : LastLocated) (look : Step NamedBy) (seen : �
   no-place (File TooManyRuns) fact read = absurd fact
 
   -- the directory is made at the place
-  module _ (place : NewPlace) (user_is : place.by.user ≡ making.user) (found : IsNewPlace dir it.name asker.user false place.place) where
+  module _ (place : NewPlace) (user_is : place.by.user ≡ user) (found : IsNewPlace dir it.name asker.user false place.place) where
     abbrev asked : Asked
-    asked = record { change = makes_directory last.directory.number last.name making.attributes; user = place.by.user; now = making.now }
+    asked = record { change = makes_directory located.last.directory.number located.last.name requester.regs.b; user = place.by.user; now = requester.time }
 
     abbrev asked-as : ℕ → List ℕ → ℕ → ℕ → TimePacket → Asked
     asked-as number name attributes user now = record { change = makes_directory number name attributes; user = user; now = now }
 
     asked-is : asked ≡ asked_of change asker
     asked-is =
-        ap (λ (at : FilePlace). asked-as at.number last.name making.attributes place.by.user making.now) (sym loc.is.place_is)
-        ∙ ap (λ (name : List ℕ). asked-as it.directory.place.number name making.attributes place.by.user making.now) (sym loc.is.name_is)
-        ∙ ap (λ (attributes : ℕ). asked-as it.directory.place.number it.name attributes place.by.user making.now) (sym who.attributes_are)
-        ∙ ap (λ (user : ℕ). asked-as it.directory.place.number it.name asker.caller.regs.b user making.now) (user_is ∙ sym who.user_is)
+        ap (λ (at : FilePlace). asked-as at.number located.last.name requester.regs.b place.by.user requester.time) (sym loc.is.place_is)
+        ∙ ap (λ (name : List ℕ). asked-as it.directory.place.number name requester.regs.b place.by.user requester.time) (sym loc.is.name_is)
+        ∙ ap (λ (attributes : ℕ). asked-as it.directory.place.number it.name attributes place.by.user requester.time) (sym who.attributes_are)
+        ∙ ap (λ (user : ℕ). asked-as it.directory.place.number it.name asker.caller.regs.b user requester.time) (user_is ∙ sym who.user_is)
         ∙ ap (λ (now : TimePacket). asked-as it.directory.place.number it.name asker.caller.regs.b asker.user now) (sym who.now_is)
 
     may : closed ≡ false
@@ -231,58 +231,59 @@ module _ (making : Making) (last : LastLocated) (look : Step NamedBy) (seen : �
     absent : there ≡ false
     absent = ap (λ (o : Option ℕ). is_some o) found.absent.names_none
 
-    as-asked : (answer : Result ℕ DirError) → HasChanged asked answer last.directory.drive v dir files new before now
+    as-asked : (answer : Result ℕ DirError) → HasChanged asked answer located.last.directory.drive v dir files new before now
         → HasChanged (asked_of change asker) answer change.drive v dir files new before now
     as-asked answer changed =
         subst (λ (drive : ℕ). HasChanged (asked_of change asker) answer drive v dir files new before now) (ap (λ (at : FilePlace). at.drive) (sym loc.is.place_is))
-        (subst (λ (asked : Asked). HasChanged asked answer last.directory.drive v dir files new before now) asked-is changed)
+        (subst (λ (asked : Asked). HasChanged asked answer located.last.directory.drive v dir files new before now) asked-is changed)
 
     -- the drive failed: where it was to be refused, nothing has changed
     broken-change : (number : ℕ) (few none : Bool) → full ≡ few → long ≡ none
-        → HasChanged asked (Err (File (Device number))) last.directory.drive v dir files new before now
+        → HasChanged asked (Err (File (Device number))) located.last.directory.drive v dir files new before now
         → Tries step most asker files (Err number) new before now
     broken-change number true none is list changed =
         let refused : is_refused asked v dir ≡ true = ap (λ (b : Bool). b || long) is in
-        broken-by number (unchanged asked (Err (File (Device number))) last.directory.drive v dir files new before now volume-is changed (inr refused) (changed.answers.refused refused))
+        broken-by number (unchanged asked (Err (File (Device number))) located.last.directory.drive v dir files new before now volume-is changed (inr refused) (changed.answers.refused refused))
     broken-change number false true is list changed =
         let refused : is_refused asked v dir ≡ true = ap (λ (b : Bool). b || long) is ∙ list in
-        broken-by number (unchanged asked (Err (File (Device number))) last.directory.drive v dir files new before now volume-is changed (inr refused) (changed.answers.refused refused))
+        broken-by number (unchanged asked (Err (File (Device number))) located.last.directory.drive v dir files new before now volume-is changed (inr refused) (changed.answers.refused refused))
     broken-change number false false is list changed =
         tries-broken-change look (makes_it asker files) most asker files it loc.answer new before now called change v
         dir loc.is.reached loc.is.there.volume_is loc.is.there.file_is (room-deed closed there full long change
         files false may absent is list) number loc.drives_are
         (as-asked (Err (File (Device number))) changed)
 
-    pub is-made : (n : ℕ) → HasChanged asked (Ok n) last.directory.drive v dir files new before now → Tries step most asker files (Ok last.next) new before now
+    pub is-made : (n : ℕ) → HasChanged asked (Ok n) located.last.directory.drive v dir files new before now → Tries step most asker files (Ok located.next) new before now
     is-made n changed =
         tries-changed look (makes_it asker files) most asker files it loc.answer new before now called change v dir
         loc.is.reached loc.is.there.volume_is loc.is.there.file_is (room-deed closed there full long change files
-        false may absent changed.answers.enough changed.answers.list) n last.next
+        false may absent changed.answers.enough changed.answers.list) n located.next
         (ap (λ (next : ℕ). leaves (answers (record asker.caller.regs { x = next % 65536 })) files) (sym loc.is.next_is))
         (as-asked (Ok n) changed)
 
-    pub not-made : (fault : FileFault) → HasChanged asked (widened (Err fault)) last.directory.drive v dir files new before now → Tries step most asker files (Err (file_error fault)) new before now
+    pub not-made : (fault : FileFault) → HasChanged asked (widened (Err fault)) located.last.directory.drive v dir files new before now → Tries step most asker files
+        (Err (file_error fault)) new before now
     not-made (Device number) changed = broken-change number full long refl refl changed
     not-made NoCluster changed =
-        refused-by E_FULL (unchanged asked (Err (File NoCluster)) last.directory.drive v dir files new before now volume-is changed (inl tt) changed.answers.same)
+        refused-by E_FULL (unchanged asked (Err (File NoCluster)) located.last.directory.drive v dir files new before now volume-is changed (inl tt) changed.answers.same)
         (full-deed closed there full long change files may absent changed.answers.few)
     not-made TooManyRuns changed =
         let list : long ≡ true = elim (changed.answers.full) [
           | inl list ↦ list
           | inr none ↦ absurd none
         ] in
-        refused-by E_SLF (unchanged asked (Err (File TooManyRuns)) last.directory.drive v dir files new before now volume-is changed (inl tt) changed.answers.same)
+        refused-by E_SLF (unchanged asked (Err (File TooManyRuns)) located.last.directory.drive v dir files new before now volume-is changed (inl tt) changed.answers.same)
         (room-deed closed there full long change files true may absent changed.answers.enough list)
 
 -- ---- as the calls of the drive answered
 
-module _ (making : Making) (last : LastLocated) (look : Step NamedBy) (seen : ℕ) (asker : Asker) (files : Files)
-    (old mid : FileState) (before between views : List DriveView) (who : Makes making asker)
-    (loc : HasFound (IsNamed New look files) look seen last files old before between)
+module _ (requester : Requester) (user : ℕ) (located : LastLocated) (look : Step NamedBy) (seen : ℕ) (asker : Asker) (files : Files)
+    (old mid : FileState) (before between views : List DriveView) (who : MakesFor requester user asker)
+    (loc : HasFound (IsNamed New look files) look seen located files old before between)
     (found : Result NewPlace DirError) (io : mid.io ≡ old.io) (directories : mid.directories ≡ old.directories)
-    (records : mid.records ≡ old.records) (answer : OnDisks old.disks between last.directory
-    (λ v file. AnswersPlace file last.name making.user false (place_found found))) (reads : ReadsFile last.directory
-    (directory_fault found) (λ v file. place_calls file last.name making.user false) old.disks between mid.disks
+    (records : mid.records ≡ old.records) (answer : OnDisks old.disks between located.last.directory
+    (λ v file. AnswersPlace file located.last.name user false (place_found found))) (reads : ReadsFile located.last.directory
+    (directory_fault found) (λ v file. place_calls file located.last.name user false) old.disks between mid.disks
     views) where
   abbrev way : FileStep
   way = next_step look (makes_it asker files)
@@ -296,74 +297,74 @@ module _ (making : Making) (last : LastLocated) (look : Step NamedBy) (seen : �
   abbrev bound : ℕ
   bound = makes_it_calls seen asker loc.it
 
-  volume-there : volume_at files last.directory.drive ≡ Some volume
+  volume-there : volume_at files located.last.directory.drive ≡ Some volume
   volume-there = ap (λ (at : FilePlace). volume_at files at.drive) (sym loc.is.place_is) ∙ loc.is.there.volume_is
 
-  file-there : volume.files last.directory.number ≡ Some folder
+  file-there : volume.files located.last.directory.number ≡ Some folder
   file-there = ap (λ (at : FilePlace). volume.files at.number) (sym loc.is.place_is) ∙ loc.is.there.file_is
 
-  searched : HasRead None last.directory.drive files old before between
+  searched : HasRead None located.last.directory.drive files old before between
   searched =
-      found-read (IsNamed New look files) look seen files last old before between loc last.directory.drive
+      found-read (IsNamed New look files) look seen files located old before between loc located.last.directory.drive
       (loc.is.reached ∙ ap (λ (place : FilePlace). Some place.drive) loc.is.place_is)
 
   -- the calls for the search and for the place
-  same-calls : place_calls folder last.name making.user false ≡ place_calls folder loc.it.name asker.user false
+  same-calls : place_calls folder located.last.name user false ≡ place_calls folder loc.it.name asker.user false
   same-calls =
-      ap (λ (name : List ℕ). place_calls folder name making.user false) (sym loc.is.name_is)
+      ap (λ (name : List ℕ). place_calls folder name user false) (sym loc.is.name_is)
       ∙ ap (λ (u : ℕ). place_calls folder loc.it.name u false) (sym who.user_is)
 
-  place-called : CalledAtMost (seen + place_calls folder last.name making.user false) before views
+  place-called : CalledAtMost (seen + place_calls folder located.last.name user false) before views
   place-called =
-      called-then seen (place_calls folder last.name making.user false) before between views
-      (found-calls (IsNamed New look files) look seen files last old before between loc)
-      (again.read-calls files last.directory volume folder volume-there file-there old mid before between views
-      searched (directory_fault found) (λ v file. place_calls file last.name making.user false) reads)
+      called-then seen (place_calls folder located.last.name user false) before between views
+      (found-calls (IsNamed New look files) look seen files located old before between loc)
+      (again.read-calls files located.last.directory volume folder volume-there file-there old mid before between views
+      searched (directory_fault found) (λ v file. place_calls file located.last.name user false) reads)
 
   called : CalledAtMost bound before views
-  called = called-more (seen + place_calls folder last.name making.user false) bound before views (omega (arith, same-calls)) place-called
+  called = called-more (seen + place_calls folder located.last.name user false) bound before views (omega (arith, same-calls)) place-called
 
-  fact : AnswersPlace folder last.name making.user false (place_found found)
-  fact = again.of-found files last.directory volume folder volume-there file-there old mid before between views
-      searched (λ v file. AnswersPlace file last.name making.user false (place_found found)) answer
+  fact : AnswersPlace folder located.last.name user false (place_found found)
+  fact = again.of-found files located.last.directory volume folder volume-there file-there old mid before between views
+      searched (λ v file. AnswersPlace file located.last.name user false (place_found found)) answer
 
-  was-read : HasRead (directory_fault found) last.directory.drive files mid before views
-  was-read = again.read-again files last.directory volume folder volume-there file-there old mid before between views
-      searched (directory_fault found) (λ v file. place_calls file last.name making.user false) io directories records
+  was-read : HasRead (directory_fault found) located.last.directory.drive files mid before views
+  was-read = again.read-again files located.last.directory volume folder volume-there file-there old mid before between views
+      searched (directory_fault found) (λ v file. place_calls file located.last.name user false) io directories records
       reads
 
   -- no place was found
   pub place-refused : (error : DirError) (number : ℕ) → found ≡ Err error → number ≡ directory_error error → Tries way bound asker files (Err number) mid before views
   place-refused error number is number_is =
       subst (λ (n : ℕ). Tries way bound asker files (Err n) mid before views) (sym number_is)
-      (no-place making last look seen asker files old mid before between views who loc called error
-      (place-answers making last look seen asker files old mid before between views who loc called (Err error)
-      (subst (λ (r : Result NewPlace DirError). AnswersPlace folder last.name making.user false (place_found r))
+      (no-place requester user located look seen asker files old mid before between views who loc called error
+      (place-answers requester user located look seen asker files old mid before between views who loc called (Err error)
+      (subst (λ (r : Result NewPlace DirError). AnswersPlace folder located.last.name user false (place_found r))
       is fact))
-      (subst (λ (r : Result NewPlace DirError). HasRead (directory_fault r) last.directory.drive files mid before views) is was-read))
+      (subst (λ (r : Result NewPlace DirError). HasRead (directory_fault r) located.last.directory.drive files mid before views) is was-read))
 
-  module _ (place : NewPlace) (is : found ≡ Ok place) (user_is : place.by.user ≡ making.user) (new : FileState)
+  module _ (place : NewPlace) (is : found ≡ Ok place) (user_is : place.by.user ≡ user) (new : FileState)
       (now : List DriveView) (new_io : new.io ≡ mid.io) (new_directories : new.directories ≡ mid.directories)
-      (new_records : new.records ≡ mid.records) (result : Result ℕ FileFault) (makes : ChangesVolume last.directory
+      (new_records : new.records ≡ mid.records) (result : Result ℕ FileFault) (makes : ChangesVolume located.last.directory
       (record {
-        change = makes_directory last.directory.number last.name making.attributes;
+        change = makes_directory located.last.directory.number located.last.name requester.regs.b;
         user = place.by.user;
         now =
-            making.now;
+            requester.time;
       }) (widened result) (drives.making_calls (widened result)) mid.disks views new.disks now) where
     new-place : IsNewPlace folder loc.it.name asker.user false place.place
-    new-place = place-answers making last look seen asker files old mid before between views who loc called
-        (Ok place.place) (subst (λ (r : Result NewPlace DirError). AnswersPlace folder last.name making.user false
+    new-place = place-answers requester user located look seen asker files old mid before between views who loc called
+        (Ok place.place) (subst (λ (r : Result NewPlace DirError). AnswersPlace folder located.last.name user false
         (place_found r)) is fact)
 
-    read : HasRead None last.directory.drive files mid before views
-    read = subst (λ (r : Result NewPlace DirError). HasRead (directory_fault r) last.directory.drive files mid before views) is was-read
+    read : HasRead None located.last.directory.drive files mid before views
+    read = subst (λ (r : Result NewPlace DirError). HasRead (directory_fault r) located.last.directory.drive files mid before views) is was-read
 
     abbrev wanted : Asked
-    wanted = record { change = makes_directory last.directory.number last.name making.attributes; user = place.by.user; now = making.now }
+    wanted = record { change = makes_directory located.last.directory.number located.last.name requester.regs.b; user = place.by.user; now = requester.time }
 
-    changed : HasChanged wanted (widened result) last.directory.drive volume folder files new before now
-    changed = again.changed-again files last.directory volume folder volume-there file-there mid new before views now
+    changed : HasChanged wanted (widened result) located.last.directory.drive volume folder files new before now
+    changed = again.changed-again files located.last.directory volume folder volume-there file-there mid new before views now
         read wanted (widened result) (drives.making_calls (widened result)) new_io new_directories new_records makes
 
     -- the calls for the new directory besides
@@ -372,19 +373,19 @@ module _ (making : Making) (last : LastLocated) (look : Step NamedBy) (seen : �
 
     all-called : CalledAtMost bound before now
     all-called =
-        called-more (seen + place_calls folder last.name making.user false + making-it) bound before now (omega (arith, same-calls))
-        (called-then (seen + place_calls folder last.name making.user false) making-it before views now place-called
-        (again.change-calls files last.directory volume folder volume-there file-there mid new before views now read
+        called-more (seen + place_calls folder located.last.name user false + making-it) bound before now (omega (arith, same-calls))
+        (called-then (seen + place_calls folder located.last.name user false) making-it before views now place-called
+        (again.change-calls files located.last.directory volume folder volume-there file-there mid new before views now read
         wanted (widened result) (drives.making_calls (widened result)) making-it (making-within result volume
         folder) makes))
 
-    pub directory-made : (n : ℕ) → result ≡ Ok n → Tries way bound asker files (Ok last.next) new before now
+    pub directory-made : (n : ℕ) → result ≡ Ok n → Tries way bound asker files (Ok located.next) new before now
     directory-made n done =
-        is-made making last look seen asker files old new before between now who loc all-called place user_is new-place n
-        (subst (λ (r : Result ℕ FileFault). HasChanged wanted (widened r) last.directory.drive volume folder files new before now) done changed)
+        is-made requester user located look seen asker files old new before between now who loc all-called place user_is new-place n
+        (subst (λ (r : Result ℕ FileFault). HasChanged wanted (widened r) located.last.directory.drive volume folder files new before now) done changed)
 
     pub directory-refused : (fault : FileFault) (number : ℕ) → result ≡ Err fault → number ≡ file_error fault → Tries way bound asker files (Err number) new before now
     directory-refused fault number failed number_is =
         subst (λ (n : ℕ). Tries way bound asker files (Err n) new before now) (sym number_is)
-        (not-made making last look seen asker files old new before between now who loc all-called place user_is new-place fault
-        (subst (λ (r : Result ℕ FileFault). HasChanged wanted (widened r) last.directory.drive volume folder files new before now) failed changed))
+        (not-made requester user located look seen asker files old new before between now who loc all-called place user_is new-place fault
+        (subst (λ (r : Result ℕ FileFault). HasChanged wanted (widened r) located.last.directory.drive volume folder files new before now) failed changed))

@@ -32,7 +32,7 @@ use Rattle.file_routes.specs.declared.route.Route.{Route}
 use Rattle.file_routes.specs.declared.route.Course.{Course}
 use Rattle.file_routes.specs.declared.route.Course.TheVariants.{Along, Device}
 use Rattle.file_routes.specs.declared.walk.LastName.{LastName}
-use Rattle.file_routes.specs.declared.walk.Start.{Start}
+use Rattle.file_routes.specs.declared.walk.WalkStart.{WalkStart}
 use Rattle.file_routes.specs.declared.walk.Walker.{Walker}
 use Rattle.file_routes.specs.declared.route.Purpose.{Purpose}
 use Rattle.file_routes.specs.declared.route.Purpose.TheVariants.{Existing, New}
@@ -82,16 +82,16 @@ proper-name New asker files terms execute list from names name is last made =
 -- ---- the walk
 
 module _ (purpose : Purpose) (asker : Asker) (walker : Walker) (files : Files) (list : PathList) (from : FilePlace)
-    (state new : FileState) (views now : List DriveView) (user : asker.user ≡ walker.user)
+    (state new : FileState) (views now : List DriveView) (user : asker.user ≡ walker.by.user)
     (stands : StandsFor state views files) (has : HasFileAt state.disks views from) (io : new.io ≡ state.io)
     (directories : new.directories ≡ state.directories) (records : new.records ≡ state.records) (most : ℕ)
-    (enough : (v : DiskVolume) → volume_at files from.drive ≡ Some v → walk_calls v.files walker.user walker.execute
+    (enough : (v : DiskVolume) → volume_at files from.drive ≡ Some v → walk_calls v.files walker.by.user walker.by.execute
     from.number (before_last list.names) ≤ most) where
   abbrev step : Step NamedBy
-  step = names_on purpose asker files walker.execute list (along from list.names) (last_of list.names)
+  step = names_on purpose asker files walker.by.execute list (along from list.names) (last_of list.names)
 
   abbrev step-of : List ℕ → Step NamedBy
-  step-of name = walks asker files walker.execute from (before_last list.names) (λ directory. comes (named_by list name directory))
+  step-of name = walks asker files walker.by.execute from (before_last list.names) (λ directory. comes (named_by list name directory))
 
   module _ (proper : (name : List ℕ) → last_of list.names ≡ Some name → purpose ≡ New → is_dots name ≡ false) (next : ℕ) (next_is : next ≡ list.next) where
     pub last-located : (name : List ℕ) → last_of list.names ≡ Some name → (reached : Result LastName DirError)
@@ -100,7 +100,7 @@ module _ (purpose : Purpose) (asker : Asker) (walker : Walker) (files : Files) (
     last-located name last (Ok at) it =
         walk-found (IsNamed purpose (step-of name) files) (named_by list name) asker walker files from
         (before_last list.names) state new views now user stands has io directories records most enough
-        at.directory (record { directory = at.directory; name = at.name; next = next }) it.walks
+        at.directory (record { last = at; next = next }) it.walks
         (λ found. record {
           place_is = found.place_is;
           name_is = let same : Some name ≡ Some at.name = sym last ∙ it.name in cc;
@@ -127,7 +127,7 @@ unnamed-there New asker files execute whole most list from state views stands ha
   calls = called-nothing whole most views;
 }
 unnamed-there Existing asker files execute whole most list from state views stands has is =
-    let walker : Walker = record { process = asker.caller.process; user = asker.user; execute = execute } in
+    let walker : Walker = record { process = asker.caller.process; by = record { user = asker.user; execute = execute } } in
     let volume : (v : DiskVolume) × _ = volume-there state.disks views from files.volumes has stands.mounted in
     let it : Finds walker files from [] from = record {
       found = record { place = from; volume = volume.0; file = has.file };
@@ -163,7 +163,7 @@ module _ (purpose : Purpose) (asker : Asker) (files : Files) (terms : ℕ) (exec
       ∙ ap (λ (meant : Rule.Route). names_on purpose asker files execute it.list meant (last_of it.list.names)) (it.route_is.course_is ∙ ap (λ (course : Course). route_on (Ok course) it.list.names)
       is)
 
-  module _ (start : Start) (is : route.course ≡ Along start) where
+  module _ (start : WalkStart) (is : route.course ≡ Along start) where
     is-along : it.meant ≡ along start.directory it.list.names
     is-along = it.route_is.course_is ∙ ap (λ (course : Course). route_on (Ok course) it.list.names) is
 
@@ -190,15 +190,15 @@ module _ (purpose : Purpose) (asker : Asker) (files : Files) (terms : ℕ) (exec
         (route-is asker refusal (route_for purpose asker files terms execute) it.list it.meant it.read it.comes_to ∙ is-along)
         ∙ ap (last_calls asker files execute (λ name v dir. 0) (along start.directory it.list.names)) last
 
-    calls-enough : (name : List ℕ) → last_of it.list.names ≡ Some name → (walker : Walker) → walker.execute ≡ execute
-        → asker.user ≡ walker.user → (v : DiskVolume) → volume_at files start.directory.drive ≡ Some v → walk_calls v.files
-        walker.user walker.execute start.directory.number (before_last it.list.names) ≤ most
+    calls-enough : (name : List ℕ) → last_of it.list.names ≡ Some name → (walker : Walker) → walker.by.execute ≡ execute
+        → asker.user ≡ walker.by.user → (v : DiskVolume) → volume_at files start.directory.drive ≡ Some v → walk_calls v.files
+        walker.by.user walker.by.execute start.directory.number (before_last it.list.names) ≤ most
     calls-enough name last walker searches user v there =
-        subst (λ (n : ℕ). walk_calls v.files walker.user walker.execute start.directory.number (before_last it.list.names) ≤ n)
-        (ap (λ (e : Bool). walk_and walker.user e start.directory.number (before_last it.list.names) (λ v file. 0) (volume_at files start.directory.drive)) searches
+        subst (λ (n : ℕ). walk_calls v.files walker.by.user walker.by.execute start.directory.number (before_last it.list.names) ≤ n)
+        (ap (λ (e : Bool). walk_and walker.by.user e start.directory.number (before_last it.list.names) (λ v file. 0) (volume_at files start.directory.drive)) searches
         ∙ ap (λ (u : ℕ). walk_and u execute start.directory.number (before_last it.list.names) (λ v file. 0) (volume_at files start.directory.drive)) (sym user)
         ∙ sym (calls-along name last))
-        (walk-part walker.user walker.execute start.directory.number (before_last it.list.names) (λ v file. 0) (volume_at files start.directory.drive) v there)
+        (walk-part walker.by.user walker.by.execute start.directory.number (before_last it.list.names) (λ v file. 0) (volume_at files start.directory.drive) v there)
 
     -- a list without names
     pub along-unnamed : (state : FileState) (views : List DriveView) (number : ℕ) → start.first ≡ None
@@ -212,7 +212,7 @@ module _ (purpose : Purpose) (asker : Asker) (files : Files) (terms : ℕ) (exec
 
     -- by its last name
     pub along-named : (walker : Walker) (state new : FileState) (views now : List DriveView)
-        → walker.execute ≡ execute → asker.user ≡ walker.user → StandsFor state views files → HasFileAt state.disks
+        → walker.by.execute ≡ execute → asker.user ≡ walker.by.user → StandsFor state views files → HasFileAt state.disks
         views start.directory → new.io ≡ state.io → new.directories ≡ state.directories → new.records ≡ state.records
         → (name : List ℕ) → last_of it.list.names ≡ Some name → (reached : Result LastName DirError)
         (result : Result LastLocated ℕ) → result ≡ last_by reached route.next → WalksToLast walker start.directory it.list.names
@@ -221,7 +221,7 @@ module _ (purpose : Purpose) (asker : Asker) (files : Files) (terms : ℕ) (exec
         subst (λ (step : Step NamedBy). LocatesLast purpose step most result files new views now)
         (ap (λ (e : Bool). walks asker files e start.directory (before_last it.list.names) (λ directory. comes (named_by it.list name directory))) searches
         ∙ sym (names-along-route ∙ ap (names_on purpose asker files execute it.list (along start.directory it.list.names)) last))
-        (subst (λ (r : Result LastLocated ℕ). LocatesLast purpose (walks asker files walker.execute start.directory
+        (subst (λ (r : Result LastLocated ℕ). LocatesLast purpose (walks asker files walker.by.execute start.directory
         (before_last it.list.names) (λ directory. comes (named_by it.list name directory))) most r files new views
         now) (sym result_is)
         (last-located purpose asker walker files it.list start.directory state new views now user stands has io directories
@@ -264,10 +264,10 @@ has-last cells at names stand =
 pub reached-directory : (drive next : ℕ) (disks : List (Option Volume)) (views : List DriveView)
     (reached : Result LastName DirError) (result : Result LastLocated ℕ) → result ≡ last_by reached next
     → IfOk (directory_reached reached) (ArrivesOn drive disks views)
-    → IfOk result (λ last. HasFileAt disks views last.directory)
+    → IfOk result (λ located. HasFileAt disks views located.last.directory)
 reached-directory drive next disks views reached result is holds =
-    subst (λ (r : Result LastLocated ℕ). IfOk r (λ last. HasFileAt disks views last.directory)) (sym is) (by reached holds)
+    subst (λ (r : Result LastLocated ℕ). IfOk r (λ located. HasFileAt disks views located.last.directory)) (sym is) (by reached holds)
   where
-    by : (reached : Result LastName DirError) → IfOk (directory_reached reached) (ArrivesOn drive disks views) → IfOk (last_by reached next) (λ last. HasFileAt disks views last.directory)
+    by : (reached : Result LastName DirError) → IfOk (directory_reached reached) (ArrivesOn drive disks views) → IfOk (last_by reached next) (λ located. HasFileAt disks views located.last.directory)
     by (Ok last) it = it.file
     by (Err error) it = tt

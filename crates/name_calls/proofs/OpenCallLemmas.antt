@@ -24,7 +24,7 @@ use Rattle.file_routes.specs.declared.route.Purpose.TheVariants.{Existing, New}
 use Rattle.file_routes.specs.declared.route.Route.{Route}
 use Rattle.file_routes.specs.declared.route.Course.{Course}
 use Rattle.file_routes.specs.declared.route.Course.TheVariants.{Along}
-use Rattle.file_routes.specs.declared.walk.Start.{Start}
+use Rattle.file_routes.specs.declared.walk.WalkStart.{WalkStart}
 use Rattle.file_routes.specs.Calls.{listed_calls, walk_and}
 use Rattle.name_calls.specs.OpenCalls.{calls_at_place, creating_calls, i_create_calls, i_open_calls, opening_calls}
 
@@ -97,7 +97,7 @@ led-route None list (nowhere number) meant is = ap route_led is
 led-route (Some number) list led meant is = cc
 
 led-along : (cells : Cells) (asker : Asker) (refusal : Option ℕ) (meant : PathList → Rule.Route) (route : Route)
-    (start : Start) (it : IsRoute cells asker (leads asker refusal meant) route) → route.course ≡ Along start
+    (start : WalkStart) (it : IsRoute cells asker (leads asker refusal meant) route) → route.course ≡ Along start
     → meant it.list ≡ along start.directory it.list.names
 led-along cells asker refusal meant route start it is =
     led-route refusal it.list (meant it.list) it.meant
@@ -106,7 +106,7 @@ led-along cells asker refusal meant route start it is =
     ∙ ap (λ (course : Course). route_on (Ok course) it.list.names) is
 
 module _ (cells : Cells) (asker : Asker) (files : Files) (terms : ℕ) (refusal : Option ℕ) (execute : Bool)
-    (execute_is : execute ≡ is_for_execution asker.caller.regs.a) (route : Route) (start : Start)
+    (execute_is : execute ≡ is_for_execution asker.caller.regs.a) (route : Route) (start : WalkStart)
   where
     pub open-calls : (it : IsRoute cells asker (leads asker refusal (route_for Existing asker files terms execute)) route)
         → route.course ≡ Along start → opening_calls asker files (along start.directory it.list.names) ≡ i_open_calls asker files

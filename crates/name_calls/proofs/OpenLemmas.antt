@@ -30,7 +30,7 @@ use Rattle.file_routes.specs.declared.route.Route.{Route}
 use Rattle.file_routes.specs.declared.route.Course.{Course}
 use Rattle.file_routes.specs.declared.route.Purpose.TheVariants.{Existing}
 use Rattle.name_calls.proofs.OpenEndLemmas.{regs-tied, user-tied}
-use Rattle.name_calls.specs.Steps.{begins, opens_there}
+use Rattle.name_calls.specs.Steps.{begins}
 
 -- ---- what it does is done where no drive failed
 
@@ -60,6 +60,10 @@ module _ (P : Deed → Type 0) (asker : Asker) (files : Files) (refusal : (numbe
   deed-walks execute from names = with-volume execute from names (volume_at files from.drive)
 
 -- ---- I$Open of a file that was found
+
+-- at the file that a walk has reached
+abbrev pub opens_there : Asker → Files → PathList → Found → FileStep
+opens_there asker files list found = reaches found.place.drive (opens_found asker files list found)
 
 -- it changes no volume
 module _ (asker : Asker) (files : Files) (v : DiskVolume) where

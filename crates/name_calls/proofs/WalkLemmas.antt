@@ -44,11 +44,11 @@ use Rattle.name_calls.specs.Steps.{IsFoundAt, walker_at}
 
 module _ (m : Processes) (was : Files) (now : TimePacket) (p : ℕ) (terms : List TerminalState) (walker : Walker)
     (from : FilePlace) (names : List (List ℕ)) (state new : FileState) (before after : List DriveView)
-    (user : (asker_of m p now).user ≡ walker.user) (stands : StandsFor state before was) (has : HasFileAt state.disks
+    (user : (asker_of m p now).user ≡ walker.by.user) (stands : StandsFor state before was) (has : HasFileAt state.disks
     before from) (io : new.io ≡ state.io) (directories : new.directories ≡ state.directories)
     (records : new.records ≡ state.records) (next : Found → FileStep) where
   abbrev step : FileStep
-  step = walks (asker_of m p now) was walker.execute from names next
+  step = walks (asker_of m p now) was walker.by.execute from names next
 
   -- the volume of its drive
   on-volume : (v : DiskVolume) × (volume_at was from.drive ≡ Some v)
@@ -64,14 +64,14 @@ module _ (m : Processes) (was : Files) (now : TimePacket) (p : ℕ) (terms : Lis
   module _ (arrived : Result FilePlace DirError) (it : Walks walker from names arrived state.disks before new.disks after) where
     -- and was read, by the volume
     pub read : (v : DiskVolume) → volume_at was from.drive ≡ Some v
-        → HasReadIn (walk_calls v.files walker.user walker.execute from.number names) (directory_fault arrived)
+        → HasReadIn (walk_calls v.files walker.by.user walker.by.execute from.number names) (directory_fault arrived)
         from.drive was new before after
     read v is = record {
       first = stands.drives;
-      read = reached.has-read state new before after was from has.file (directory_fault arrived) (λ v file. walk_calls v.files walker.user walker.execute from.number names) stands
+      read = reached.has-read state new before after was from has.file (directory_fault arrived) (λ v file. walk_calls v.files walker.by.user walker.by.execute from.number names) stands
           (ap (option_and_then (λ (v : DiskVolume). v.files from.number)) is ∙ there v is) io directories records it.drive;
       calls = called-read state new before after was from v has.file (directory_fault arrived)
-          (λ v file. walk_calls v.files walker.user walker.execute from.number names) stands is (there v is) it.drive;
+          (λ v file. walk_calls v.files walker.by.user walker.by.execute from.number names) stands is (there v is) it.drive;
     }
 
     comes-to : WalkComes walker was from names arrived
@@ -112,7 +112,7 @@ module _ (m : Processes) (was : Files) (now : TimePacket) (p : ℕ) (terms : Lis
     }
 
     abbrev calls_before : ℕ
-    calls_before = walk_calls finds.found.volume.files walker.user walker.execute from.number names
+    calls_before = walk_calls finds.found.volume.files walker.by.user walker.by.execute from.number names
 
     pub read-there : HasReadIn calls_before None place.drive was new before after
     read-there =
@@ -126,24 +126,24 @@ module _ (m : Processes) (was : Files) (now : TimePacket) (p : ℕ) (terms : Lis
 
   -- ---- the call ends, with what may be called for the file that is found
 
-  module _ (most : DiskVolume → DiskFile → ℕ) (execute : Bool) (execute_is : walker.execute ≡ execute) where
+  module _ (most : DiskVolume → DiskFile → ℕ) (execute : Bool) (execute_is : walker.by.execute ≡ execute) where
     abbrev walked : Bool → FileStep
     walked execute = walks (asker_of m p now) was execute from names next
 
     abbrev walked_calls : Bool → ℕ
     walked_calls execute = walk_and (asker_of m p now).user execute from.number names most (volume_at was from.drive)
 
-    asked : walk_and walker.user walker.execute from.number names most (volume_at was from.drive) ≡ walked_calls walker.execute
-    asked = ap (λ (user : ℕ). walk_and user walker.execute from.number names most (volume_at was from.drive)) (sym user)
+    asked : walk_and walker.by.user walker.by.execute from.number names most (volume_at was from.drive) ≡ walked_calls walker.by.execute
+    asked = ap (λ (user : ℕ). walk_and user walker.by.execute from.number names most (volume_at was from.drive)) (sym user)
 
     read-within : (arrived : Result FilePlace DirError) → Walks walker from names arrived state.disks before new.disks
-        after → HasReadIn (walked_calls walker.execute) (directory_fault arrived) from.drive was new before after
+        after → HasReadIn (walked_calls walker.by.execute) (directory_fault arrived) from.drive was new before after
     read-within arrived it =
         subst (λ (n : ℕ). HasReadIn n (directory_fault arrived) from.drive was new before after) asked
-        (read-more (walk_calls on-volume.0.files walker.user walker.execute from.number names)
-        (walk_and walker.user walker.execute from.number names most (volume_at was from.drive))
+        (read-more (walk_calls on-volume.0.files walker.by.user walker.by.execute from.number names)
+        (walk_and walker.by.user walker.by.execute from.number names most (volume_at was from.drive))
         (directory_fault arrived) from.drive was new before after
-        (walk-within walker.user walker.execute from.number names most on-volume.0 (volume_at was from.drive) on-volume.1)
+        (walk-within walker.by.user walker.by.execute from.number names most on-volume.0 (volume_at was from.drive) on-volume.1)
         (read arrived it on-volume.0 on-volume.1))
 
     module _ (end : CallEnd) (processes : ProcState) where
@@ -156,7 +156,7 @@ module _ (m : Processes) (was : Files) (now : TimePacket) (p : ℕ) (terms : Lis
       walk-ends error it io_then io_is end_is tied stays =
           subst (λ (execute : Bool). Ends (walked execute) (walked_calls execute) m was now p end processes (record new { io = io_then }) before after terms) execute_is
           (read-ends m p new after end processes io_then io_is (directory_error error) end_is tied was now terms
-          (walked_calls walker.execute) step (directory_fault {A = FilePlace} (Err error)) from.drive before
+          (walked_calls walker.by.execute) step (directory_fault {A = FilePlace} (Err error)) from.drive before
           reached-there
           (read-within (Err error) it) (walk-refused stays error it))
 
@@ -171,16 +171,17 @@ module _ (m : Processes) (was : Files) (now : TimePacket) (p : ℕ) (terms : Lis
           subst (λ (execute : Bool). Ends (walked execute) (walked_calls execute) m was now p end processes left before later terms) execute_is
           (ends-as m was now p end processes left before later terms
           (reaches found.found.place.drive (next found.found)) step
-          (calls_before place it + most found.found.volume found.found.file) (walked_calls walker.execute)
+          (calls_before place it + most found.found.volume found.found.file) (walked_calls walker.by.execute)
           (sym (goes-there place it))
-          (walk-found walker.user walker.execute from.number names most found.found.volume (volume_at was from.drive) found.volume_is place.number found.found.file found.end_is found.file_is ∙ asked)
+          (walk-found walker.by.user walker.by.execute from.number names most found.found.volume
+          (volume_at was from.drive) found.volume_is place.number found.found.file found.end_is found.file_is ∙ asked)
           ended)
 
 -- ---- who walks
 
 pub record IsWalkerOf (m : Processes) (p : ℕ) (walker : Walker) : Type 0 where
-  pub user : user_at m p ≡ walker.user
-  pub execute : walker.execute ≡ is_for_execution (regs_at m p).a
+  pub user : user_at m p ≡ walker.by.user
+  pub execute : walker.by.execute ≡ is_for_execution (regs_at m p).a
   pub stand : (first : ℕ) (names : List (List ℕ)) → NamesStand (cells_at m p) first names → NamesStand (cells_at m walker.process.0) first names
   pub names : (first : Option ℕ) (names : List (List ℕ)) → NamesFrom (cells_at m p) first names → NamesFrom (cells_at m walker.process.0) first names
 

@@ -34,24 +34,24 @@ found-in walker files from names place it = record {
   file_is = ap (λ (at : FilePlace). it.found.volume.files at.number) it.place_is ∙ it.file_is;
 }
 
-module _ {A : Type 0} (asker : Asker) (walker : Walker) (files : Files) (from : FilePlace) (names : List (List ℕ)) (user : asker.user ≡ walker.user) (next : Found → Step A) where
+module _ {A : Type 0} (asker : Asker) (walker : Walker) (files : Files) (from : FilePlace) (names : List (List ℕ)) (user : asker.user ≡ walker.by.user) (next : Found → Step A) where
   -- its drive was reached
-  pub reached-there : (place : FilePlace) (it : Finds walker files from names place) → drive_of (walks asker files walker.execute from names next) ≡ Some it.found.place.drive
+  pub reached-there : (place : FilePlace) (it : Finds walker files from names place) → drive_of (walks asker files walker.by.execute from names next) ≡ Some it.found.place.drive
   reached-there place it =
       walks-reaches asker walker files from names user next it.found.volume it.volume_is
       ∙ ap (λ (drive : ℕ). Some drive) (sym it.drive_is ∙ ap (λ (at : FilePlace). at.drive) (sym it.place_is))
 
 module _ {A R : Type 0} (fact : A → R → Type 0) (made : Found → A) (asker : Asker) (walker : Walker) (files : Files)
     (from : FilePlace) (names : List (List ℕ)) (state new : FileState) (views now : List DriveView)
-    (user : asker.user ≡ walker.user) (stands : StandsFor state views files) (has : HasFileAt state.disks views from)
+    (user : asker.user ≡ walker.by.user) (stands : StandsFor state views files) (has : HasFileAt state.disks views from)
     (io : new.io ≡ state.io) (directories : new.directories ≡ state.directories)
     (records : new.records ≡ state.records) (most : ℕ) (enough : (v : DiskVolume) → volume_at files from.drive ≡ Some
-    v → walk_calls v.files walker.user walker.execute from.number names ≤ most) where
+    v → walk_calls v.files walker.by.user walker.by.execute from.number names ≤ most) where
   abbrev next : Found → Step A
   next found = comes (made found)
 
   abbrev step : Step A
-  step = walks asker files walker.execute from names next
+  step = walks asker files walker.by.execute from names next
 
   there : file_in files from ≡ Some has.file
   there =
@@ -61,7 +61,7 @@ module _ {A R : Type 0} (fact : A → R → Type 0) (made : Found → A) (asker 
   module _ (arrived : Result FilePlace DirError) (it : Walks walker from names arrived state.disks views new.disks now) where
     read : HasRead (directory_fault arrived) from.drive files new views now
     read = reached.has-read state new views now files from has.file (directory_fault arrived)
-        (λ v file. walk_calls v.files walker.user walker.execute from.number names) stands there io directories
+        (λ v file. walk_calls v.files walker.by.user walker.by.execute from.number names) stands there io directories
         records it.drive
 
     called : CalledAtMost (calls_of step most) views now
@@ -69,9 +69,9 @@ module _ {A R : Type 0} (fact : A → R → Type 0) (made : Found → A) (asker 
         let volume = volume-there state.disks views from files.volumes has stands.mounted in
         let of-walk = enough volume.0 volume.1 in
         let of-step = calls-reached step from.drive most (walks-reaches asker walker files from names user next volume.0 volume.1) in
-        called-more (walk_calls volume.0.files walker.user walker.execute from.number names) (calls_of step most) views now (omega (arith, of-walk, of-step))
+        called-more (walk_calls volume.0.files walker.by.user walker.by.execute from.number names) (calls_of step most) views now (omega (arith, of-walk, of-step))
         (called-read state new views now files from volume.0 has.file (directory_fault arrived)
-        (λ v file. walk_calls v.files walker.user walker.execute from.number names) stands volume.1
+        (λ v file. walk_calls v.files walker.by.user walker.by.execute from.number names) stands volume.1
         (file-there state.disks views from has files.volumes volume.0 stands.mounted volume.1) it.drive)
 
     comes-to : WalkComes walker files from names arrived

@@ -59,13 +59,13 @@ CreatesAlong from first next now p end before after =
 
 -- ---- in the directory that a walk has reached
 
--- I$Create with a last name, which is not dots, in the directory that a walk has reached: the walk began in such a
--- state, with these drives, and has called its drive at most `most` times
+-- I$Create with a last name, which is not dots, in the directory that a walk has reached: the walk began in a state
+-- that the kernel's state represents, with these drives, and has called its drive at most `most` times
 abbrev pub CreatesThere : LastLocated → TimePacket → ℕ → CallEnd → Standing → Standing → Type 0
-CreatesThere last now p end before after =
+CreatesThere located now p end before after =
     (m : Processes) (was : Files) (list : PathList) (dir : Found) (most : ℕ) (drives : List DriveView)
     → Represents before.processes m
-    → HasReadIn most None last.directory.drive was before.files drives before.views
-    → IsFoundAt was last.directory dir → list.next ≡ last.next → is_dots last.name ≡ false
-    → EndsIn (creates_there (asker_of m p now) was list last.name dir)
-    (most + new_file_calls (asker_of m p now) last.name dir.volume dir.file) m was now p end drives after
+    → HasReadIn most None located.last.directory.drive was before.files drives before.views
+    → IsFoundAt was located.last.directory dir → list.next ≡ located.next → is_dots located.last.name ≡ false
+    → EndsIn (creates_there (asker_of m p now) was list located.last.name dir)
+    (most + new_file_calls (asker_of m p now) located.last.name dir.volume dir.file) m was now p end drives after

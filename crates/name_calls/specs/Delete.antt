@@ -25,8 +25,8 @@ deletes_it_calls seen asker execute it =
 -- result
 abbrev pub DeletesIn : ℕ → Bool → LastLocated → FileState → List DriveView → Result ℕ ℕ → FileState → List DriveView
     → Type 0
-DeletesIn user execute last old views result new after =
+DeletesIn user execute located old views result new after =
     (look : Step NamedBy) (seen : ℕ) (asker : Asker) (files : Files) (before : List DriveView) → asker.user ≡ user
-    → (loc : HasFound (IsNamed Existing look files) look seen last files old before views)
+    → (loc : HasFound (IsNamed Existing look files) look seen located files old before views)
     → Tries (next_step look (deletes_it asker files execute)) (deletes_it_calls seen asker execute loc.it) asker files
     result new before after

@@ -5,33 +5,33 @@ use Rattle.file_rules.specs.Files.{Asker, Files}
 use Rattle.file_rules.specs.MakDir.{makes_in}
 use Rattle.file_rules.specs.Step.{FileStep, Step}
 use Rattle.file_state.specs.declared.state.FileState.{FileState}
+use Rattle.io_state.specs.declared.requester.Requester.{Requester}
 use Rattle.file_routes.specs.Routes.{next_step}
 use Rattle.file_routes.specs.declared.route.Purpose.TheVariants.{New}
 use Rattle.name_calls.specs.ListCalls.{making_calls}
 use Rattle.name_calls.specs.Looks.{HasFound}
 use Rattle.name_calls.specs.Naming.{IsNamed, NamedBy}
 use Rattle.name_calls.specs.Tries.{Tries}
-use Rattle.name_calls.specs.declared.makdir.Making.{Making}
 use Rattle.name_calls.specs.declared.naming.LastLocated.{LastLocated}
 
 abbrev pub makes_it : Asker → Files → NamedBy → FileStep
 makes_it asker files it = makes_in asker files it.list it.name it.directory
 
--- who makes it, with which attributes and at what time
-pub record Makes (making : Making) (asker : Asker) : Type 0 where
-  pub user_is : asker.user ≡ making.user
-  pub attributes_are : asker.caller.regs.b ≡ making.attributes
-  pub now_is : asker.now ≡ making.now
+-- the asker makes it for this user, with the attributes and at the time of this request
+pub record MakesFor (by : Requester) (user : ℕ) (asker : Asker) : Type 0 where
+  pub user_is : asker.user ≡ user
+  pub attributes_are : asker.caller.regs.b ≡ by.regs.b
+  pub now_is : asker.now ≡ by.time
 
 -- the greatest number of drive calls after a search that has found this with `seen` calls, those of the search included
 abbrev pub makes_it_calls : ℕ → Asker → NamedBy → ℕ
 makes_it_calls seen asker it = seen + making_calls asker.user it.name it.directory.volume it.directory.file
 
 -- after any search that has found the name and its directory, the attempt has this result
-abbrev pub MakesIn : Making → LastLocated → FileState → List DriveView → Result ℕ ℕ → FileState → List DriveView
-    → Type 0
-MakesIn making last old views result new after =
-    (look : Step NamedBy) (seen : ℕ) (asker : Asker) (files : Files) (before : List DriveView) → Makes making asker
-    → (loc : HasFound (IsNamed New look files) look seen last files old before views)
+abbrev pub MakesIn : Requester → ℕ → LastLocated → FileState → List DriveView → Result ℕ ℕ → FileState
+    → List DriveView → Type 0
+MakesIn by user located old views result new after =
+    (look : Step NamedBy) (seen : ℕ) (asker : Asker) (files : Files) (before : List DriveView) → MakesFor by user asker
+    → (loc : HasFound (IsNamed New look files) look seen located files old before views)
     → Tries (next_step look (makes_it asker files)) (makes_it_calls seen asker loc.it) asker files result new before
     after

@@ -54,11 +54,11 @@ names_last purpose execute refusal asker files terms =
     (last_of list.names))
 
 -- the located name and its directory are those of a step, on the drive that the step reached
-pub record IsNamed (purpose : Purpose) (step : Step NamedBy) (files : Files) (it : NamedBy) (last : LastLocated)
+pub record IsNamed (purpose : Purpose) (step : Step NamedBy) (files : Files) (it : NamedBy) (located : LastLocated)
     : Type 0 where
-  pub place_is : it.directory.place ≡ last.directory
-  pub name_is : it.name ≡ last.name
-  pub next_is : last.next ≡ it.list.next
+  pub place_is : it.directory.place ≡ located.last.directory
+  pub name_is : it.name ≡ located.last.name
+  pub next_is : located.next ≡ it.list.next
   pub there : IsFileIn files it.directory
   pub reached : drive_of step ≡ Some it.directory.place.drive
   -- nothing is made with the name of a directory itself or of the one above it
@@ -66,7 +66,7 @@ pub record IsNamed (purpose : Purpose) (step : Step NamedBy) (files : Files) (it
 
 -- by the end of a walk
 abbrev pub last_by : Result LastName DirError → ℕ → Result LastLocated ℕ
-last_by (Ok last) next = Ok (record { directory = last.directory; name = last.name; next = next })
+last_by (Ok last) next = Ok (record { last = last; next = next })
 last_by (Err error) next = Err (directory_error error)
 
 -- a search by this step has this result

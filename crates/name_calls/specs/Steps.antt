@@ -9,7 +9,7 @@ use Rattle.io_rules.specs.Open.{opened_regs}
 use Rattle.io_rules.specs.PathList.{PathList}
 use Rattle.proc_rules.specs.Records.{record_at}
 use Rattle.proc_state.specs.declared.state.ProcState.{ProcState}
-use Rattle.file_rules.specs.Create.{creates_in, creates_with_path}
+use Rattle.file_rules.specs.Create.{creates_in}
 use Rattle.file_rules.specs.Files.{Asker, Files, volume_at, with_path_table}
 use Rattle.file_rules.specs.Open.{is_for_execution, opens_found}
 use Rattle.file_rules.specs.Step.{FileStep, done, needs, reaches}
@@ -21,8 +21,10 @@ use Rattle.file_routes.specs.declared.walk.Walker.{Walker}
 abbrev pub walker_at : ProcState → Pid → Walker
 walker_at s p = record {
   process = p;
-  user = (record_at s.table p.0).user;
-  execute = is_for_execution (record_at s.table p.0).regs.a;
+  by = record {
+    user = (record_at s.table p.0).user;
+    execute = is_for_execution (record_at s.table p.0).regs.a;
+  };
 }
 
 -- the file at a place
@@ -46,10 +48,6 @@ abbrev pub opens_along : Asker → Files → PathList → FilePlace → FileStep
 opens_along asker files list from =
     walks asker files (is_for_execution asker.caller.regs.a) from list.names (opens_found asker files list)
 
--- at the file that a walk has reached
-abbrev pub opens_there : Asker → Files → PathList → Found → FileStep
-opens_there asker files list found = reaches found.place.drive (opens_found asker files list found)
-
 -- ---- I$Create
 
 -- from a directory along the names of a list before the last
@@ -62,7 +60,3 @@ creates_along asker files list from =
 -- in the directory that a walk has reached
 abbrev pub creates_there : Asker → Files → PathList → List ℕ → Found → FileStep
 creates_there asker files list name dir = reaches dir.place.drive (creates_in asker files list name dir)
-
--- in the directory in which the name may be entered
-abbrev pub makes_there : Asker → Files → PathList → List ℕ → Found → FileStep
-makes_there asker files list name dir = reaches dir.place.drive (creates_with_path asker files list name dir)

@@ -17,9 +17,10 @@ ghost use Rattle.proc_state.specs.Tie.{IsSame};
 ghost use Rattle.rbf_access.specs.Reading.{IsFdOf};
 ghost use Rattle.rbf_model.specs.File.{DiskFile};
 ghost use Rattle.file_drives.specs.Drives.{drives_seen};
-ghost use Rattle.io_state.specs.Context.{InCall, KeepsTerminals};
-ghost use Rattle.file_state.specs.Context.{seen};
+ghost use Rattle.io_state.specs.Context.{InCall, SameTerminals};
+ghost use Rattle.file_state.specs.Context.{machine_seen};
 
+use crate::finding::Lookup;
 use crate::locating::locate;
 use crate::open_modes::{is_for_execution, is_mode};
 use device_paths::ends::{answer, refuse};
@@ -51,9 +52,9 @@ pub fn i_chgdir(machine: &mut Machine, devices: &mut Devices, by: Requester) -> 
     ensures call { (now : TimePacket) (terms : List TerminalState)
         → length terms ≡ vec_len devices.old.terms
         → AttemptsWithin i_chgdir_calls Call.ChgDir now by.p.0 result terms terms
-        (seen BlockDriver-box machine.old devices.old)
-        (seen BlockDriver-box machine.new devices.new) }
-    ensures kept { KeepsTerminals by machine.new.processes devices.old devices.new }
+        (machine_seen BlockDriver-box machine.old devices.old)
+        (machine_seen BlockDriver-box machine.new devices.new) }
+    ensures kept { SameTerminals by machine.new.processes devices.old devices.new }
 {
     match find_directory(machine, devices, by) {
         Err(number) => refuse(&mut machine.files.io, by.p, number),
@@ -81,16 +82,20 @@ fn find_directory(
     requires calls { InCall by machine.old.processes }
     requires sound { IsSound machine.old.files (drives_seen BlockDriver-box devices.old) }
     ensures finds { LooksFrom IsLocated looks_for_directory i_chgdir_calls by.p.0
-        (vec_len devices.old.terms) result (seen BlockDriver-box machine.old devices.old)
-        (seen BlockDriver-box machine.new devices.new) }
+        (vec_len devices.old.terms) result (machine_seen BlockDriver-box machine.old devices.old)
+        (machine_seen BlockDriver-box machine.new devices.new) }
     ensures rest_kept { KeepsAllButDisks machine.old.files machine.new.files }
     ensures same { IsSame machine.old.processes machine.new.processes }
-    ensures kept { KeepsTerminals by machine.new.processes devices.old devices.new }
+    ensures kept { SameTerminals by machine.new.processes devices.old devices.new }
 {
     let mode = by.regs.a;
     let user = machine.processes.table.user(by.p);
     let refusal = mode_refusal(is_mode(mode));
-    match locate(machine, devices, by, is_for_execution(mode), refusal) {
+    let lookup = Lookup {
+        execute: is_for_execution(mode),
+        refusal,
+    };
+    match locate(machine, devices, by, lookup) {
         Err(number) => Err(number),
         Ok(located) => match machine.files.disks.fd(devices, located.place) {
             Err(fault) => Err(fault.number()),

@@ -1,8 +1,8 @@
 //! I$Create (System Programmer's Manual, I$Create).
 
 ghost use Rattle.std.specs.Prelude.{◌≡◌, List, length, vec_len};
-ghost use Rattle.io_state.specs.Context.{KeepsTerminals};
-ghost use Rattle.file_state.specs.Context.{seen};
+ghost use Rattle.io_state.specs.Context.{SameTerminals};
+ghost use Rattle.file_state.specs.Context.{machine_seen};
 ghost use Rattle.file_drives.specs.Drives.{drives_seen};
 ghost use Rattle.file_drives.specs.Mounted.{HasFileAt};
 ghost use Rattle.file_state.specs.Context.{InFirstAttempt};
@@ -16,7 +16,7 @@ ghost use Rattle.guest_memory.specs.Tie.{cells_of};
 ghost use Rattle.os9_outer.specs.TerminalState.{TerminalState};
 
 use crate::begin::begin_on;
-use crate::finding::{Lookup, find_route, walker_of};
+use crate::finding::{Lookup, Search, find_route, walker_of};
 use crate::naming::LastLocated;
 use crate::open_modes::{can_write, is_for_execution, says_directory};
 use device_paths::ends::refuse;
@@ -24,7 +24,7 @@ use device_paths::open::i_create as create_on_device;
 use device_table::devices::Devices;
 use file_routes::calls::call_walk_to_last;
 use file_routes::route::{Course, Purpose, mode_refusal};
-use file_routes::walk::{NamePlace, Start};
+use file_routes::walk::{NamePlace, WalkStart};
 use file_state::machine::Machine;
 use io_model::path::Target;
 use io_state::requester::Requester;
@@ -32,7 +32,6 @@ use os9_base::call::CallEnd;
 use os9_base::errors::{E_BPNAM, E_FNA, E_PTHFUL};
 use os9_outer::drive::BlockDriver;
 use rbf_entries::NewFile;
-use rbf_walk::Searcher;
 
 /// I$Create: makes a file and opens a path on it, or opens a terminal or a pipe (System
 /// Programmer's Manual, I$Create). Takes the mode in A, the attributes in B and the address of the
@@ -57,19 +56,18 @@ pub fn i_create(machine: &mut Machine, devices: &mut Devices, by: Requester) -> 
     requires calls { InFirstAttempt by machine.old }
     requires sound { IsSound machine.old.files (drives_seen BlockDriver-box devices.old) }
     ensures call { (terms : List TerminalState) → length terms ≡ vec_len devices.old.terms
-        → AttemptsWithin i_create_calls Call.Create by.now by.p.0 result terms terms
-        (seen BlockDriver-box machine.old devices.old)
-        (seen BlockDriver-box machine.new devices.new) }
-    ensures kept { KeepsTerminals by machine.new.processes devices.old devices.new }
+        → AttemptsWithin i_create_calls Call.Create by.time by.p.0 result terms terms
+        (machine_seen BlockDriver-box machine.old devices.old)
+        (machine_seen BlockDriver-box machine.new devices.new) }
+    ensures kept { SameTerminals by machine.new.processes devices.old devices.new }
 {
     let execute = is_for_execution(by.regs.a);
     let refusal = mode_refusal(can_write(by.regs.a));
-    let lookup = Lookup {
+    let search = Search {
         purpose: Purpose::New,
-        execute,
-        refusal,
+        lookup: Lookup { execute, refusal },
     };
-    match find_route(&mut machine.processes, &machine.files, devices, by, lookup) {
+    match find_route(&mut machine.processes, &machine.files, devices, by, search) {
         Err(number) => refuse(&mut machine.files.io, by.p, number),
         Ok(route) => match route.course {
             Course::Device => {
@@ -87,17 +85,17 @@ fn create_along(
     machine: &mut Machine,
     devices: &mut Devices,
     by: Requester,
-    start: Start,
+    start: WalkStart,
     next: u32,
 ) -> CallEnd
     requires calls { InFirstAttempt by machine.old }
     requires names { SomeFrom (cells_of machine.old.processes.memory by.p.0) start.first }
     requires file { HasFileAt machine.old.files.disks
         (drives_seen BlockDriver-box devices.old) start.directory }
-    ensures creates { CreatesAlong start.directory start.first next by.now by.p.0 result
-        (seen BlockDriver-box machine.old devices.old)
-        (seen BlockDriver-box machine.new devices.new) }
-    ensures kept { KeepsTerminals by machine.new.processes devices.old devices.new }
+    ensures creates { CreatesAlong start.directory start.first next by.time by.p.0 result
+        (machine_seen BlockDriver-box machine.old devices.old)
+        (machine_seen BlockDriver-box machine.new devices.new) }
+    ensures kept { SameTerminals by machine.new.processes devices.old devices.new }
 {
     let Some(at) = start.first else {
         return refuse(&mut machine.files.io, by.p, E_BPNAM);
@@ -109,12 +107,8 @@ fn create_along(
     match call_walk_to_last(processes, &mut machine.files.disks, devices, walker, first) {
         Err(error) => refuse(&mut machine.files.io, by.p, error.number()),
         Ok(last) => {
-            let last = LastLocated {
-                directory: last.directory,
-                name: last.name,
-                next,
-            };
-            create_in(machine, devices, by, last)
+            let located = LastLocated { last, next };
+            create_in(machine, devices, by, located)
         }
     }
 }
@@ -124,26 +118,23 @@ fn create_in(
     machine: &mut Machine,
     devices: &mut Devices,
     by: Requester,
-    last: LastLocated,
+    located: LastLocated,
 ) -> CallEnd
     requires calls { InFirstAttempt by machine.old }
     requires file { HasFileAt machine.old.files.disks
-        (drives_seen BlockDriver-box devices.old) last.directory }
-    ensures creates { CreatesThere last by.now by.p.0 result
-        (seen BlockDriver-box machine.old devices.old)
-        (seen BlockDriver-box machine.new devices.new) }
-    ensures kept { KeepsTerminals by machine.new.processes devices.old devices.new }
+        (drives_seen BlockDriver-box devices.old) located.last.directory }
+    ensures creates { CreatesThere located by.time by.p.0 result
+        (machine_seen BlockDriver-box machine.old devices.old)
+        (machine_seen BlockDriver-box machine.new devices.new) }
+    ensures kept { SameTerminals by machine.new.processes devices.old devices.new }
 {
     if says_directory(by.regs.b) {
         return refuse(&mut machine.files.io, by.p, E_FNA);
     }
     let walker = walker_of(&machine.processes, by);
-    let searcher = Searcher {
-        user: walker.user,
-        execute: walker.execute,
-    };
+    let last = located.last;
     let disks = &mut machine.files.disks;
-    let found = match disks.find_place(devices, last.directory, &last.name, searcher) {
+    let found = match disks.find_place(devices, last.directory, &last.name, walker.by) {
         Err(error) => return refuse(&mut machine.files.io, by.p, error.number()),
         Ok(found) => found,
     };
@@ -153,14 +144,14 @@ fn create_in(
     let file = NewFile {
         name: last.name,
         attr: by.regs.b,
-        date: by.now,
+        date: by.time,
     };
     let disks = &mut machine.files.disks;
     match disks.create_at(devices, last.directory, &found, &file) {
         Err(fault) => refuse(&mut machine.files.io, by.p, fault.number()),
         Ok(n) => {
             let target = Target::File(last.directory.drive, n);
-            begin_on(machine, by, target, last.next)
+            begin_on(machine, by, target, located.next)
         }
     }
 }

@@ -1,8 +1,8 @@
 //! I$Delete and I$DeletX.
 
 ghost use Rattle.std.specs.Prelude.{◌≡◌, List, length, vec_len};
-ghost use Rattle.io_state.specs.Context.{InCall, KeepsTerminals};
-ghost use Rattle.file_state.specs.Context.{seen};
+ghost use Rattle.io_state.specs.Context.{InCall, SameTerminals};
+ghost use Rattle.file_state.specs.Context.{machine_seen};
 ghost use Rattle.file_drives.specs.Drives.{drives_seen};
 ghost use Rattle.file_drives.specs.Mounted.{HasFileAt};
 ghost use Rattle.file_rules.specs.Delete.{deletes_by};
@@ -20,7 +20,7 @@ ghost use Rattle.os9_outer.specs.TerminalState.{TerminalState};
 ghost use Rattle.proc_state.specs.Tie.{IsSame};
 
 use crate::ends::end_call;
-use crate::finding::Lookup;
+use crate::finding::{Lookup, Search};
 use crate::naming::{LastLocated, locate_last};
 use crate::open_modes::{is_for_execution, is_mode};
 use device_table::devices::Devices;
@@ -52,11 +52,15 @@ pub fn i_delete(machine: &mut Machine, devices: &mut Devices, by: Requester) -> 
     ensures call { (now : TimePacket) (terms : List TerminalState)
         → length terms ≡ vec_len devices.old.terms
         → AttemptsWithin i_delete_calls Call.Delete now by.p.0 result terms terms
-        (seen BlockDriver-box machine.old devices.old)
-        (seen BlockDriver-box machine.new devices.new) }
-    ensures kept { KeepsTerminals by machine.new.processes devices.old devices.new }
+        (machine_seen BlockDriver-box machine.old devices.old)
+        (machine_seen BlockDriver-box machine.new devices.new) }
+    ensures kept { SameTerminals by machine.new.processes devices.old devices.new }
 {
-    let came = delete_named(machine, devices, by, false, None);
+    let lookup = Lookup {
+        execute: false,
+        refusal: None,
+    };
+    let came = delete_named(machine, devices, by, lookup);
     end_call(machine, by, came)
 }
 
@@ -75,18 +79,21 @@ pub fn i_deletx(machine: &mut Machine, devices: &mut Devices, by: Requester) -> 
     ensures call { (now : TimePacket) (terms : List TerminalState)
         → length terms ≡ vec_len devices.old.terms
         → AttemptsWithin i_deletx_calls Call.DeletX now by.p.0 result terms terms
-        (seen BlockDriver-box machine.old devices.old)
-        (seen BlockDriver-box machine.new devices.new) }
-    ensures kept { KeepsTerminals by machine.new.processes devices.old devices.new }
+        (machine_seen BlockDriver-box machine.old devices.old)
+        (machine_seen BlockDriver-box machine.new devices.new) }
+    ensures kept { SameTerminals by machine.new.processes devices.old devices.new }
 {
     let mode = by.regs.a;
     let refusal = mode_refusal(is_mode(mode));
-    let came = delete_named(machine, devices, by, is_for_execution(mode), refusal);
+    let lookup = Lookup {
+        execute: is_for_execution(mode),
+        refusal,
+    };
+    let came = delete_named(machine, devices, by, lookup);
     end_call(machine, by, came)
 }
 
-/// Deletes the file that the path list at X names, for execution or not, in a call with this
-/// refusal, if any; returns the address just past the list.
+/// Deletes the file that the path list at X names, and returns the address just past the list.
 ///
 /// # Errors
 ///
@@ -95,29 +102,31 @@ fn delete_named(
     machine: &mut Machine,
     devices: &mut Devices,
     by: Requester,
-    execute: bool,
-    refusal: Option<u8>,
+    lookup: Lookup,
 ) -> Result<u32, u8>
     requires calls { InCall by machine.old.processes }
     requires sound { IsSound machine.old.files (drives_seen BlockDriver-box devices.old) }
     ensures tries { (now : TimePacket) → TriesFrom
-        (λ asker was terms. deletes_by asker was terms execute (refuses_by refusal))
-        (deletes_by_calls execute) now by.p.0 (vec_len devices.old.terms) result
-        (seen BlockDriver-box machine.old devices.old)
-        (seen BlockDriver-box machine.new devices.new) }
+        (λ asker was terms. deletes_by asker was terms lookup.execute (refuses_by lookup.refusal))
+        (deletes_by_calls lookup.execute) now by.p.0 (vec_len devices.old.terms) result
+        (machine_seen BlockDriver-box machine.old devices.old)
+        (machine_seen BlockDriver-box machine.new devices.new) }
     ensures io_kept { machine.new.files.io ≡ machine.old.files.io }
     ensures same { IsSame machine.old.processes machine.new.processes }
-    ensures kept { KeepsTerminals by machine.new.processes devices.old devices.new }
+    ensures kept { SameTerminals by machine.new.processes devices.old devices.new }
 {
     let user = machine.processes.table.user(by.p);
-    let lookup = Lookup {
-        purpose: Purpose::Existing,
-        execute,
-        refusal,
+    let searcher = Searcher {
+        user,
+        execute: lookup.execute,
     };
-    match locate_last(machine, devices, by, lookup) {
+    let search = Search {
+        purpose: Purpose::Existing,
+        lookup,
+    };
+    match locate_last(machine, devices, by, search) {
         Err(number) => Err(number),
-        Ok(last) => delete_in(&mut machine.files, devices, last, user, execute),
+        Ok(located) => delete_in(&mut machine.files, devices, located, searcher),
     }
 }
 
@@ -132,18 +141,18 @@ fn delete_named(
 fn delete_in(
     files: &mut FileState,
     devices: &mut Devices,
-    last: LastLocated,
-    user: u16,
-    execute: bool,
+    located: LastLocated,
+    by: Searcher,
 ) -> Result<u32, u8>
-    requires { HasFileAt files.old.disks (drives_seen BlockDriver-box devices.old) last.directory }
-    ensures deletes { DeletesIn user execute last
+    requires { HasFileAt files.old.disks (drives_seen BlockDriver-box devices.old)
+        located.last.directory }
+    ensures deletes { DeletesIn by.user by.execute located
         files.old (drives_seen BlockDriver-box devices.old) result
         files.new (drives_seen BlockDriver-box devices.new) }
     ensures rest_kept { KeepsAllButDisks files.old files.new }
     ensures terms_kept { devices.new.terms ≡ devices.old.terms }
 {
-    let by = Searcher { user, execute };
+    let last = located.last;
     match files
         .disks
         .find_deletable(devices, last.directory, &last.name, by)
@@ -159,7 +168,7 @@ fn delete_in(
             } else {
                 match files.disks.delete_at(devices, last.directory, &found) {
                     Err(fault) => Err(fault.number()),
-                    Ok(()) => Ok(last.next),
+                    Ok(()) => Ok(located.next),
                 }
             }
         }

@@ -22,11 +22,11 @@ use file_state::state::FileState;
 use io_state::requester::Requester;
 use os9_outer::drive::BlockDriver;
 use proc_state::state::ProcState;
+use rbf_walk::Searcher;
 
-/// What a call looks for by its path list.
+/// How a call goes by its path list.
 #[derive(Clone, Copy, Debug, PartialEq, Eq)]
 pub struct Lookup {
-    pub purpose: Purpose,
     /// The list starts at the execution directory of the process, if it names no device, and the
     /// walk is in search of a file to execute.
     pub execute: bool,
@@ -35,16 +35,26 @@ pub struct Lookup {
     pub refusal: Option<u8>,
 }
 
+/// What a call looks for by its path list, and how.
+#[derive(Clone, Copy, Debug, PartialEq, Eq)]
+pub struct Search {
+    pub purpose: Purpose,
+    pub lookup: Lookup,
+}
+
 /// Who walks along the path list of a process's call: for execution, if its mode in A is.
 pub(crate) fn walker_of(s: &ProcState, by: Requester) -> Walker
     requires { InCall by s.now }
     ensures walker { result ≡ walker_at s.now by.p }
     ensures process { by.p.0 < 33 }
 {
-    Walker {
-        process: by.p,
+    let searcher = Searcher {
         user: s.table.user(by.p),
         execute: is_for_execution(by.regs.a),
+    };
+    Walker {
+        process: by.p,
+        by: searcher,
     }
 }
 
@@ -59,14 +69,14 @@ pub(crate) fn find_route(
     files: &FileState,
     devices: &Devices,
     by: Requester,
-    lookup: Lookup,
+    search: Search,
 ) -> Result<Route, u8>
     requires calls { InCall by s.old }
     requires sound { IsSound files.now (drives_seen BlockDriver-box devices.now) }
     ensures route { (m : Processes) (was : Files) (now : TimePacket) → Represents s.old m
         → StandsFor files.now (drives_seen BlockDriver-box devices.now) was
-        → IsRouteFor lookup.purpose lookup.refusal (cells_at m by.p.0) (asker_of m by.p.0 now) was
-        (vec_len devices.now.terms) lookup.execute result }
+        → IsRouteFor search.purpose search.lookup.refusal (cells_at m by.p.0)
+        (asker_of m by.p.0 now) was (vec_len devices.now.terms) search.lookup.execute result }
     ensures names { RouteHasNames (cells_of s.new.memory by.p.0) result }
     ensures start { RouteStarts files.now.disks (drives_seen BlockDriver-box devices.now) result }
     ensures same { IsSame s.old s.new }
@@ -74,9 +84,9 @@ pub(crate) fn find_route(
     let query = Query {
         process: by.p,
         at: by.regs.x,
-        directory: files.directory(by.p, lookup.execute),
-        purpose: lookup.purpose,
-        refusal: lookup.refusal,
+        directory: files.directory(by.p, search.lookup.execute),
+        purpose: search.purpose,
+        refusal: search.lookup.refusal,
     };
     call_route(s, &files.disks, devices, query)
 }

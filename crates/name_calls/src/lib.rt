@@ -1,5 +1,5 @@
-//! The calls on path lists: I$Open and I$Create, of terminals and pipes too, and I$ChgDir, I$MakDir,
-//! I$Delete and I$DeletX.
+//! The calls on path lists: I$Open and I$Create, of terminals and pipes too, and I$ChgDir,
+//! I$MakDir, I$Delete and I$DeletX.
 #![tactic(auto)]
 
 mod begin;

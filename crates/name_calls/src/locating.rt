@@ -1,8 +1,8 @@
 //! The file that a call's path list names.
 
 ghost use Rattle.std.specs.Prelude.{◌≡◌, IfOk, vec_len};
-ghost use Rattle.io_state.specs.Context.{InCall, KeepsTerminals};
-ghost use Rattle.file_state.specs.Context.{seen};
+ghost use Rattle.io_state.specs.Context.{InCall, SameTerminals};
+ghost use Rattle.file_state.specs.Context.{machine_seen};
 ghost use Rattle.file_drives.specs.Drives.{drives_seen};
 ghost use Rattle.file_drives.specs.Mounted.{HasFileAt};
 ghost use Rattle.file_state.specs.Tie.{IsSound};
@@ -12,7 +12,7 @@ ghost use Rattle.name_calls.specs.Locating.{IsLocated, located_by, locates};
 ghost use Rattle.name_calls.specs.Looks.{LooksFrom};
 ghost use Rattle.proc_state.specs.Tie.{IsSame};
 
-use crate::finding::{Lookup, find_route};
+use crate::finding::{Lookup, Search, find_route};
 use device_table::devices::Devices;
 use file_routes::calls::call_walk;
 use file_routes::route::{Course, Located, Purpose};
@@ -22,7 +22,7 @@ use io_state::requester::Requester;
 use lock_model::place::FilePlace;
 use os9_base::errors::E_FNA;
 use os9_outer::drive::BlockDriver;
-use rbf_walk::DirError;
+use rbf_walk::{DirError, Searcher};
 
 /// Finds the file that the path list at X names, from the execution directory of the process or
 /// from its data directory, if the list names no device (System Programmer's Manual, I$Open).
@@ -35,33 +35,34 @@ pub(crate) fn locate(
     machine: &mut Machine,
     devices: &mut Devices,
     by: Requester,
-    execute: bool,
-    refusal: Option<u8>,
+    lookup: Lookup,
 ) -> Result<Located, u8>
     requires calls { InCall by machine.old.processes }
     requires sound { IsSound machine.old.files (drives_seen BlockDriver-box devices.old) }
-    ensures locates { LooksFrom IsLocated (locates execute refusal)
-        (located_calls execute (λ v file. 0)) by.p.0 (vec_len devices.old.terms) result
-        (seen BlockDriver-box machine.old devices.old)
-        (seen BlockDriver-box machine.new devices.new) }
+    ensures locates { LooksFrom IsLocated (locates lookup.execute lookup.refusal)
+        (located_calls lookup.execute (λ v file. 0)) by.p.0 (vec_len devices.old.terms) result
+        (machine_seen BlockDriver-box machine.old devices.old)
+        (machine_seen BlockDriver-box machine.new devices.new) }
     ensures there { IfOk result (λ located. HasFileAt machine.new.files.disks
         (drives_seen BlockDriver-box devices.new) located.place) }
     ensures rest_kept { KeepsAllButDisks machine.old.files machine.new.files }
     ensures same { IsSame machine.old.processes machine.new.processes }
-    ensures kept { KeepsTerminals by machine.new.processes devices.old devices.new }
+    ensures kept { SameTerminals by machine.new.processes devices.old devices.new }
 {
+    let searcher = Searcher {
+        user: machine.processes.table.user(by.p),
+        execute: lookup.execute,
+    };
     let walker = Walker {
         process: by.p,
-        user: machine.processes.table.user(by.p),
-        execute,
+        by: searcher,
     };
-    let lookup = Lookup {
+    let search = Search {
         purpose: Purpose::Existing,
-        execute,
-        refusal,
+        lookup,
     };
     let processes = &mut machine.processes;
-    let route = match find_route(processes, &machine.files, devices, by, lookup) {
+    let route = match find_route(processes, &machine.files, devices, by, search) {
         Err(number) => return Err(number),
         Ok(route) => route,
     };

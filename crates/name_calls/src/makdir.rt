@@ -1,8 +1,8 @@
 //! I$MakDir.
 
 ghost use Rattle.std.specs.Prelude.{◌≡◌, List, length, vec_len};
-ghost use Rattle.io_state.specs.Context.{InCall, KeepsTerminals};
-ghost use Rattle.file_state.specs.Context.{seen};
+ghost use Rattle.io_state.specs.Context.{InCall, SameTerminals};
+ghost use Rattle.file_state.specs.Context.{machine_seen};
 ghost use Rattle.file_drives.specs.Drives.{drives_seen};
 ghost use Rattle.file_drives.specs.Mounted.{HasFileAt};
 ghost use Rattle.file_rules.specs.MakDir as model;
@@ -18,7 +18,7 @@ ghost use Rattle.os9_outer.specs.TerminalState.{TerminalState};
 ghost use Rattle.proc_state.specs.Tie.{IsSame};
 
 use crate::ends::end_call;
-use crate::finding::Lookup;
+use crate::finding::{Lookup, Search};
 use crate::naming::{LastLocated, locate_last};
 use device_table::devices::Devices;
 use file_routes::route::Purpose;
@@ -26,18 +26,9 @@ use file_state::machine::Machine;
 use file_state::state::FileState;
 use io_state::requester::Requester;
 use os9_base::call::CallEnd;
-use os9_base::registers::TimePacket;
 use os9_outer::drive::BlockDriver;
 use rbf_entries::NewFile;
 use rbf_walk::Searcher;
-
-/// Who makes a directory, with which attributes and at what time.
-#[derive(Clone, Copy, Debug)]
-pub struct Making {
-    pub user: u16,
-    pub attributes: u8,
-    pub now: TimePacket,
-}
 
 /// I$MakDir: makes a directory (System Programmer's Manual, I$MakDir). Takes its attributes in B
 /// and the address of the path list in X; returns X past the list.
@@ -54,10 +45,10 @@ pub fn i_makdir(machine: &mut Machine, devices: &mut Devices, by: Requester) -> 
     requires calls { InFirstAttempt by machine.old }
     requires sound { IsSound machine.old.files (drives_seen BlockDriver-box devices.old) }
     ensures call { (terms : List TerminalState) → length terms ≡ vec_len devices.old.terms
-        → AttemptsWithin i_makdir_calls Call.MakDir by.now by.p.0 result terms terms
-        (seen BlockDriver-box machine.old devices.old)
-        (seen BlockDriver-box machine.new devices.new) }
-    ensures kept { KeepsTerminals by machine.new.processes devices.old devices.new }
+        → AttemptsWithin i_makdir_calls Call.MakDir by.time by.p.0 result terms terms
+        (machine_seen BlockDriver-box machine.old devices.old)
+        (machine_seen BlockDriver-box machine.new devices.new) }
+    ensures kept { SameTerminals by machine.new.processes devices.old devices.new }
 {
     let came = make_directory(machine, devices, by);
     end_call(machine, by, came)
@@ -71,31 +62,29 @@ pub fn i_makdir(machine: &mut Machine, devices: &mut Devices, by: Requester) -> 
 fn make_directory(machine: &mut Machine, devices: &mut Devices, by: Requester) -> Result<u32, u8>
     requires calls { InCall by machine.old.processes }
     requires sound { IsSound machine.old.files (drives_seen BlockDriver-box devices.old) }
-    ensures tries { TriesFrom model.i_makdir i_makdir_calls by.now by.p.0
-        (vec_len devices.old.terms) result (seen BlockDriver-box machine.old devices.old)
-        (seen BlockDriver-box machine.new devices.new) }
+    ensures tries { TriesFrom model.i_makdir i_makdir_calls by.time by.p.0
+        (vec_len devices.old.terms) result (machine_seen BlockDriver-box machine.old devices.old)
+        (machine_seen BlockDriver-box machine.new devices.new) }
     ensures io_kept { machine.new.files.io ≡ machine.old.files.io }
     ensures same { IsSame machine.old.processes machine.new.processes }
-    ensures kept { KeepsTerminals by machine.new.processes devices.old devices.new }
+    ensures kept { SameTerminals by machine.new.processes devices.old devices.new }
 {
-    let making = Making {
-        user: machine.processes.table.user(by.p),
-        attributes: by.regs.b,
-        now: by.now,
-    };
-    let lookup = Lookup {
+    let user = machine.processes.table.user(by.p);
+    let search = Search {
         purpose: Purpose::New,
-        execute: false,
-        refusal: None,
+        lookup: Lookup {
+            execute: false,
+            refusal: None,
+        },
     };
-    match locate_last(machine, devices, by, lookup) {
+    match locate_last(machine, devices, by, search) {
         Err(number) => Err(number),
-        Ok(last) => make_in(&mut machine.files, devices, last, making),
+        Ok(located) => make_in(&mut machine.files, devices, by, user, located),
     }
 }
 
-/// Makes a directory with the last name of a path list in the directory that was found, and returns
-/// the address just past the list.
+/// Makes a directory for a user with the last name of a path list in the directory that was found,
+/// and returns the address just past the list.
 ///
 /// # Errors
 ///
@@ -106,30 +95,33 @@ fn make_directory(machine: &mut Machine, devices: &mut Devices, by: Requester) -
 fn make_in(
     files: &mut FileState,
     devices: &mut Devices,
-    last: LastLocated,
-    making: Making,
+    by: Requester,
+    user: u16,
+    located: LastLocated,
 ) -> Result<u32, u8>
-    requires { HasFileAt files.old.disks (drives_seen BlockDriver-box devices.old) last.directory }
-    ensures makes { MakesIn making last files.old (drives_seen BlockDriver-box devices.old) result
-        files.new (drives_seen BlockDriver-box devices.new) }
+    requires { HasFileAt files.old.disks (drives_seen BlockDriver-box devices.old)
+        located.last.directory }
+    ensures makes { MakesIn by user located files.old (drives_seen BlockDriver-box devices.old)
+        result files.new (drives_seen BlockDriver-box devices.new) }
     ensures rest_kept { KeepsAllButDisks files.old files.new }
     ensures terms_kept { devices.new.terms ≡ devices.old.terms }
 {
+    let last = located.last;
     let disks = &mut files.disks;
-    let by = Searcher {
-        user: making.user,
+    let searcher = Searcher {
+        user,
         execute: false,
     };
     let file = NewFile {
         name: last.name,
-        attr: making.attributes,
-        date: making.now,
+        attr: by.regs.b,
+        date: by.time,
     };
-    match disks.find_place(devices, last.directory, &file.name, by) {
+    match disks.find_place(devices, last.directory, &file.name, searcher) {
         Err(error) => Err(error.number()),
         Ok(place) => match disks.make_dir_at(devices, last.directory, &place, &file) {
             Err(fault) => Err(fault.number()),
-            Ok(_) => Ok(last.next),
+            Ok(_) => Ok(located.next),
         },
     }
 }

@@ -1,8 +1,8 @@
 //! The last name of a call's path list, and the directory in which it has to be looked up.
 
 ghost use Rattle.std.specs.Prelude.{◌≡◌, IfOk, vec_len};
-ghost use Rattle.io_state.specs.Context.{InCall, KeepsTerminals};
-ghost use Rattle.file_state.specs.Context.{seen};
+ghost use Rattle.io_state.specs.Context.{InCall, SameTerminals};
+ghost use Rattle.file_state.specs.Context.{machine_seen};
 ghost use Rattle.file_drives.specs.Drives.{drives_seen};
 ghost use Rattle.file_drives.specs.Mounted.{HasFileAt};
 ghost use Rattle.file_state.specs.Tie.{IsSound};
@@ -13,24 +13,21 @@ ghost use Rattle.name_calls.specs.Naming.{IsNamed, last_by, names_last};
 ghost use Rattle.name_calls.specs.Naming as model;
 ghost use Rattle.proc_state.specs.Tie.{IsSame};
 
-use crate::finding::{Lookup, find_route};
+use crate::finding::{Search, find_route};
 use device_table::devices::Devices;
 use file_routes::calls::call_walk_to_last;
 use file_routes::route::{Course, Purpose};
 use file_routes::walk::{LastName, NamePlace, Walker};
 use file_state::machine::Machine;
 use io_state::requester::Requester;
-use lock_model::place::FilePlace;
 use os9_base::errors::{E_BPNAM, E_FNA};
-use os9_base::name::Name;
 use os9_outer::drive::BlockDriver;
-use rbf_walk::DirError;
+use rbf_walk::{DirError, Searcher};
 
 /// The last name of a path list, and the directory that the names before it lead to.
 #[derive(Clone, Copy, Debug)]
 pub struct LastLocated {
-    pub directory: FilePlace,
-    pub name: Name,
+    pub last: LastName,
     /// The address just past the path list.
     pub next: u32,
 }
@@ -48,28 +45,31 @@ pub(crate) fn locate_last(
     machine: &mut Machine,
     devices: &mut Devices,
     by: Requester,
-    lookup: Lookup,
+    search: Search,
 ) -> Result<LastLocated, u8>
     requires calls { InCall by machine.old.processes }
     requires sound { IsSound machine.old.files (drives_seen BlockDriver-box devices.old) }
-    ensures locates { LooksFrom (IsNamed lookup.purpose)
-        (names_last lookup.purpose lookup.execute lookup.refusal)
-        (named_calls lookup.purpose lookup.execute (λ name v dir. 0)) by.p.0
-        (vec_len devices.old.terms) result (seen BlockDriver-box machine.old devices.old)
-        (seen BlockDriver-box machine.new devices.new) }
-    ensures there { IfOk result (λ last. HasFileAt machine.new.files.disks
-        (drives_seen BlockDriver-box devices.new) last.directory) }
+    ensures locates { LooksFrom (IsNamed search.purpose)
+        (names_last search.purpose search.lookup.execute search.lookup.refusal)
+        (named_calls search.purpose search.lookup.execute (λ name v dir. 0)) by.p.0
+        (vec_len devices.old.terms) result (machine_seen BlockDriver-box machine.old devices.old)
+        (machine_seen BlockDriver-box machine.new devices.new) }
+    ensures there { IfOk result (λ located. HasFileAt machine.new.files.disks
+        (drives_seen BlockDriver-box devices.new) located.last.directory) }
     ensures rest_kept { KeepsAllButDisks machine.old.files machine.new.files }
     ensures same { IsSame machine.old.processes machine.new.processes }
-    ensures kept { KeepsTerminals by machine.new.processes devices.old devices.new }
+    ensures kept { SameTerminals by machine.new.processes devices.old devices.new }
 {
+    let searcher = Searcher {
+        user: machine.processes.table.user(by.p),
+        execute: search.lookup.execute,
+    };
     let walker = Walker {
         process: by.p,
-        user: machine.processes.table.user(by.p),
-        execute: lookup.execute,
+        by: searcher,
     };
     let processes = &mut machine.processes;
-    let route = match find_route(processes, &machine.files, devices, by, lookup) {
+    let route = match find_route(processes, &machine.files, devices, by, search) {
         Err(number) => return Err(number),
         Ok(route) => route,
     };
@@ -77,7 +77,7 @@ pub(crate) fn locate_last(
         return Err(E_FNA);
     };
     let Some(at) = start.first else {
-        return Err(unnamed_number(lookup.purpose));
+        return Err(unnamed_number(search.purpose));
     };
     let first = NamePlace {
         directory: start.directory,
@@ -109,10 +109,6 @@ fn behind_list(reached: Result<LastName, DirError>, next: u32) -> Result<LastLoc
 {
     match reached {
         Err(error) => Err(error.number()),
-        Ok(last) => Ok(LastLocated {
-            directory: last.directory,
-            name: last.name,
-            next,
-        }),
+        Ok(last) => Ok(LastLocated { last, next }),
     }
 }

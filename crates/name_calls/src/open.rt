@@ -2,8 +2,8 @@
 
 ghost use Rattle.std.specs.Prelude.{◌≡◌, List, length, vec_len};
 ghost use Rattle.proc_rules.specs.Processes.{Processes};
-ghost use Rattle.io_state.specs.Context.{KeepsTerminals};
-ghost use Rattle.file_state.specs.Context.{seen};
+ghost use Rattle.io_state.specs.Context.{SameTerminals};
+ghost use Rattle.file_state.specs.Context.{machine_seen};
 ghost use Rattle.file_drives.specs.Drives.{DriveView, drives_seen};
 ghost use Rattle.file_drives.specs.Mounted.{HasFileAt};
 ghost use Rattle.file_state.specs.Context.{InFirstAttempt};
@@ -27,14 +27,14 @@ ghost use Rattle.proc_state.specs.Tie.{Represents};
 ghost use Rattle.rbf_access.specs.Reading.{IsFdOf};
 
 use crate::begin::begin_on;
-use crate::finding::{Lookup, find_route, walker_of};
+use crate::finding::{Lookup, Search, find_route, walker_of};
 use crate::open_modes::{is_directory, is_for_execution, is_mode, may_open};
 use device_paths::ends::refuse;
 use device_paths::open::i_open as open_device;
 use device_table::devices::Devices;
 use file_routes::calls::call_walk;
 use file_routes::route::{Course, Located, Purpose, mode_refusal};
-use file_routes::walk::Start;
+use file_routes::walk::WalkStart;
 use file_state::machine::Machine;
 use file_state::state::target_on;
 use io_state::requester::Requester;
@@ -65,18 +65,17 @@ pub fn i_open(machine: &mut Machine, devices: &mut Devices, by: Requester) -> Ca
     ensures call { (now : TimePacket) (terms : List TerminalState)
         → length terms ≡ vec_len devices.old.terms
         → AttemptsWithin i_open_calls Call.Open now by.p.0 result terms terms
-        (seen BlockDriver-box machine.old devices.old)
-        (seen BlockDriver-box machine.new devices.new) }
-    ensures kept { KeepsTerminals by machine.new.processes devices.old devices.new }
+        (machine_seen BlockDriver-box machine.old devices.old)
+        (machine_seen BlockDriver-box machine.new devices.new) }
+    ensures kept { SameTerminals by machine.new.processes devices.old devices.new }
 {
     let execute = is_for_execution(by.regs.a);
     let refusal = mode_refusal(is_mode(by.regs.a));
-    let lookup = Lookup {
+    let search = Search {
         purpose: Purpose::Existing,
-        execute,
-        refusal,
+        lookup: Lookup { execute, refusal },
     };
-    match find_route(&mut machine.processes, &machine.files, devices, by, lookup) {
+    match find_route(&mut machine.processes, &machine.files, devices, by, search) {
         Err(number) => refuse(&mut machine.files.io, by.p, number),
         Ok(route) => match route.course {
             Course::Device => {
@@ -94,7 +93,7 @@ fn open_along(
     machine: &mut Machine,
     devices: &mut Devices,
     by: Requester,
-    start: Start,
+    start: WalkStart,
     next: u32,
 ) -> CallEnd
     requires calls { InFirstAttempt by machine.old }
@@ -102,9 +101,9 @@ fn open_along(
     requires file { HasFileAt machine.old.files.disks
         (drives_seen BlockDriver-box devices.old) start.directory }
     ensures opens { (now : TimePacket) → OpensAlong start.directory start.first next now by.p.0
-        result (seen BlockDriver-box machine.old devices.old)
-        (seen BlockDriver-box machine.new devices.new) }
-    ensures kept { KeepsTerminals by machine.new.processes devices.old devices.new }
+        result (machine_seen BlockDriver-box machine.old devices.old)
+        (machine_seen BlockDriver-box machine.new devices.new) }
+    ensures kept { SameTerminals by machine.new.processes devices.old devices.new }
 {
     let processes = &mut machine.processes;
     let walker = walker_of(processes, by);

@@ -35,7 +35,7 @@ use Rattle.debug_run.specs.Prints.{IsCourse}
 use Rattle.debug_run.specs.Devices.{DevicesGain, Unfailed}
 use Rattle.debug_run.specs.Position.{CanGoOn, IsAt}
 use Rattle.debug_run.specs.declared.position.Position.{Position}
-use Rattle.os9_debug.specs.Machine.{CanStart, HasNoBytes, boot_of, config_of, loaded_devices, start_fault}
+use Rattle.os9_debug.specs.Machine.{CanStart, HasNoBytes, boot_of, debug_config, loaded_devices, start_fault}
 use Rattle.os9_debug.specs.Moves.{FailsToMove, FailsToStart, HasCome, HasRestarted, HasStarted, IsBack, IsPositionOf}
 use Rattle.os9_debug.specs.declared.machine.Machine.{Machine}
 use Rattle.os9_debug.specs.declared.machine.SessionFault.{SessionFault}
@@ -71,7 +71,7 @@ boot_with machine states terms = record {
 module _ (machine : Machine) (kernel : Kernel) (before started after : Outside) (can : CanStart machine before)
     (none_failed : NoDriveHasFailed (drive_states before.drives) (drive_states started.drives))
     (drives : after.drives ≡ started.drives) (terms : after.terms ≡ loaded machine.keys.now before.terms)
-    (begins : IsStarted (config_of machine) machine.file.now [] started kernel) where
+    (begins : IsStarted (debug_config machine) machine.file.now [] started kernel) where
   count : length after.terms ≡ length before.terms
   count = ap length terms ∙ count-loaded 0 machine.keys.now before.terms
 
@@ -121,7 +121,7 @@ module _ (machine : Machine) (kernel : Kernel) (before started after : Outside) 
       → ((boot : Begun) (slices : List ℕ) (course : Course) (devices : Outside) → boot.images ≡ []
       → (is : IsCourse boot slices course) → Represents kernel devices course.start → IsAt course is.last slices
       position devices)
-      → position.events ≡ 0 → IsAccepted (config_of machine) machine.file.now → HasStarted machine (Ok position) before after
+      → position.events ≡ 0 → IsAccepted (debug_config machine) machine.file.now → HasStarted machine (Ok position) before after
   has-started position goes at first accepted = record {
     terminals = terms;
     drives = ap drive_states drives ∙ none_failed;
@@ -142,14 +142,14 @@ no-start machine fault before after fails =
     record { terminals = tt; drives = tt; goes_on = tt; at = tt; first = tt; starts = tt; accepted = tt; fails = fails }
 
 pub start-refused : (machine : Machine) (error : StartError) (fault : BootFault) (before after : Outside)
-    → error ≡ Boot fault → StartIsRefused (config_of machine) machine.file.now error → WhereRefused error
+    → error ≡ Boot fault → StartIsRefused (debug_config machine) machine.file.now error → WhereRefused error
     (after ≡ before) → after.terms ≡ before.terms → StartsDrives {A = Kernel} 0 (drive_fault (Err error))
     before.drives after.drives → HasStarted machine (Err (start_fault fault)) before after
 start-refused machine error fault before after is refused same terms drives =
-    by fault (subst (StartIsRefused (config_of machine) machine.file.now) is refused) (subst (λ (error : StartError). WhereRefused error (after ≡ before)) is same)
+    by fault (subst (StartIsRefused (debug_config machine) machine.file.now) is refused) (subst (λ (error : StartError). WhereRefused error (after ≡ before)) is same)
     (subst (λ (error : StartError). StartsDrives {A = Kernel} 0 (drive_fault (Err error)) before.drives after.drives) is drives)
   where
-    by : (fault : BootFault) → StartIsRefused (config_of machine) machine.file.now (Boot fault)
+    by : (fault : BootFault) → StartIsRefused (debug_config machine) machine.file.now (Boot fault)
         → WhereRefused (Boot fault) (after ≡ before) → StartsDrives {A = Kernel} 0 (drive_fault (Err (Boot fault)))
         before.drives after.drives → HasStarted machine (Err (start_fault fault)) before after
     by OutOfMemory refused same drives =

@@ -20,8 +20,8 @@ use Rattle.os9_debug.specs.declared.machine.SessionFault.{SessionFault}
 use Rattle.os9_debug.specs.declared.machine.SessionFault.TheVariants.{Refused, NoMemory}
 
 -- what its kernel is made with
-abbrev pub config_of : Machine → Config
-config_of machine = record { blocks = machine.blocks; images = 0; time = machine.time }
+abbrev pub debug_config : Machine → Config
+debug_config machine = record { blocks = machine.blocks; images = 0; time = machine.time }
 
 -- a key whose tick has 32 bits
 abbrev pub HasTick : ScriptKey → Type 0
@@ -29,7 +29,7 @@ HasTick key = key.tick < 2 ^ 32
 
 -- what it needs to be started on these devices: those of any run, without images
 pub record CanStart (machine : Machine) (devices : Outside) : Type 0 where
-  pub can_run : CanRun (config_of machine) machine.slices.now devices
+  pub can_run : CanRun (debug_config machine) machine.slices.now devices
   pub ticks : All HasTick machine.keys.now
 
 -- the devices, once the terminals are loaded with their keys

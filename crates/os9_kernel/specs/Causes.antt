@@ -1,18 +1,13 @@
 -- What a process waits for after an attempt of its call.
 use Rattle.std.specs.Prelude.{◌≡◌, ℕ, false, Option, None, Some, IfSome, slice_index_or}
-use Rattle.os9_base.specs.declared.call.CallEnd.{CallEnd}
 use Rattle.os9_base.specs.declared.registers.Pid.{Pid}
 use Rattle.os9_sched.specs.Members.{member_of, wait_at}
 use Rattle.os9_sched.specs.declared.member.Wait.{Wait}
 use Rattle.proc_rules.specs.Records.{record_at, is_waiting}
 use Rattle.proc_rules.specs.declared.own.Own.{Own}
-use Rattle.proc_rules.specs.Attempts.{after_attempt, attempt_end}
-use Rattle.proc_rules.specs.CallResult.{CallResult}
 use Rattle.proc_rules.specs.Codes.{call_of}
-use Rattle.proc_rules.specs.Processes.{Processes, no_own}
+use Rattle.proc_rules.specs.Processes.{no_own}
 use Rattle.proc_rules.specs.declared.proc_call.ProcCall.{ProcCall}
-use Rattle.proc_state.specs.Tie.{Comes, Represents}
-use Rattle.proc_state.specs.declared.state.ProcState.{ProcState}
 use Rattle.call_dispatch.specs.Waits.{waits_for}
 use Rattle.file_rules.specs.Locking.{call_wait}
 use Rattle.file_state.specs.declared.state.FileState.{FileState}
@@ -41,8 +36,3 @@ pub record WaitsInCall (old new : Kernel) : Type 0 where
   pub call : (slice_index_or old.machine.processes.own.items p.0 no_own).call ≡ Some code
   pub first : is_waiting (record_at old.machine.processes.table p.0).life ≡ false → IfSome (wait_for new code p.0)
       (λ wait. wait_at (member_of new.machine.processes.sched.members p.0) ≡ Some wait)
-
--- the end of a call is given to its process, whichever result had it
-abbrev pub GivesEnd : CallEnd → ℕ → ProcState → ProcState → Type 0
-GivesEnd end p old new = (m : Processes) (call : CallResult) → Comes m p call end old
-    → Represents new (after_attempt m p call) × (end ≡ attempt_end call)

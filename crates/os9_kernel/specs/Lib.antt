@@ -13,6 +13,7 @@ pub mod Paths
 pub mod Services
 pub mod Slice
 pub mod Starting
+pub mod Telling
 pub mod Tie
 pub mod View
 pub mod Volumes

@@ -33,7 +33,7 @@ impl Kernel {
         ensures progress { result ≡ EventEnd.Ran → pending self.new < pending self.old }
         ensures executed { executed self.new ≡ executed self.old }
     {
-        let end = call_dispatch::attempt(&mut self.machine.processes, p, call);
+        let end = call_dispatch::attempt_on_process(&mut self.machine.processes, p, call);
         self.follow(p, end);
         self.looked_until = 0;
         event_end(end)

@@ -1,7 +1,7 @@
 //! Attempts of calls that may load a file: F$Load, F$Fork and F$Chain.
 
 ghost use Rattle.std.specs.Prelude.{◌≡◌, ◌<◌, List, vec_len};
-ghost use Rattle.file_state.specs.Context.{seen};
+ghost use Rattle.file_state.specs.Context.{machine_seen};
 ghost use Rattle.os9_base.specs.declared.registers.TimePacket.{TimePacket};
 ghost use Rattle.proc_calls.specs.Telling.{LivesOn};
 ghost use Rattle.proc_rules.specs.Records.{IsLiving};
@@ -67,8 +67,8 @@ impl Kernel {
         requires sound { IsSound self.old.machine.files (drives_seen BlockDriver-box devices.old) }
         ensures call { (now : TimePacket)
             → LoadsOnEach call now (vec_len devices.old.terms) p.0 result
-            (seen BlockDriver-box self.old.machine devices.old)
-            (seen BlockDriver-box self.new.machine devices.new) }
+            (machine_seen BlockDriver-box self.old.machine devices.old)
+            (machine_seen BlockDriver-box self.new.machine devices.new) }
         ensures lives { LivesOn result self.new.machine.processes.table p.0 }
         ensures clock { self.new.clock ≡ self.old.clock }
         ensures chosen { self.new.chosen ≡ self.old.chosen }
@@ -79,7 +79,7 @@ impl Kernel {
         let by = Requester {
             p,
             regs: self.machine.processes.table.regs(p),
-            now: self.clock.from,
+            time: self.clock.from,
         };
         match call {
             LoadCall::Load => f_load(&mut self.machine, devices, by),

@@ -12,7 +12,8 @@ ghost use Rattle.file_rules.specs.Files.{Asker};
 ghost use Rattle.io_model.specs.Path.{ArePaths};
 ghost use Rattle.os9_base.specs.declared.registers.TimePacket.{TimePacket as TimePacketModel};
 ghost use Rattle.os9_kernel.specs.Calls.{HasEvent};
-ghost use Rattle.os9_kernel.specs.Causes.{GivesEnd, awaited};
+ghost use Rattle.os9_kernel.specs.Causes.{awaited};
+ghost use Rattle.os9_kernel.specs.Telling.{TellsEnd};
 ghost use Rattle.os9_kernel.specs.Marks.{Concerns, named_cause};
 ghost use Rattle.os9_kernel.specs.Next.{DoesNext};
 ghost use Rattle.os9_kernel.specs.Outside.{OnDevices, outside};
@@ -28,7 +29,7 @@ use crate::calls::event_end;
 use crate::kernel::Kernel;
 use crate::marks::Marks;
 use call_dispatch::clock::now;
-use call_dispatch::path_calls::{attempt, sets_date};
+use call_dispatch::path_calls::{attempt_on_path, sets_date};
 use device_table::devices::Devices;
 use file_rules::path_call::PathCall;
 use io_model::path::Target;
@@ -72,9 +73,9 @@ impl Kernel {
         let by = Requester {
             p,
             regs: self.machine.processes.table.regs(p),
-            now: self.time_for(call),
+            time: self.time_for(call),
         };
-        let end = attempt(&mut self.machine, devices, by, call);
+        let end = attempt_on_path(&mut self.machine, devices, by, call);
         forget_request(&mut self.machine.files.records, p, end);
         self.tell_end(p, end);
         self.looked_until = 0;
@@ -138,7 +139,7 @@ impl Kernel {
     pub(crate) fn tell_end(&mut self, p: Pid, end: CallEnd)
         requires lives { LivesOn end self.old.machine.processes.table p.0 }
         requires process { p.0 < 33 }
-        ensures told { GivesEnd end p.0 self.old.machine.processes self.new.machine.processes }
+        ensures told { TellsEnd end p.0 self.old.machine.processes self.new.machine.processes }
         ensures lives { LivesOn end self.new.machine.processes.table p.0 }
         ensures waits { end ≡ CallEnd.Wait → IfSome (awaited self.old.machine.files p.0) (λ wait.
             WaitsFor self.old.machine.processes self.new.machine.processes p.0 wait) }

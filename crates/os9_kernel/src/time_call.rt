@@ -10,7 +10,7 @@ ghost use Rattle.os9_kernel.specs.Tie.{HasState, executed, pending};
 use crate::act::Act;
 use crate::calls::event_end;
 use crate::kernel::Kernel;
-use call_dispatch::time_calls::attempt;
+use call_dispatch::time_calls::attempt_on_clock;
 use machine_model::ends::EventEnd;
 use os9_base::registers::Pid;
 use time_rules::time_call::TimeCall;
@@ -25,7 +25,7 @@ impl Kernel {
         ensures progress { result ≡ EventEnd.Ran → pending self.new < pending self.old }
         ensures executed { executed self.new ≡ executed self.old }
     {
-        let end = attempt(&mut self.machine.processes, &mut self.clock, p, call);
+        let end = attempt_on_clock(&mut self.machine.processes, &mut self.clock, p, call);
         self.tell_end(p, end);
         self.looked_until = 0;
         event_end(end)

@@ -8,7 +8,7 @@ pub returns-in-Create-clause-call : goal.returns-in-Create-clause-call
 returns-in-Create-clause-call g c time terms is long =
     call-attempts (list_call c.args.call) Call.Create time c.args.by.p.0 (sym (ap list_call c.in-Create.is))
     c.i_create.result terms terms c.args.machine.now.processes c.i_create.new.machine.processes c.args.machine.now.files c.i_create.new.machine.files _ _
-    (at-time-within Call.Create c.args.by.now time c.args.by.p.0 refl (time-for (list_call c.args.call) Call.Create c.args.by.now
+    (at-time-within Call.Create c.args.by.time time c.args.by.p.0 refl (time-for (list_call c.args.call) Call.Create c.args.by.time
     time (sym (ap list_call c.in-Create.is)) is) c.i_create.result terms terms _ _ (c.i_create.ensures.call terms
     long))
 
@@ -22,7 +22,7 @@ pub returns-in-MakDir-clause-call : goal.returns-in-MakDir-clause-call
 returns-in-MakDir-clause-call g c time terms is long =
     call-attempts (list_call c.args.call) Call.MakDir time c.args.by.p.0 (sym (ap list_call c.in-MakDir.is))
     c.i_makdir.result terms terms c.args.machine.now.processes c.i_makdir.new.machine.processes c.args.machine.now.files c.i_makdir.new.machine.files _ _
-    (at-time-within Call.MakDir c.args.by.now time c.args.by.p.0 refl (time-for (list_call c.args.call) Call.MakDir c.args.by.now
+    (at-time-within Call.MakDir c.args.by.time time c.args.by.p.0 refl (time-for (list_call c.args.call) Call.MakDir c.args.by.time
     time (sym (ap list_call c.in-MakDir.is)) is) c.i_makdir.result terms terms _ _ (c.i_makdir.ensures.call terms
     long))
 

@@ -25,5 +25,5 @@ returns-in-Close-clause-call g c time is m was tied stands kinds =
 pub returns-in-Use-clause-call : goal.returns-in-Use-clause-call
 returns-in-Use-clause-call g c time is m was tied stands kinds =
     number-tries c.args.call (Number.Use c.in-Use.used) m was time c.args.by.p.0 c.in-Use.is c.use_path.result _ _ _ _
-    (c.use_path.ensures.call time (time-for (number_call c.args.call) (call_of c.in-Use.used) c.args.by.now time
+    (c.use_path.ensures.call time (time-for (number_call c.args.call) (call_of c.in-Use.used) c.args.by.time time
     (sym (ap number_call c.in-Use.is)) is) m was tied stands kinds)

@@ -16,7 +16,7 @@ returns-in-Some-clause-call c now views terms m was tied stands kinds = c.seek.e
 pub returns-in-None-clause-call : goal.returns-in-None-clause-call
 returns-in-None-clause-call c now views terms m was tied stands kinds =
     let p = c.args.by.p.0 in
-    let same : c.args.by.regs ≡ regs_at m p = c.requires.calls.regs ∙ regs-tied c.args.machine.now.processes m p tied in
+    let same : c.args.by.regs ≡ regs_at m p = c.requires.calls.calls.regs ∙ regs-tied c.args.machine.now.processes m p tied in
     let none : open_file was p (regs_at m p).a ≡ None = subst (λ (r : Regs). open_file was p r.a ≡ None) same (c.in-None.ensures.file views was stands kinds) in
     uncalled-in Call.Seek m was now p c.seek_nothing.result c.seek_nothing.new.s 0 (seeks_nothing (caller_of m p)
     was.io) c.args.machine.now.processes c.args.machine.now.files _ views terms terms (seeks-on-device m was now p terms none)

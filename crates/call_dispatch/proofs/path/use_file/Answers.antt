@@ -25,15 +25,15 @@ returns-in-ReadLn-clause-call g c time terms is =
 pub returns-in-Write-clause-call : goal.returns-in-Write-clause-call
 returns-in-Write-clause-call g c time terms is =
     call-within (call_of c.args.call) Call.Write time c.args.by.p.0 (sym (ap call_of c.in-Write.is)) c.write.result terms
-    terms c.args.machine.now.processes c.write.new.machine.processes c.args.machine.now.files c.write.new.machine.files _ _ (at-time Call.Write c.args.by.now time
-    c.args.by.p.0 refl (time-for (call_of c.args.call) Call.Write c.args.by.now time (sym (ap call_of c.in-Write.is))
+    terms c.args.machine.now.processes c.write.new.machine.processes c.args.machine.now.files c.write.new.machine.files _ _ (at-time Call.Write c.args.by.time time
+    c.args.by.p.0 refl (time-for (call_of c.args.call) Call.Write c.args.by.time time (sym (ap call_of c.in-Write.is))
     is) c.write.result terms terms _ _ (c.write.ensures.call terms))
 
 pub returns-in-WritLn-clause-call : goal.returns-in-WritLn-clause-call
 returns-in-WritLn-clause-call g c time terms is =
     call-within (call_of c.args.call) Call.WritLn time c.args.by.p.0 (sym (ap call_of c.in-WritLn.is))
     c.write_line.result terms terms c.args.machine.now.processes c.write_line.new.machine.processes c.args.machine.now.files c.write_line.new.machine.files _ _
-    (at-time Call.WritLn c.args.by.now time c.args.by.p.0 refl (time-for (call_of c.args.call) Call.WritLn c.args.by.now
+    (at-time Call.WritLn c.args.by.time time c.args.by.p.0 refl (time-for (call_of c.args.call) Call.WritLn c.args.by.time
     time (sym (ap call_of c.in-WritLn.is)) is) c.write_line.result terms terms _ _
     (c.write_line.ensures.call terms))
 
@@ -48,7 +48,7 @@ pub returns-in-SetStt-clause-call : goal.returns-in-SetStt-clause-call
 returns-in-SetStt-clause-call g c time terms is =
     call-within (call_of c.args.call) Call.SetStt time c.args.by.p.0 (sym (ap call_of c.in-SetStt.is))
     c.set_status.result terms terms c.args.machine.now.processes c.set_status.new.machine.processes c.args.machine.now.files c.set_status.new.machine.files _ _
-    (at-time Call.SetStt c.args.by.now time c.args.by.p.0 refl (time-for (call_of c.args.call) Call.SetStt c.args.by.now
+    (at-time Call.SetStt c.args.by.time time c.args.by.p.0 refl (time-for (call_of c.args.call) Call.SetStt c.args.by.time
     time (sym (ap call_of c.in-SetStt.is)) is) c.set_status.result terms terms _ _
     (c.set_status.ensures.call terms))
 
@@ -56,7 +56,7 @@ pub returns-in-PErr-clause-call : goal.returns-in-PErr-clause-call
 returns-in-PErr-clause-call g c time terms is =
     call-within (call_of c.args.call) Call.PErr time c.args.by.p.0 (sym (ap call_of c.in-PErr.is)) c.write_error.result
     terms terms c.args.machine.now.processes c.write_error.new.machine.processes c.args.machine.now.files c.write_error.new.machine.files _ _
-    (at-time Call.PErr c.args.by.now time c.args.by.p.0 refl (time-for (call_of c.args.call) Call.PErr c.args.by.now time
+    (at-time Call.PErr c.args.by.time time c.args.by.p.0 refl (time-for (call_of c.args.call) Call.PErr c.args.by.time time
     (sym (ap call_of c.in-PErr.is)) is) c.write_error.result terms terms _ _ (c.write_error.ensures.call terms))
 
 pub prove-unreachable-requires : goal.prove-unreachable-requires

@@ -4,8 +4,8 @@ use Rattle.io_model.specs.declared.pipe.PipeAns.{PipeAns}
 use Rattle.io_rules.specs.Io.{Io}
 use Rattle.io_rules.specs.Pipes.{write_end, write_leaves, writes_pipe, writes_rest}
 use Rattle.io_rules.specs.Step.{leaves}
-use Rattle.io_state.specs.Sound.{MayWait}
-use Rattle.device_io.specs.Leaving.{ReadsNoTerminal, Settles}
+use Rattle.io_state.specs.Sound.{MayWait, ReadsNoTerminal}
+use Rattle.device_io.specs.Leaving.{Settles}
 use Rattle.device_io.proofs.pipe_writes.write_pipe.Goals as goal
 
 pub settle-requires-clause-may : goal.settle-requires-clause-may

@@ -19,8 +19,8 @@ use Rattle.device_io.proofs.sending.send.Goals as goal
 pub put-requires-clause-there : goal.put-requires-clause-there
 put-requires-clause-there g c =
     let io = c.args.io.now in
-    let kind = c.args.written.now.kind in
-    let bytes = c.args.written.now.bytes.now in
+    let kind = c.args.to_write.now.kind in
+    let bytes = c.args.to_write.now.bytes.now in
     let path : OpenPath = record { path = c.in-Some.path; desc = c.in-Some.desc } in
     let found = path-found kind c.args.by.regs io c.args.by.p.0 c.path_number.result c.path_number.ensures (Some path) c.in-Some.ensures.path in
     let known = write-call kind c.args.by.regs io c.args.by.p.0 path c.write_code-code.result c.call_now-call.result (length bytes)
@@ -31,8 +31,8 @@ put-requires-clause-there g c =
 pub write_pipe-requires-clause-may : goal.write_pipe-requires-clause-may
 write_pipe-requires-clause-may g c =
     let io = c.args.io.now in
-    let kind = c.args.written.now.kind in
-    let bytes = c.args.written.now.bytes.now in
+    let kind = c.args.to_write.now.kind in
+    let bytes = c.args.to_write.now.bytes.now in
     let path : OpenPath = record { path = c.in-Some.path; desc = c.in-Some.desc } in
     let found = path-found kind c.args.by.regs io c.args.by.p.0 c.path_number.result c.path_number.ensures (Some path) c.in-Some.ensures.path in
     let known = write-call kind c.args.by.regs io c.args.by.p.0 path c.write_code-code.result c.call_now-call.result (length bytes)
@@ -45,8 +45,8 @@ write_pipe-requires-clause-may g c =
 pub returns-in_default-clause-call : goal.returns-in_default-clause-call
 returns-in_default-clause-call g c line cells =
     let io = c.args.io.now in
-    let kind = c.args.written.now.kind in
-    let bytes = c.args.written.now.bytes.now in
+    let kind = c.args.to_write.now.kind in
+    let bytes = c.args.to_write.now.bytes.now in
     let end = c.refuse in
     let caller : Caller = sender c.args.by.p c.args.by.regs cells in
     let told : Regs = regs_done kind c.args.by.regs (length bytes) in
@@ -57,8 +57,8 @@ returns-in_default-clause-call g c line cells =
 pub returns-then-not-can_write-clause-call : goal.returns-then-not-can_write-clause-call
 returns-then-not-can_write-clause-call g c line cells =
     let io = c.args.io.now in
-    let kind = c.args.written.now.kind in
-    let bytes = c.args.written.now.bytes.now in
+    let kind = c.args.to_write.now.kind in
+    let bytes = c.args.to_write.now.bytes.now in
     let end = c.refuse-then-not-can_write in
     let caller : Caller = sender c.args.by.p c.args.by.regs cells in
     let told : Regs = regs_done kind c.args.by.regs (length bytes) in
@@ -70,8 +70,8 @@ returns-then-not-can_write-clause-call g c line cells =
 pub returns-then-is_empty-clause-call : goal.returns-then-is_empty-clause-call
 returns-then-is_empty-clause-call g c line cells =
     let io = c.args.io.now in
-    let kind = c.args.written.now.kind in
-    let bytes = c.args.written.now.bytes.now in
+    let kind = c.args.to_write.now.kind in
+    let bytes = c.args.to_write.now.bytes.now in
     let end = c.finish in
     let caller : Caller = sender c.args.by.p c.args.by.regs cells in
     let told : Regs = regs_done kind c.args.by.regs (length bytes) in
@@ -86,8 +86,8 @@ returns-then-is_empty-clause-call g c line cells =
 pub returns-in-File-clause-call : goal.returns-in-File-clause-call
 returns-in-File-clause-call g c line cells =
     let io = c.args.io.now in
-    let kind = c.args.written.now.kind in
-    let bytes = c.args.written.now.bytes.now in
+    let kind = c.args.to_write.now.kind in
+    let bytes = c.args.to_write.now.bytes.now in
     let end = c.refuse-in-File in
     let caller : Caller = sender c.args.by.p c.args.by.regs cells in
     let told : Regs = regs_done kind c.args.by.regs (length bytes) in
@@ -101,8 +101,8 @@ returns-in-File-clause-call g c line cells =
 pub returns-in-Folder-clause-call : goal.returns-in-Folder-clause-call
 returns-in-Folder-clause-call g c line cells =
     let io = c.args.io.now in
-    let kind = c.args.written.now.kind in
-    let bytes = c.args.written.now.bytes.now in
+    let kind = c.args.to_write.now.kind in
+    let bytes = c.args.to_write.now.bytes.now in
     let end = c.refuse-in-Folder in
     let caller : Caller = sender c.args.by.p c.args.by.regs cells in
     let told : Regs = regs_done kind c.args.by.regs (length bytes) in
@@ -116,8 +116,8 @@ returns-in-Folder-clause-call g c line cells =
 pub returns-in-Term-clause-call : goal.returns-in-Term-clause-call
 returns-in-Term-clause-call g c line cells =
     let io = c.args.io.now in
-    let kind = c.args.written.now.kind in
-    let bytes = c.args.written.now.bytes.now in
+    let kind = c.args.to_write.now.kind in
+    let bytes = c.args.to_write.now.bytes.now in
     let end = c.put in
     let caller : Caller = sender c.args.by.p c.args.by.regs cells in
     let told : Regs = regs_done kind c.args.by.regs (length bytes) in
@@ -135,8 +135,8 @@ returns-in-Term-clause-call g c line cells =
 pub returns-in-Pipe-clause-call : goal.returns-in-Pipe-clause-call
 returns-in-Pipe-clause-call g c line cells =
     let io = c.args.io.now in
-    let kind = c.args.written.now.kind in
-    let bytes = c.args.written.now.bytes.now in
+    let kind = c.args.to_write.now.kind in
+    let bytes = c.args.to_write.now.bytes.now in
     let end = c.write_pipe in
     let caller : Caller = sender c.args.by.p c.args.by.regs cells in
     let told : Regs = regs_done kind c.args.by.regs (length bytes) in

@@ -22,8 +22,9 @@ use Rattle.file_io.proofs.ClaimLemmas.{as-fault, counts, file-stays, goes-on}
 use Rattle.file_io.proofs.ReadingLemmas.{begins, not-le}
 use Rattle.file_io.proofs.RequestingLemmas.{read-request, reading-asks, reading-ends, reading-fails, reading-goes}
 use Rattle.file_io.proofs.TryingLemmas.{regs-tied}
-use Rattle.file_io.specs.Opened.{IsPathOf, ReadsNoTerminal, found_on}
+use Rattle.file_io.specs.Opened.{IsPathOf, found_on}
 use Rattle.file_io.proofs.reads.read_for_update.Goals as goal
+use Rattle.io_state.specs.Sound.{ReadsNoTerminal}
 
 pub returns-in-Err-clause-call : goal.returns-in-Err-clause-call
 returns-in-Err-clause-call g c now m was v file terms tied stands is there =
@@ -84,7 +85,7 @@ returns-in-Some-clause-call g c now m was v file terms tied stands is there =
     let tick_is : m.tick ≡ tick = ap (λ (i : Processes). i.tick) tied.is in
     let request = c.request_now-request.result in
     let grant = answer_in locks p tick request in
-    let y_is : (regs_at m p).y ≡ c.args.by.regs.y = ap (λ (r : Regs). r.y) (sym (c.requires.calls.regs ∙ regs-tied c.args.machine.now.processes m p tied)) in
+    let y_is : (regs_at m p).y ≡ c.args.by.regs.y = ap (λ (r : Regs). r.y) (sym (c.requires.calls.calls.regs ∙ regs-tied c.args.machine.now.processes m p tied)) in
     let same : request_now asker was found (read_claim kind asker found start) ≡ request =
     read-request kind m was now c.args.by.p opened v file c.code_of.result c.in-Ok.size c.position-at.result start c.args.by.regs.y c.from.result
     c.range_of.result locks tick request c.code_of.ensures y_is locks_are tick_is
@@ -104,8 +105,7 @@ read_granted-requires-clause-calls g c =
     let granted : grant ≡ Granted = goes-on grant (λ end is. c.in_default.not-Some end (c.ask.ensures.end ∙ is)) in
     let went : c.ask.new.self ≡ asked mid p request Granted = c.ask.ensures.state ∙ ap (asked mid p request) granted in
     record {
-      lives = search rules;
-      regs = search rules;
+      calls = record { lives = search rules; regs = search rules };
       no_read = subst (λ (state : FileState). ReadsNoTerminal state.io p) (sym went) c.requires.calls.no_read;
     }
 
@@ -159,7 +159,7 @@ returns-clause-call g c now m was v file terms tied stands is there =
     let tick_is : m.tick ≡ tick = ap (λ (i : Processes). i.tick) tied.is in
     let request = c.request_now-request.result in
     let grant = answer_in locks p tick request in
-    let y_is : (regs_at m p).y ≡ c.args.by.regs.y = ap (λ (r : Regs). r.y) (sym (c.requires.calls.regs ∙ regs-tied c.args.machine.now.processes m p tied)) in
+    let y_is : (regs_at m p).y ≡ c.args.by.regs.y = ap (λ (r : Regs). r.y) (sym (c.requires.calls.calls.regs ∙ regs-tied c.args.machine.now.processes m p tied)) in
     let same : request_now asker was found (read_claim kind asker found start) ≡ request =
     read-request kind m was now c.args.by.p opened v file c.code_of.result c.in-Ok.size c.position-at.result start c.args.by.regs.y c.from.result
     c.range_of.result locks tick request c.code_of.ensures y_is locks_are tick_is

@@ -25,7 +25,7 @@ returns-in-Ok-clause-call g c now m was v file terms tied stands is there =
     let kind = c.args.reading.kind in
     let at = lock.range.start in
     let s = c.load.new.s in
-    let same : c.args.by.regs ≡ regs_at m p = c.requires.calls.regs ∙ regs-tied c.args.machine.now.processes m p tied in
+    let same : c.args.by.regs ≡ regs_at m p = c.requires.calls.calls.regs ∙ regs-tied c.args.machine.now.processes m p tied in
     let old : FileState = record c.args.machine.now.files { records = was.records } in
     let mid : FileState = record c.args.machine.now.files { disks = c.load.new.disks } in
     let read_state : FileState = record mid { records = was.records } in
@@ -50,7 +50,7 @@ returns-in-Err-clause-call g c now m was v file terms tied stands is there =
     let opened = c.args.opened.now in
     let lock = c.args.reading.lock in
     let at = lock.range.start in
-    let same : c.args.by.regs ≡ regs_at m p = c.requires.calls.regs ∙ regs-tied c.args.machine.now.processes m p tied in
+    let same : c.args.by.regs ≡ regs_at m p = c.requires.calls.calls.regs ∙ regs-tied c.args.machine.now.processes m p tied in
     let old : FileState = record c.args.machine.now.files { records = was.records } in
     let mid : FileState = record c.args.machine.now.files { disks = c.load.new.disks } in
     let read_state : FileState = record mid { records = was.records } in

@@ -22,8 +22,7 @@ read_opened-requires-clause-opened g c = record {
 
 pub read_opened-requires-clause-calls : goal.read_opened-requires-clause-calls
 read_opened-requires-clause-calls g c = record {
-  lives = search rules;
-  regs = search rules;
+  calls = record { lives = search rules; regs = search rules };
   no_read =
       again-no_read c.args.machine.now.files.io c.args.by.p.0 _ c.args.opened.now Device.ReadLn _ c.requires.again.again refl
       (is-named c.args.machine.now.files _ c.requires.sound c.args.by.p.0 _ c.args.opened.now c.requires.opened);

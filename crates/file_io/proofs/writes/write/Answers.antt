@@ -27,8 +27,7 @@ send-requires-clause-file g c = may-be-written c.args.machine.now.files _ c.requ
 
 pub send-requires-clause-calls : goal.send-requires-clause-calls
 send-requires-clause-calls g c = record {
-  lives = search rules;
-  regs = search rules;
+  calls = record { lives = search rules; regs = search rules };
   no_read =
       again-no_read c.args.machine.now.files.io c.args.by.p.0 _ c.args.opened.now Device.Write _ c.requires.again.again refl
       (is-named c.args.machine.now.files _ c.requires.sound c.args.by.p.0 _ c.args.opened.now c.requires.opened);
@@ -47,7 +46,7 @@ send-requires-clause-may g c = record {
 pub returns-then-not-read_bytes-clause-call : goal.returns-then-not-read_bytes-clause-call
 returns-then-not-read_bytes-clause-call g c terms m was tied stands kinds =
     let p = c.args.by.p.0 in
-    let now = c.args.by.now in
+    let now = c.args.by.time in
     let asker = asker_of m p now in
     let it = known-a c.args.machine.now.files _ was p c.args.opened.now stands kinds c.args.machine.now.processes m c.args.by.regs c.requires.calls.regs tied c.requires.opened in
     let found = found_on c.args.opened.now it.volume it.file in
@@ -72,7 +71,7 @@ pub returns-clause-call : goal.returns-clause-call
 unfolding write_opened
 returns-clause-call g c terms m was tied stands kinds =
     let p = c.args.by.p.0 in
-    let now = c.args.by.now in
+    let now = c.args.by.time in
     let asker = asker_of m p now in
     let it = known-a c.args.machine.now.files _ was p c.args.opened.now stands kinds c.args.machine.now.processes m c.args.by.regs c.requires.calls.regs tied c.requires.opened in
     let found = found_on c.args.opened.now it.volume it.file in

@@ -29,8 +29,7 @@ write_file-requires-clause-file g c =
 
 pub write_file-requires-clause-calls : goal.write_file-requires-clause-calls
 write_file-requires-clause-calls g c = record {
-  lives = search rules;
-  regs = search rules;
+  calls = record { lives = search rules; regs = search rules };
   no_read =
       again-no_read c.args.machine.now.files.io c.args.by.p.0 STANDARD_ERROR c.args.opened.now Device.PErr _ c.requires.again.again
       refl (is-named c.args.machine.now.files _ c.requires.sound c.args.by.p.0 STANDARD_ERROR c.args.opened.now
@@ -53,7 +52,7 @@ write_file-requires-clause-sends g c = record { moves = refl; some = omega arith
 pub returns-then-not-can_write-clause-call : goal.returns-then-not-can_write-clause-call
 returns-then-not-can_write-clause-call g c terms m was tied stands kinds =
     let p = c.args.by.p.0 in
-    let now = c.args.by.now in
+    let now = c.args.by.time in
     let asker = asker_of m p now in
     let it = known c.args.machine.now.files _ was p c.args.opened.now stands kinds STANDARD_ERROR c.requires.opened in
     let found = found_on c.args.opened.now it.volume it.file in
@@ -69,7 +68,7 @@ returns-then-not-can_write-clause-call g c terms m was tied stands kinds =
 pub returns-clause-call : goal.returns-clause-call
 returns-clause-call g c terms m was tied stands kinds =
     let p = c.args.by.p.0 in
-    let now = c.args.by.now in
+    let now = c.args.by.time in
     let asker = asker_of m p now in
     let it = known c.args.machine.now.files _ was p c.args.opened.now stands kinds STANDARD_ERROR c.requires.opened in
     let found = found_on c.args.opened.now it.volume it.file in

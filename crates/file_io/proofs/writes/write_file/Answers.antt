@@ -18,8 +18,9 @@ use Rattle.file_state.specs.Asking.{asked}
 use Rattle.file_state.specs.declared.state.FileState.{FileState}
 use Rattle.file_io.proofs.ClaimLemmas.{as-fault, data-stays, goes-on}
 use Rattle.file_io.proofs.SendingLemmas.{sending-asks, sending-fails, sending-goes, write-request}
-use Rattle.file_io.specs.Opened.{ReadsNoTerminal, found_on}
+use Rattle.file_io.specs.Opened.{found_on}
 use Rattle.file_io.proofs.writes.write_file.Goals as goal
+use Rattle.io_state.specs.Sound.{ReadsNoTerminal}
 
 pub returns-in-Err-clause-call : goal.returns-in-Err-clause-call
 returns-in-Err-clause-call g c m was v file terms tied stands is there =
@@ -34,7 +35,7 @@ returns-in-Err-clause-call g c m was v file terms tied stands is there =
     let fault : IsFault _ c.in-Err.fault = fault-of c.size.result c.in-Err.fault c.in-Err.is c.size.ensures.device in
     let drive = as-fault opened.place _ fault.number calls c.args.machine.now.files.disks c.size.new.self _ _ fault.is c.size.ensures.drive in
     let called = called-read c.args.machine.now.files mid _ _ was opened.place v file (Some fault.number) calls stands is there drive in
-    sending-fails c.args.sent.code bytes c.args.sent.done m was v file c.args.by.now p opened is there some _ _ terms mid called stands.drives count long
+    sending-fails c.args.sent.code bytes c.args.sent.done m was v file c.args.by.time p opened is there some _ _ terms mid called stands.drives count long
     c.refuse.result c.args.machine.now.processes (record mid { io = c.refuse.new.io }) fault.number
     (has-read c.args.machine.now.files mid _ _ was opened.place file (Some fault.number) calls stands (file-there was opened.place v file is there) refl refl refl drive)
     (c.refuse.ensures.end ∙ ap (λ (n : ℕ). CallEnd.Error n) (c.number.ensures ∙ fault.answer)) tied
@@ -59,16 +60,16 @@ returns-in-Some-clause-call g c m was v file terms tied stands is there =
     let locks_are : was.records.locks ≡ locks = ap (λ (records : Records). records.locks) stands.records in
     let tick_is : m.tick ≡ tick = ap (λ (i : Processes). i.tick) tied.is in
     let found = found_on opened v file in
-    let asker = asker_of m p c.args.by.now in
+    let asker = asker_of m p c.args.by.time in
     let request = c.request_now-request.result in
     let grant = answer_in locks p tick request in
     let same : request_now asker was found (write_claim found code (length bytes)) ≡ request =
-    write-request m was c.args.by.now c.args.by.p opened v file code bytes count c.in-Ok.size c.from.result c.range_of.result locks tick request long locks_are tick_is
+    write-request m was c.args.by.time c.args.by.p opened v file code bytes count c.in-Ok.size c.from.result c.range_of.result locks tick request long locks_are tick_is
     (c.in-Ok.ensures.ok was.volumes v file stands.mounted is there) c.from.ensures c.range_of.ensures c.request_now-request.ensures.request in
-    sending-asks code bytes c.args.sent.done m was v file c.args.by.now p opened is there some _ _ terms mid called stands.drives count long c.in-Some.end c.args.machine.now.processes c.ask.new.self
+    sending-asks code bytes c.args.sent.done m was v file c.args.by.time p opened is there some _ _ terms mid called stands.drives count long c.in-Some.end c.args.machine.now.processes c.ask.new.self
     (ap (λ (r : Request). r.lock.owner.0) same ∙ c.request_now-request.ensures.own.owner) read grant
     (ap (answer_to asker was) same
-    ∙ same-answer m was c.args.by.now c.args.by.p found opened locks tick refl refl locks_are tick_is request)
+    ∙ same-answer m was c.args.by.time c.args.by.p found opened locks tick refl refl locks_are tick_is request)
     c.in-Some.ensures.end tied
     (c.in-Some.ensures.state ∙ ap (λ (r : Request). asked mid p r grant) (sym same))
 
@@ -81,8 +82,7 @@ write_granted-requires-clause-calls g c =
     let granted : grant ≡ Granted = goes-on grant (λ end is. c.in_default.not-Some end (c.ask.ensures.end ∙ is)) in
     let went : c.ask.new.self ≡ asked mid p request Granted = c.ask.ensures.state ∙ ap (asked mid p request) granted in
     record {
-      lives = search rules;
-      regs = search rules;
+      calls = record { lives = search rules; regs = search rules };
       no_read = subst (λ (state : FileState). ReadsNoTerminal state.io p) (sym went) c.requires.calls.no_read;
     }
 
@@ -117,17 +117,17 @@ returns-clause-call g c m was v file terms tied stands is there =
     let locks_are : was.records.locks ≡ locks = ap (λ (records : Records). records.locks) stands.records in
     let tick_is : m.tick ≡ tick = ap (λ (i : Processes). i.tick) tied.is in
     let found = found_on opened v file in
-    let asker = asker_of m p c.args.by.now in
+    let asker = asker_of m p c.args.by.time in
     let request = c.request_now-request.result in
     let grant = answer_in locks p tick request in
     let same : request_now asker was found (write_claim found code (length bytes)) ≡ request =
-    write-request m was c.args.by.now c.args.by.p opened v file code bytes count c.in-Ok.size c.from.result c.range_of.result locks tick request long locks_are tick_is
+    write-request m was c.args.by.time c.args.by.p opened v file code bytes count c.in-Ok.size c.from.result c.range_of.result locks tick request long locks_are tick_is
     (c.in-Ok.ensures.ok was.volumes v file stands.mounted is there) c.from.ensures c.range_of.ensures c.request_now-request.ensures.request in
     let granted : grant ≡ Granted = goes-on grant (λ end is. c.in_default.not-Some end (c.ask.ensures.end ∙ is)) in
     let went : c.ask.new.self ≡ asked mid p request Granted = c.ask.ensures.state ∙ ap (asked mid p request) granted in
-    sending-goes code bytes done m was v file c.args.by.now p opened is there some _ _ terms mid called stands.drives count long c.write_granted.result
+    sending-goes code bytes done m was v file c.args.by.time p opened is there some _ _ terms mid called stands.drives count long c.write_granted.result
     c.write_granted.new.machine.processes c.write_granted.new.machine.files _ request same
     (ap (answer_to asker was) same
-    ∙ same-answer m was c.args.by.now c.args.by.p found opened locks tick refl refl locks_are tick_is request ∙ granted)
+    ∙ same-answer m was c.args.by.time c.args.by.p found opened locks tick refl refl locks_are tick_is request ∙ granted)
     read
     (c.write_granted.ensures.call m was v file terms tied (granted-stands p was request opened.place.drive mid c.ask.new.self _ _ read went) is there)

@@ -17,7 +17,7 @@ returns-else-fd-opened-clause-call g c now m was it terms tied stands open_is =
     let past : nat_le c.in-Ok.fd.size c.args.opened.now.desc.at ≡ false = grind (arith, nat_tests) in
     end-not-reached m was now c.args.by.p.0 c.answer.result c.answer.new.machine.processes c.args.machine.now.files c.answer.new.machine.files _ _ terms c.fd.new.self
     c.args.opened.now it stands open_is c.answer.ensures.files
-    c.args.by.regs c.in-Ok.fd (c.requires.calls.regs ∙ regs-tied c.args.machine.now.processes m c.args.by.p.0 tied) c.in-Ok.ensures.ok past c.in-Ok.ensures.drive
+    c.args.by.regs c.in-Ok.fd (c.requires.calls.calls.regs ∙ regs-tied c.args.machine.now.processes m c.args.by.p.0 tied) c.in-Ok.ensures.ok past c.in-Ok.ensures.drive
     c.answer.ensures.end (c.answer.ensures.tied m tied)
 
 pub returns-in-Err-clause-call : goal.returns-in-Err-clause-call

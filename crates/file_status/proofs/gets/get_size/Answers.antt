@@ -11,7 +11,7 @@ pub returns-in-Ok-clause-call : goal.returns-in-Ok-clause-call
 returns-in-Ok-clause-call g c now m was it terms tied stands open_is =
     size-told m was now c.args.by.p.0 c.answer.result c.answer.new.machine.processes c.args.machine.now.files c.answer.new.machine.files _ _ terms c.fd.new.self
     c.args.opened.now it stands open_is c.answer.ensures.files
-    c.args.by.regs c.in-Ok.fd (c.requires.calls.regs ∙ regs-tied c.args.machine.now.processes m c.args.by.p.0 tied) c.in-Ok.ensures.ok c.in-Ok.ensures.drive c.answer.ensures.end
+    c.args.by.regs c.in-Ok.fd (c.requires.calls.calls.regs ∙ regs-tied c.args.machine.now.processes m c.args.by.p.0 tied) c.in-Ok.ensures.ok c.in-Ok.ensures.drive c.answer.ensures.end
     (subst (λ (r : Regs). Represents c.answer.new.machine.processes (with_regs_of m c.args.by.p.0 r)) c.long_regs.ensures (c.answer.ensures.tied m tied))
 
 pub returns-in-Err-clause-call : goal.returns-in-Err-clause-call

@@ -8,10 +8,9 @@ use Rattle.file_status.proofs.gets.get_status.Goals as goal
 
 pub get_status_of-requires-clause-calls : goal.get_status_of-requires-clause-calls
 get_status_of-requires-clause-calls g c = record {
-  lives = c.requires.calls.lives;
-  regs = c.requires.calls.regs;
+  calls = c.requires.calls.calls;
   no_read =
-      subst (λ (o : Option PendingCall). IfSome o (IsNoRead c.args.machine.now.files.io)) (sym c.requires.first) tt;
+      subst (λ (o : Option PendingCall). IfSome o (IsNoRead c.args.machine.now.files.io)) (sym c.requires.calls.none_pending) tt;
 }
 
 pub get_status_of-requires-clause-there : goal.get_status_of-requires-clause-there

@@ -6,16 +6,16 @@ use Rattle.file_status.proofs.sets.set_attributes.Goals as goal
 
 pub returns-in-Ok-clause-call : goal.returns-in-Ok-clause-call
 returns-in-Ok-clause-call g c m was it terms tied stands open_is =
-    attributes-set m was c.args.by.now c.args.by.p.0 c.answer.result c.answer.new.machine.processes c.args.machine.now.files c.answer.new.machine.files _ _
+    attributes-set m was c.args.by.time c.args.by.p.0 c.answer.result c.answer.new.machine.processes c.args.machine.now.files c.answer.new.machine.files _ _
     terms c.set_attr.new.self c.args.opened.now it stands open_is c.answer.ensures.files
-    c.args.by.regs c.user-user.result (c.requires.calls.regs ∙ regs-tied c.args.machine.now.processes m c.args.by.p.0 tied) (user-tied c.args.machine.now.processes m c.args.by.p.0
+    c.args.by.regs c.user-user.result (c.requires.calls.calls.regs ∙ regs-tied c.args.machine.now.processes m c.args.by.p.0 tied) (user-tied c.args.machine.now.processes m c.args.by.p.0
     c.user-user.result tied c.user-user.ensures.user) c.in-Ok.ensures.changed c.answer.ensures.end
     (c.answer.ensures.tied m tied)
 
 pub returns-in-Err-clause-call : goal.returns-in-Err-clause-call
 returns-in-Err-clause-call g c m was it terms tied stands open_is =
-    attributes-failed m was c.args.by.now c.args.by.p.0 c.refuse.result c.args.machine.now.processes c.args.machine.now.files c.refuse.new.files _ _
+    attributes-failed m was c.args.by.time c.args.by.p.0 c.refuse.result c.args.machine.now.processes c.args.machine.now.files c.refuse.new.files _ _
     terms c.set_attr.new.self c.args.opened.now it stands open_is c.refuse.ensures.files
-    c.args.by.regs c.user-user.result c.in-Err.error (c.requires.calls.regs ∙ regs-tied c.args.machine.now.processes m c.args.by.p.0 tied)
+    c.args.by.regs c.user-user.result c.in-Err.error (c.requires.calls.calls.regs ∙ regs-tied c.args.machine.now.processes m c.args.by.p.0 tied)
     (user-tied c.args.machine.now.processes m c.args.by.p.0 c.user-user.result tied c.user-user.ensures.user)
     c.in-Err.ensures.changed (c.refuse.ensures.end ∙ ap (λ n. CallEnd.Error n) c.number.ensures) tied

@@ -32,7 +32,7 @@ returns-then-not-is_for_update-clause-call g c now m was it terms tied stands op
 pub returns-then-count-eq0-clause-call : goal.returns-then-count-eq0-clause-call
 returns-then-count-eq0-clause-call g c now m was it terms tied stands open_is =
     let p = c.args.by.p.0 in
-    let same : c.args.by.regs ≡ regs_at m p = c.requires.calls.regs ∙ regs-tied c.args.machine.now.processes m c.args.by.p.0 tied in
+    let same : c.args.by.regs ≡ regs_at m p = c.requires.calls.calls.regs ∙ regs-tied c.args.machine.now.processes m c.args.by.p.0 tied in
     let none : long_of (regs_at m p) ≡ 0 = ap long_of (sym same) ∙ sym c.long_of-count.ensures ∙ c.if-count-eq0.true in
     lock-ended 1 m was now p c.end_lock.result c.end_lock.new.machine.processes c.args.machine.now.files c.end_lock.new.machine.files _ terms c.args.opened.now it stands open_is
     (sym c.is_for_update.ensures ∙ c.if-not-is_for_update.false) (eq-eqb (long_of (regs_at m p)) 0 none)
@@ -42,7 +42,7 @@ returns-then-count-eq0-clause-call g c now m was it terms tied stands open_is =
 pub returns-in-Err-clause-call : goal.returns-in-Err-clause-call
 returns-in-Err-clause-call g c now m was it terms tied stands open_is =
     let p = c.args.by.p.0 in
-    let same : c.args.by.regs ≡ regs_at m p = c.requires.calls.regs ∙ regs-tied c.args.machine.now.processes m c.args.by.p.0 tied in
+    let same : c.args.by.regs ≡ regs_at m p = c.requires.calls.calls.regs ∙ regs-tied c.args.machine.now.processes m c.args.by.p.0 tied in
     let some : long_of (regs_at m p) ≡ 0 → ⊥ = λ none. c.if-count-eq0.false (c.long_of-count.ensures ∙ ap long_of same ∙ none) in
     locking-failed m was now p c.refuse-in-Err.result c.args.machine.now.processes c.args.machine.now.files c.refuse-in-Err.new.files _ _ terms c.fd.new.self c.args.opened.now it stands open_is
     (sym c.is_for_update.ensures ∙ c.if-not-is_for_update.false) (ne_eqb (long_of (regs_at m p)) 0 some)
@@ -55,7 +55,7 @@ returns-in-Some-clause-call g c now m was it terms tied stands open_is =
     let fd : IsFdOf it.file c.in-Ok.fd = c.in-Ok.ensures.ok was.volumes it.volume it.file stands.mounted open_is.volume_is open_is.file_is in
     let locks : was.records.locks ≡ c.args.machine.now.files.records.locks = ap (λ (r : Records). r.locks) stands.records in
     let tick : m.tick ≡ c.args.machine.now.processes.tick = ap (λ (i : Processes). i.tick) tied.is in
-    let count : c.long_of-count.result ≡ long_of (regs_at m p) = c.long_of-count.ensures ∙ ap long_of (c.requires.calls.regs ∙ regs-tied c.args.machine.now.processes m c.args.by.p.0 tied) in
+    let count : c.long_of-count.result ≡ long_of (regs_at m p) = c.long_of-count.ensures ∙ ap long_of (c.requires.calls.calls.regs ∙ regs-tied c.args.machine.now.processes m c.args.by.p.0 tied) in
     let some : long_of (regs_at m p) ≡ 0 → ⊥ = λ none. c.if-count-eq0.false (count ∙ none) in
     let same : request_now (asker_of m p now) was it (lock_claim it (long_of (regs_at m p))) ≡ request =
     lock-requested m was now c.args.by.p c.args.opened.now it c.args.machine.now.files.records.locks c.args.machine.now.processes.tick open_is
@@ -78,7 +78,7 @@ returns-then-is_err-clause-call g c now m was it terms tied stands open_is =
     let fd : IsFdOf it.file c.in-Ok.fd = c.in-Ok.ensures.ok was.volumes it.volume it.file stands.mounted open_is.volume_is open_is.file_is in
     let locks : was.records.locks ≡ c.args.machine.now.files.records.locks = ap (λ (r : Records). r.locks) stands.records in
     let tick : m.tick ≡ c.args.machine.now.processes.tick = ap (λ (i : Processes). i.tick) tied.is in
-    let count : c.long_of-count.result ≡ long_of (regs_at m p) = c.long_of-count.ensures ∙ ap long_of (c.requires.calls.regs ∙ regs-tied c.args.machine.now.processes m c.args.by.p.0 tied) in
+    let count : c.long_of-count.result ≡ long_of (regs_at m p) = c.long_of-count.ensures ∙ ap long_of (c.requires.calls.calls.regs ∙ regs-tied c.args.machine.now.processes m c.args.by.p.0 tied) in
     let some : long_of (regs_at m p) ≡ 0 → ⊥ = λ none. c.if-count-eq0.false (count ∙ none) in
     let same : request_now (asker_of m p now) was it (lock_claim it (long_of (regs_at m p))) ≡ request =
     lock-requested m was now c.args.by.p c.args.opened.now it c.args.machine.now.files.records.locks c.args.machine.now.processes.tick open_is
@@ -97,8 +97,7 @@ returns-then-is_err-clause-call g c now m was it terms tied stands open_is =
 
 pub answer-requires : goal.answer-requires
 answer-requires g c = record {
-  lives = search rules;
-  regs = search rules;
+  calls = record { lives = search rules; regs = search rules };
   no_read =
       no-read-on (with_disks c.args.machine.now.files c.fd.new.self) c.ask.new.self c.args.by.p.0 c.request_now-request.result
       (goes-on _ c.ask.new.self c.args.by.p.0 c.request_now-request.result _ c.ask.ensures.state c.in_default.ensures.end) c.requires.calls.no_read;
@@ -111,7 +110,7 @@ returns-clause-call g c now m was it terms tied stands open_is =
     let fd : IsFdOf it.file c.in-Ok.fd = c.in-Ok.ensures.ok was.volumes it.volume it.file stands.mounted open_is.volume_is open_is.file_is in
     let locks : was.records.locks ≡ c.args.machine.now.files.records.locks = ap (λ (r : Records). r.locks) stands.records in
     let tick : m.tick ≡ c.args.machine.now.processes.tick = ap (λ (i : Processes). i.tick) tied.is in
-    let count : c.long_of-count.result ≡ long_of (regs_at m p) = c.long_of-count.ensures ∙ ap long_of (c.requires.calls.regs ∙ regs-tied c.args.machine.now.processes m c.args.by.p.0 tied) in
+    let count : c.long_of-count.result ≡ long_of (regs_at m p) = c.long_of-count.ensures ∙ ap long_of (c.requires.calls.calls.regs ∙ regs-tied c.args.machine.now.processes m c.args.by.p.0 tied) in
     let some : long_of (regs_at m p) ≡ 0 → ⊥ = λ none. c.if-count-eq0.false (count ∙ none) in
     let same : request_now (asker_of m p now) was it (lock_claim it (long_of (regs_at m p))) ≡ request =
     lock-requested m was now c.args.by.p c.args.opened.now it c.args.machine.now.files.records.locks c.args.machine.now.processes.tick open_is
@@ -127,7 +126,7 @@ returns-clause-call g c now m was it terms tied stands open_is =
     (sym c.is_for_update.ensures ∙ c.if-not-is_for_update.false) (ne_eqb (long_of (regs_at m p)) 0 some) request same
     c.in-Ok.ensures.drive (answer ∙ granted-by _ c.in_default.ensures.end) c.answer.ensures.end
     (subst (λ (r : Regs). Represents c.answer.new.machine.processes (with_regs_of m p r))
-    (c.requires.calls.regs ∙ regs-tied c.args.machine.now.processes m c.args.by.p.0 tied) (c.answer.ensures.tied m tied))
+    (c.requires.calls.calls.regs ∙ regs-tied c.args.machine.now.processes m c.args.by.p.0 tied) (c.answer.ensures.tied m tied))
     (c.answer.ensures.files
     ∙ ap (λ (records : Records). let left : FileState = record c.ask.new.self { io = with_call c.ask.new.self.io p None; records = records } in left) held
     ∙ ap (λ (state : FileState). let left : FileState = record state {

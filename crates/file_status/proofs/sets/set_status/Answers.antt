@@ -8,8 +8,7 @@ use Rattle.file_status.proofs.sets.set_status.Goals as goal
 
 pub set_status_of-requires-clause-calls : goal.set_status_of-requires-clause-calls
 set_status_of-requires-clause-calls g c = record {
-  lives = c.requires.calls.lives;
-  regs = c.requires.calls.regs;
+  calls = c.requires.calls;
   no_read =
       no-read-there c.args.machine.now.files _ c.args.by.p.0 (record_at c.args.machine.now.processes.table c.args.by.p.0).regs.a c.args.opened.now
       c.requires.sound c.requires.named.file Device.SetStt c.args.by.regs (ap (λ (r : Regs). r.a) c.requires.calls.regs)
@@ -31,5 +30,5 @@ set_status_of-requires-clause-written g c may =
 
 pub returns-clause-call : goal.returns-clause-call
 returns-clause-call g c terms m was tied stands kinds =
-    set-attempt m was c.args.by.now c.args.by.p.0 c.set_status_of.result _ _ c.args.opened.now terms tied stands kinds c.requires.named
+    set-attempt m was c.args.by.time c.args.by.p.0 c.set_status_of.result _ _ c.args.opened.now terms tied stands kinds c.requires.named
     (λ it open_is. c.set_status_of.ensures.call m was it terms tied stands open_is)

@@ -12,7 +12,7 @@ pub returns-clause-call : goal.returns-clause-call
 returns-clause-call c now views m was it terms tied stands open_is =
     let new : FileState = record c.answer-end.new.machine.files { io = c.set_ticks.new.self } in
     ticks-set _ m was now c.args.by.p.0 c.answer-end.result c.answer-end.new.machine.processes c.args.machine.now.files new views terms c.args.opened.now it stands open_is
-    c.args.by.regs (c.requires.calls.regs ∙ regs-tied c.args.machine.now.processes m c.args.by.p.0 tied)
+    c.args.by.regs (c.requires.calls.calls.regs ∙ regs-tied c.args.machine.now.processes m c.args.by.p.0 tied)
     (ticked-on c.args.machine.now.files c.answer-end.new.machine.files c.args.by.p.0 c.args.opened.now c.args.by.regs.x c.set_ticks.new.self c.answer-end.ensures.files
     c.requires.path.desc c.set_ticks.ensures)
     c.answer-end.ensures.end (c.answer-end.ensures.tied m tied)

@@ -24,4 +24,4 @@ pub returns-in-Ok-clause-begins : goal.returns-in-Ok-clause-begins
 returns-in-Ok-clause-begins c m was now list views tied stands next =
     begun-quietly m was now c.args.by.p.0 list c.args.target c.args.machine.now.files views stands c.answer.result c.answer.new.s c.begin_on_disk.new.self c.answer.new.io c.answer.ensures.io
     c.in-Ok.a c.args.next c.in-Ok.ensures.number next c.answer.ensures.end
-    c.args.by.regs (c.requires.calls.regs ∙ sym (regs-tied c.args.machine.now.processes m c.args.by.p.0 tied)) c.begin_on_disk.ensures.io (c.answer.ensures.tied m tied)
+    c.args.by.regs (c.requires.calls.calls.regs ∙ sym (regs-tied c.args.machine.now.processes m c.args.by.p.0 tied)) c.begin_on_disk.ensures.io (c.answer.ensures.tied m tied)

@@ -48,7 +48,7 @@ returns-in-Ok-clause-call g c now terms many m was tied stands kinds =
     (locates-same (looks_for_directory asker was terminals) look (i_chgdir_calls asker was terminals) most _ was _
     _ _ (ap (looks_for_directory asker was) (sym many)) (ap (i_chgdir_calls asker was) (sym many))
     (c.in-Ok.ensures.finds m was now tied stands)) in
-    let regs_is : c.args.by.regs ≡ regs_at m p = regs-are c.args.by c.args.machine.now.processes m c.requires.calls.regs tied in
+    let regs_is : c.args.by.regs ≡ regs_at m p = regs-are c.args.by c.args.machine.now.processes m c.requires.calls.calls.regs tied in
     let regs : Regs = record (regs_at m p) { x = loc.it.list.next % 65536 } in
     ends-attempt most Call.ChgDir m was now p c.answer-end.result terms _ _
     (ends-found (IsLocated look was) look (goes_there asker was) most m was now p terms c.in-Ok.located mid _ _ loc (i_chgdir asker was (length terms)) regs

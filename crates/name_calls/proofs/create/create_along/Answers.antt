@@ -30,7 +30,7 @@ create_in-requires-clause-file g c =
 pub returns-in_default-clause-creates : goal.returns-in_default-clause-creates
 returns-in_default-clause-creates g c m was list tied stands names next proper terms =
     let p = c.args.by.p.0 in
-    let now = c.args.by.now in
+    let now = c.args.by.time in
     let none : list.names ≡ [] = subst (λ (first : Option ℕ). NamesFrom (cells_at m p) first list.names) c.in_default.is names in
     refused-at_once m p c.args.machine.now.files _ c.refuse.result c.args.machine.now.processes c.refuse.new.io c.refuse.ensures.io _
     c.refuse.ensures.end tied was now terms _ (creates_along (asker_of m p now) was list c.args.start.directory)
@@ -39,7 +39,7 @@ returns-in_default-clause-creates g c m was list tied stands names next proper t
 pub returns-in-Err-clause-creates : goal.returns-in-Err-clause-creates
 returns-in-Err-clause-creates g c m was list tied stands names next proper terms =
     let p = c.args.by.p.0 in
-    let now = c.args.by.now in
+    let now = c.args.by.time in
     let asker = asker_of m p now in
     let walker = c.walker_of-walker.result in
     let new : FileState = record c.args.machine.now.files { disks = c.call_walk_to_last.new.disks } in
@@ -52,12 +52,12 @@ returns-in-Err-clause-creates g c m was list tied stands names next proper terms
     c.requires.file refl refl refl (creates_in asker was list last.0) (new_file_calls asker last.0) _ who.execute
     c.refuse-in-Err.result c.call_walk_to_last.new.s c.in-Err.error it c.refuse-in-Err.new.io c.refuse-in-Err.ensures.io
     (c.refuse-in-Err.ensures.end ∙ ap Error c.number.ensures) (c.call_walk_to_last.ensures.same.represents m tied)
-    (λ v. create-walk-stays asker was list v walker.execute last.0 c.args.start.directory (before_last list.names)))
+    (λ v. create-walk-stays asker was list v walker.by.execute last.0 c.args.start.directory (before_last list.names)))
 
 pub returns-in-Ok-clause-creates : goal.returns-in-Ok-clause-creates
 returns-in-Ok-clause-creates g c m was list tied stands names next proper terms =
     let p = c.args.by.p.0 in
-    let now = c.args.by.now in
+    let now = c.args.by.time in
     let asker = asker_of m p now in
     let walker = c.walker_of-walker.result in
     let name : List ℕ = c.in-Ok.last.name in

@@ -22,12 +22,12 @@ use Rattle.name_calls.proofs.create.i_create.Goals as goal
 
 pub returns-in-Err-clause-call : goal.returns-in-Err-clause-call
 returns-in-Err-clause-call g c terms many m was tied stands kinds =
-    let now = c.args.by.now in
+    let now = c.args.by.time in
     let p = c.args.by.p.0 in
     let asker = asker_of m p now in
     let count = vec_len c.args.devices.now.terms in
     let number = c.in-Err.number in
-    let same = regs-are c.args.by c.args.machine.now.processes m c.requires.calls.regs tied in
+    let same = regs-are c.args.by c.args.machine.now.processes m c.requires.calls.calls.regs tied in
     let refusal_is : c.mode_refusal-refusal.result ≡ mode_refusal (can_write (regs_at m p).a) =
     c.mode_refusal-refusal.ensures ∙ ap mode_refusal (c.can_write.ensures ∙ ap (λ (r : Regs). can_write r.a) same) in
     let execute_is : c.is_for_execution-execute.result ≡ is_for_execution (regs_at m p).a = c.is_for_execution-execute.ensures ∙ ap (λ (r : Regs). is_for_execution r.a) same in
@@ -41,11 +41,11 @@ returns-in-Err-clause-call g c terms many m was tied stands kinds =
 
 pub returns-in-Device-clause-call : goal.returns-in-Device-clause-call
 returns-in-Device-clause-call g c terms many m was tied stands kinds =
-    let now = c.args.by.now in
+    let now = c.args.by.time in
     let p = c.args.by.p.0 in
     let asker = asker_of m p now in
     let count = vec_len c.args.devices.now.terms in
-    let same = regs-are c.args.by c.args.machine.now.processes m c.requires.calls.regs tied in
+    let same = regs-are c.args.by c.args.machine.now.processes m c.requires.calls.calls.regs tied in
     let refusal_is : c.mode_refusal-refusal.result ≡ mode_refusal (can_write (regs_at m p).a) =
     c.mode_refusal-refusal.ensures ∙ ap mode_refusal (c.can_write.ensures ∙ ap (λ (r : Regs). can_write r.a) same) in
     let execute_is : c.is_for_execution-execute.result ≡ is_for_execution (regs_at m p).a = c.is_for_execution-execute.ensures ∙ ap (λ (r : Regs). is_for_execution r.a) same in
@@ -60,11 +60,11 @@ returns-in-Device-clause-call g c terms many m was tied stands kinds =
 
 pub returns-in-Along-clause-call : goal.returns-in-Along-clause-call
 returns-in-Along-clause-call g c terms many m was tied stands kinds =
-    let now = c.args.by.now in
+    let now = c.args.by.time in
     let p = c.args.by.p.0 in
     let asker = asker_of m p now in
     let count = vec_len c.args.devices.now.terms in
-    let same = regs-are c.args.by c.args.machine.now.processes m c.requires.calls.regs tied in
+    let same = regs-are c.args.by c.args.machine.now.processes m c.requires.calls.calls.regs tied in
     let start = c.in-Along.start in
     let refusal_is : c.mode_refusal-refusal.result ≡ mode_refusal (can_write (regs_at m p).a) =
     c.mode_refusal-refusal.ensures ∙ ap mode_refusal (c.can_write.ensures ∙ ap (λ (r : Regs). can_write r.a) same) in

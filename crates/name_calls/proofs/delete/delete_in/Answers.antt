@@ -5,12 +5,12 @@ use Rattle.name_calls.proofs.DeletingLemmas.{entry-refused, file-deleted, file-k
 use Rattle.name_calls.proofs.delete.delete_in.Goals as goal
 
 pub delete_at-requires-clause-file : goal.delete_at-requires-clause-file
-delete_at-requires-clause-file g c = still-there c.args.last.directory _ _ c.args.files.now.disks c.find_deletable.new.self _ _ c.requires c.find_deletable.ensures.drive
+delete_at-requires-clause-file g c = still-there c.args.located.last.directory _ _ c.args.files.now.disks c.find_deletable.new.self _ _ c.requires c.find_deletable.ensures.drive
 
 pub returns-in-Err-clause-deletes : goal.returns-in-Err-clause-deletes
 returns-in-Err-clause-deletes g c look seen asker files before who loc =
     let mid : FileState = record c.args.files.now { disks = c.find_deletable.new.self } in
-    entry-refused c.args.user c.args.execute c.args.last look seen asker files c.args.files.now mid before _ _ who loc
+    entry-refused c.args.by.user c.args.by.execute c.args.located look seen asker files c.args.files.now mid before _ _ who loc
     c.find_deletable.result refl refl refl c.find_deletable.ensures.answer c.find_deletable.ensures.drive
     c.in-Err.error c.number.result c.in-Err.is c.number.ensures
 
@@ -18,7 +18,7 @@ pub returns-then-is_open-clause-deletes : goal.returns-then-is_open-clause-delet
 returns-then-is_open-clause-deletes g c look seen asker files before who loc =
     let mid : FileState = record c.args.files.now { disks = c.find_deletable.new.self } in
     let taken : c.is_open.result ≡ true = cc in
-    file-shared c.args.user c.args.execute c.args.last look seen asker files c.args.files.now mid before _ _ who loc
+    file-shared c.args.by.user c.args.by.execute c.args.located look seen asker files c.args.files.now mid before _ _ who loc
     c.find_deletable.result refl refl refl c.find_deletable.ensures.answer c.find_deletable.ensures.drive
     c.in-Ok.found c.in-Ok.is c.is_open.result (λ f stands. c.is_open.ensures _ f stands) taken
 
@@ -27,7 +27,7 @@ returns-in-Err-delete_at-clause-deletes g c look seen asker files before who loc
     let mid : FileState = record c.args.files.now { disks = c.find_deletable.new.self } in
     let new : FileState = record c.args.files.now { disks = c.delete_at.new.self } in
     let quiet : c.is_open.result ≡ false = cc in
-    file-kept c.args.user c.args.execute c.args.last look seen asker files c.args.files.now mid before _ _ who loc
+    file-kept c.args.by.user c.args.by.execute c.args.located look seen asker files c.args.files.now mid before _ _ who loc
     c.find_deletable.result refl refl refl c.find_deletable.ensures.answer c.find_deletable.ensures.drive
     c.in-Ok.found c.in-Ok.is c.is_open.result (λ f stands. c.is_open.ensures _ f stands) quiet new _ refl refl
     refl c.delete_at.result c.in-Ok.ensures.found (λ asked is. c.delete_at.ensures.changed asked is)
@@ -39,7 +39,7 @@ returns-in-Ok-delete_at-clause-deletes g c look seen asker files before who loc 
     let mid : FileState = record c.args.files.now { disks = c.find_deletable.new.self } in
     let new : FileState = record c.args.files.now { disks = c.delete_at.new.self } in
     let quiet : c.is_open.result ≡ false = cc in
-    file-deleted c.args.user c.args.execute c.args.last look seen asker files c.args.files.now mid before _ _ who loc
+    file-deleted c.args.by.user c.args.by.execute c.args.located look seen asker files c.args.files.now mid before _ _ who loc
     c.find_deletable.result refl refl refl c.find_deletable.ensures.answer c.find_deletable.ensures.drive
     c.in-Ok.found c.in-Ok.is c.is_open.result (λ f stands. c.is_open.ensures _ f stands) quiet new _ refl refl
     refl c.delete_at.result c.in-Ok.ensures.found (λ asked is. c.delete_at.ensures.changed asked is)

@@ -18,29 +18,30 @@ pub returns-in-Err-clause-tries : goal.returns-in-Err-clause-tries
 returns-in-Err-clause-tries g c now m was tied stands =
     let asker = asker_of m c.args.by.p.0 now in
     let terms = vec_len c.args.devices.now.terms in
-    let look = names_last Existing c.args.execute c.args.refusal asker was terms in
-    let seen = named_calls Existing c.args.execute (λ name v dir. 0) asker was terms in
-    let most = deletes_by_calls c.args.execute asker was terms in
-    tries-same (next_step look (deletes_it asker was c.args.execute)) (deletes_by asker was terms c.args.execute
-    (refuses_by c.args.refusal)) most most asker was _ _ _ _
-    (sym (deletes-parts asker was c.args.execute terms c.args.refusal)) refl
-    (tries-more (next_step look (deletes_it asker was c.args.execute)) seen most asker was _ _ _ _ (named-seen Existing asker was terms c.args.execute (deleting_calls asker.user c.args.execute))
-    (tries-unfound (IsNamed Existing look was) look (deletes_it asker was c.args.execute) seen asker was
-    c.in-Err.number c.locate_last.new.machine.files _ _ (deletes-quiet asker was c.args.execute)
+    let look = names_last Existing c.args.lookup.execute c.args.lookup.refusal asker was terms in
+    let seen = named_calls Existing c.args.lookup.execute (λ name v dir. 0) asker was terms in
+    let most = deletes_by_calls c.args.lookup.execute asker was terms in
+    tries-same (next_step look (deletes_it asker was c.args.lookup.execute)) (deletes_by asker was terms c.args.lookup.execute
+    (refuses_by c.args.lookup.refusal)) most most asker was _ _ _ _
+    (sym (deletes-parts asker was c.args.lookup.execute terms c.args.lookup.refusal)) refl
+    (tries-more (next_step look (deletes_it asker was c.args.lookup.execute)) seen most asker was _ _ _ _ (named-seen Existing asker was terms c.args.lookup.execute
+    (deleting_calls asker.user c.args.lookup.execute))
+    (tries-unfound (IsNamed Existing look was) look (deletes_it asker was c.args.lookup.execute) seen asker was
+    c.in-Err.number c.locate_last.new.machine.files _ _ (deletes-quiet asker was c.args.lookup.execute)
     (c.in-Err.ensures.locates m was now tied stands)))
 
 pub returns-in-Ok-clause-tries : goal.returns-in-Ok-clause-tries
 returns-in-Ok-clause-tries g c now m was tied stands =
     let asker = asker_of m c.args.by.p.0 now in
     let terms = vec_len c.args.devices.now.terms in
-    let look = names_last Existing c.args.execute c.args.refusal asker was terms in
-    let seen = named_calls Existing c.args.execute (λ name v dir. 0) asker was terms in
-    let most = deletes_by_calls c.args.execute asker was terms in
-    let loc = found (IsNamed Existing look was) look seen was c.in-Ok.last c.locate_last.new.machine.files _ _ (c.in-Ok.ensures.locates m was now tied stands) in
-    tries-same (next_step look (deletes_it asker was c.args.execute)) (deletes_by asker was terms c.args.execute
-    (refuses_by c.args.refusal)) most most asker was _ _ _ _
-    (sym (deletes-parts asker was c.args.execute terms c.args.refusal)) refl
-    (tries-more (next_step look (deletes_it asker was c.args.execute)) (deletes_it_calls seen asker c.args.execute
-    loc.it) most asker was _ _ _ _ (named-within Existing asker was terms c.args.execute
-    (deleting_calls asker.user c.args.execute) loc.it c.args.refusal loc.answer)
+    let look = names_last Existing c.args.lookup.execute c.args.lookup.refusal asker was terms in
+    let seen = named_calls Existing c.args.lookup.execute (λ name v dir. 0) asker was terms in
+    let most = deletes_by_calls c.args.lookup.execute asker was terms in
+    let loc = found (IsNamed Existing look was) look seen was c.in-Ok.located c.locate_last.new.machine.files _ _ (c.in-Ok.ensures.locates m was now tied stands) in
+    tries-same (next_step look (deletes_it asker was c.args.lookup.execute)) (deletes_by asker was terms c.args.lookup.execute
+    (refuses_by c.args.lookup.refusal)) most most asker was _ _ _ _
+    (sym (deletes-parts asker was c.args.lookup.execute terms c.args.lookup.refusal)) refl
+    (tries-more (next_step look (deletes_it asker was c.args.lookup.execute)) (deletes_it_calls seen asker c.args.lookup.execute
+    loc.it) most asker was _ _ _ _ (named-within Existing asker was terms c.args.lookup.execute
+    (deleting_calls asker.user c.args.lookup.execute) loc.it c.args.lookup.refusal loc.answer)
     (c.delete_in.ensures.deletes look seen asker was _ (user-is c.args.machine.now.processes m c.args.by.p.0 c.user-user.result tied c.user-user.ensures.user) loc))

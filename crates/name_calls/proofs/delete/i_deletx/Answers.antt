@@ -19,13 +19,13 @@ returns-clause-call g c now terms many m was tied stands kinds =
     let step = i_deletx asker was (length terms) in
     let most = i_deletx_calls asker was (length terms) in
     let execute_is : c.is_for_execution.result ≡ is_for_execution asker.caller.regs.a = c.is_for_execution.ensures ∙ ap (λ (regs : Regs). is_for_execution regs.a)
-    (regs-are c.args.by c.args.machine.now.processes m c.requires.calls.regs tied) in
+    (regs-are c.args.by c.args.machine.now.processes m c.requires.calls.calls.regs tied) in
     ends-attempt most Call.DeletX m was now c.args.by.p.0 c.end_call.result terms _ _
     (c.end_call.ensures.ends step most m was now terms _ _ (c.delete_named-came.ensures.same.represents m tied)
     (tries-same (deletes_by asker was terminals c.is_for_execution.result (refuses_by c.mode_refusal-refusal.result))
     step (deletes_by_calls c.is_for_execution.result asker was terminals) most asker was _ _ _ _
     (deletx-parts asker was terminals c.args.by.regs c.is_for_execution.result c.is_mode.result
-    c.mode_refusal-refusal.result (regs-are c.args.by c.args.machine.now.processes m c.requires.calls.regs tied) c.is_for_execution.ensures c.is_mode.ensures
+    c.mode_refusal-refusal.result (regs-are c.args.by c.args.machine.now.processes m c.requires.calls.calls.regs tied) c.is_for_execution.ensures c.is_mode.ensures
     c.mode_refusal-refusal.ensures ∙ ap (i_deletx asker was) (sym many))
     (ap (λ (e : Bool). deletes_by_calls e asker was terminals) execute_is ∙ ap (i_deletx_calls asker was) (sym many))
     (c.delete_named-came.ensures.tries now m was tied stands)))

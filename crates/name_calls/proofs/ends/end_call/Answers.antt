@@ -19,6 +19,6 @@ returns-in-Ok-clause-ends c step most m was now terms before views tied tries =
     ends-done step most m was now c.args.by.p.0 terms c.args.machine.now.files before views c.answer.result c.answer.new.s c.answer.new.io c.answer.ensures.io c.in-Ok.next c.answer.ensures.end
     (subst (λ (regs : Regs). Represents c.answer.new.s (with_regs_of m c.args.by.p.0
     (record regs { x = c.in-Ok.next % 65536 }))) (regs-are c.args.by c.args.machine.now.processes m
-    c.requires.calls.regs
+    c.requires.calls.calls.regs
     tied) (c.answer.ensures.tied m tied))
     (subst (λ (came : Result ℕ ℕ). Tries step most (asker_of m c.args.by.p.0 now) was came c.args.machine.now.files before views) c.in-Ok.is tries)

@@ -10,7 +10,7 @@ use Rattle.name_calls.proofs.finding.find_route.Goals as goal
 pub returns-clause-route : goal.returns-clause-route
 returns-clause-route g c m was now tied stands =
     let many : length was.drives ≡ length c.args.devices.now.drives.items = as-many c.args.files.now _ was stands ∙ length-map _ _ in
-    c.call_route.ensures.route m now was c.args.lookup.execute _ tied (record {
+    c.call_route.ensures.route m now was c.args.search.lookup.execute _ tied (record {
       cells_are = refl;
       at_is = ap (λ (regs : Regs). regs.x) (sym (regs-are c.args.by c.args.s.now m c.requires.calls.regs tied));
       directory_is = sym (c.directory.ensures.directory _ was stands);

@@ -14,31 +14,31 @@ use Rattle.name_calls.proofs.locating.locate.Goals as goal
 
 pub returns-in-Err-clause-locates : goal.returns-in-Err-clause-locates
 returns-in-Err-clause-locates g c m was now tied stands =
-    let step = locates c.args.execute c.args.refusal (asker_of m c.args.by.p.0 now) was (vec_len c.args.devices.now.terms) in
-    let most = located_calls c.args.execute (λ v file. 0) (asker_of m c.args.by.p.0 now) was (vec_len c.args.devices.now.terms) in
+    let step = locates c.args.lookup.execute c.args.lookup.refusal (asker_of m c.args.by.p.0 now) was (vec_len c.args.devices.now.terms) in
+    let most = located_calls c.args.lookup.execute (λ v file. 0) (asker_of m c.args.by.p.0 now) was (vec_len c.args.devices.now.terms) in
     refused-there (IsLocated step was) step most c.in-Err.number was c.args.machine.now.files _ stands
-    (locates-refused (asker_of m c.args.by.p.0 now) was (vec_len c.args.devices.now.terms) c.args.execute c.args.refusal c.in-Err.number (c.in-Err.ensures.route m was now tied stands))
+    (locates-refused (asker_of m c.args.by.p.0 now) was (vec_len c.args.devices.now.terms) c.args.lookup.execute c.args.lookup.refusal c.in-Err.number (c.in-Err.ensures.route m was now tied stands))
 
 pub returns-in_default-clause-locates : goal.returns-in_default-clause-locates
 returns-in_default-clause-locates g c m was now tied stands =
-    let step = locates c.args.execute c.args.refusal (asker_of m c.args.by.p.0 now) was (vec_len c.args.devices.now.terms) in
-    let most = located_calls c.args.execute (λ v file. 0) (asker_of m c.args.by.p.0 now) was (vec_len c.args.devices.now.terms) in
+    let step = locates c.args.lookup.execute c.args.lookup.refusal (asker_of m c.args.by.p.0 now) was (vec_len c.args.devices.now.terms) in
+    let most = located_calls c.args.lookup.execute (λ v file. 0) (asker_of m c.args.by.p.0 now) was (vec_len c.args.devices.now.terms) in
     refused-there (IsLocated step was) step most 214 was c.args.machine.now.files _ stands
-    (locates-device (asker_of m c.args.by.p.0 now) was (vec_len c.args.devices.now.terms) c.args.execute c.args.refusal
+    (locates-device (asker_of m c.args.by.p.0 now) was (vec_len c.args.devices.now.terms) c.args.lookup.execute c.args.lookup.refusal
     (cells_at m c.args.by.p.0) c.in-Ok.route (c.in-Ok.ensures.route m was now tied stands) c.in_default.is)
 
 pub returns-clause-locates : goal.returns-clause-locates
 returns-clause-locates g c m was now tied stands =
     let it = c.in-Ok.ensures.route m was now tied stands in
-    let walker : Walker = record { process = c.args.by.p; user = c.user.result; execute = c.args.execute } in
-    along-located (asker_of m c.args.by.p.0 now) was (vec_len c.args.devices.now.terms) c.args.execute c.args.refusal
+    let walker : Walker = record { process = c.args.by.p; by = record { user = c.user.result; execute = c.args.lookup.execute } } in
+    along-located (asker_of m c.args.by.p.0 now) was (vec_len c.args.devices.now.terms) c.args.lookup.execute c.args.lookup.refusal
     (cells_at m c.args.by.p.0) c.in-Ok.route it c.in-Along.start c.in-Along.is walker
     c.args.machine.now.files _ _ _ refl
     (user-is c.args.machine.now.processes m c.args.by.p.0 c.user.result tied c.user.ensures.user) stands
     (starts-along c.args.machine.now.files.disks _ c.in-Ok.route.course c.in-Along.start c.in-Along.is c.in-Ok.ensures.start)
     refl refl refl c.call_walk.result c.behind_list.result c.behind_list.ensures
     (c.call_walk.ensures.walks m it.list.names (c.find_route.ensures.same.represents m tied)
-    (names-along (asker_of m c.args.by.p.0 now) was (vec_len c.args.devices.now.terms) c.args.execute c.args.refusal
+    (names-along (asker_of m c.args.by.p.0 now) was (vec_len c.args.devices.now.terms) c.args.lookup.execute c.args.lookup.refusal
     (cells_at m c.args.by.p.0) c.in-Ok.route it c.in-Along.start c.in-Along.is))
 
 pub returns-clause-there : goal.returns-clause-there

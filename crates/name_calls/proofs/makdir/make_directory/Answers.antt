@@ -17,7 +17,7 @@ use Rattle.name_calls.proofs.makdir.make_directory.Goals as goal
 
 pub returns-in-Err-clause-tries : goal.returns-in-Err-clause-tries
 returns-in-Err-clause-tries g c m was tied stands =
-    let asker = asker_of m c.args.by.p.0 c.args.by.now in
+    let asker = asker_of m c.args.by.p.0 c.args.by.time in
     let terms = vec_len c.args.devices.now.terms in
     let look = names_last New false None asker was terms in
     let seen = named_calls New false (λ name v dir. 0) asker was terms in
@@ -25,21 +25,21 @@ returns-in-Err-clause-tries g c m was tied stands =
     tries-same (next_step look (makes_it asker was)) (i_makdir asker was terms) most most asker was _ _ _ _ (sym (makdir-parts asker was terms)) refl
     (tries-more (next_step look (makes_it asker was)) seen most asker was _ _ _ _ (named-seen New asker was terms false (making_calls asker.user))
     (tries-unfound (IsNamed New look was) look (makes_it asker was) seen asker was c.in-Err.number
-    c.locate_last.new.machine.files _ _ (makes-quiet asker was) (c.in-Err.ensures.locates m was c.args.by.now tied stands)))
+    c.locate_last.new.machine.files _ _ (makes-quiet asker was) (c.in-Err.ensures.locates m was c.args.by.time tied stands)))
 
 pub returns-in-Ok-clause-tries : goal.returns-in-Ok-clause-tries
 returns-in-Ok-clause-tries g c m was tied stands =
-    let asker = asker_of m c.args.by.p.0 c.args.by.now in
+    let asker = asker_of m c.args.by.p.0 c.args.by.time in
     let terms = vec_len c.args.devices.now.terms in
     let look = names_last New false None asker was terms in
     let seen = named_calls New false (λ name v dir. 0) asker was terms in
     let most = i_makdir_calls asker was terms in
-    let loc = found (IsNamed New look was) look seen was c.in-Ok.last c.locate_last.new.machine.files _ _ (c.in-Ok.ensures.locates m was c.args.by.now tied stands) in
+    let loc = found (IsNamed New look was) look seen was c.in-Ok.located c.locate_last.new.machine.files _ _ (c.in-Ok.ensures.locates m was c.args.by.time tied stands) in
     tries-same (next_step look (makes_it asker was)) (i_makdir asker was terms) most most asker was _ _ _ _ (sym (makdir-parts asker was terms)) refl
     (tries-more (next_step look (makes_it asker was)) (makes_it_calls seen asker loc.it) most asker was _ _ _ _
     (named-within New asker was terms false (making_calls asker.user) loc.it None loc.answer)
     (c.make_in.ensures.makes look seen asker was _ (record {
-      user_is = user-is c.args.machine.now.processes m c.args.by.p.0 c.user.result tied c.user.ensures.user;
+      user_is = user-is c.args.machine.now.processes m c.args.by.p.0 c.user-user.result tied c.user-user.ensures.user;
       attributes_are = ap (λ (regs : Regs). regs.b) (sym (regs-are c.args.by c.args.machine.now.processes m c.requires.calls.regs tied));
       now_is = refl;
     })

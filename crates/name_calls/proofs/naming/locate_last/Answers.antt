@@ -16,25 +16,25 @@ use Rattle.name_calls.proofs.naming.locate_last.Goals as goal
 
 pub returns-in-Err-clause-locates : goal.returns-in-Err-clause-locates
 returns-in-Err-clause-locates g c m was now tied stands =
-    let step = names_last c.args.lookup.purpose c.args.lookup.execute c.args.lookup.refusal (asker_of m c.args.by.p.0 now) was (vec_len c.args.devices.now.terms) in
-    let most = named_calls c.args.lookup.purpose c.args.lookup.execute (λ name v dir. 0) (asker_of m c.args.by.p.0 now) was (vec_len c.args.devices.now.terms) in
-    refused-there (IsNamed c.args.lookup.purpose step was) step most c.in-Err.number was c.args.machine.now.files _ stands
-    (names-refused c.args.lookup.purpose (asker_of m c.args.by.p.0 now) was (vec_len c.args.devices.now.terms) c.args.lookup.execute c.args.lookup.refusal c.in-Err.number
+    let step = names_last c.args.search.purpose c.args.search.lookup.execute c.args.search.lookup.refusal (asker_of m c.args.by.p.0 now) was (vec_len c.args.devices.now.terms) in
+    let most = named_calls c.args.search.purpose c.args.search.lookup.execute (λ name v dir. 0) (asker_of m c.args.by.p.0 now) was (vec_len c.args.devices.now.terms) in
+    refused-there (IsNamed c.args.search.purpose step was) step most c.in-Err.number was c.args.machine.now.files _ stands
+    (names-refused c.args.search.purpose (asker_of m c.args.by.p.0 now) was (vec_len c.args.devices.now.terms) c.args.search.lookup.execute c.args.search.lookup.refusal c.in-Err.number
     (c.in-Err.ensures.route m was now tied stands))
 
 pub returns-in_default-clause-locates : goal.returns-in_default-clause-locates
 returns-in_default-clause-locates g c m was now tied stands =
-    let step = names_last c.args.lookup.purpose c.args.lookup.execute c.args.lookup.refusal (asker_of m c.args.by.p.0 now) was (vec_len c.args.devices.now.terms) in
-    let most = named_calls c.args.lookup.purpose c.args.lookup.execute (λ name v dir. 0) (asker_of m c.args.by.p.0 now) was (vec_len c.args.devices.now.terms) in
-    refused-there (IsNamed c.args.lookup.purpose step was) step most 214 was c.args.machine.now.files _ stands
-    (names-device c.args.lookup.purpose (asker_of m c.args.by.p.0 now) was (vec_len c.args.devices.now.terms) c.args.lookup.execute
-    c.args.lookup.refusal (cells_at m c.args.by.p.0) c.in-Ok.route (c.in-Ok.ensures.route m was now tied stands)
+    let step = names_last c.args.search.purpose c.args.search.lookup.execute c.args.search.lookup.refusal (asker_of m c.args.by.p.0 now) was (vec_len c.args.devices.now.terms) in
+    let most = named_calls c.args.search.purpose c.args.search.lookup.execute (λ name v dir. 0) (asker_of m c.args.by.p.0 now) was (vec_len c.args.devices.now.terms) in
+    refused-there (IsNamed c.args.search.purpose step was) step most 214 was c.args.machine.now.files _ stands
+    (names-device c.args.search.purpose (asker_of m c.args.by.p.0 now) was (vec_len c.args.devices.now.terms) c.args.search.lookup.execute
+    c.args.search.lookup.refusal (cells_at m c.args.by.p.0) c.in-Ok.route (c.in-Ok.ensures.route m was now tied stands)
     c.in_default.is)
 
 pub returns-in_default-first-clause-locates : goal.returns-in_default-first-clause-locates
 returns-in_default-first-clause-locates g c m was now tied stands =
-    along-unnamed c.args.lookup.purpose (asker_of m c.args.by.p.0 now) was (vec_len c.args.devices.now.terms) c.args.lookup.execute
-    c.args.lookup.refusal (cells_at m c.args.by.p.0) c.in-Ok.route (c.in-Ok.ensures.route m was now tied stands)
+    along-unnamed c.args.search.purpose (asker_of m c.args.by.p.0 now) was (vec_len c.args.devices.now.terms) c.args.search.lookup.execute
+    c.args.search.lookup.refusal (cells_at m c.args.by.p.0) c.in-Ok.route (c.in-Ok.ensures.route m was now tied stands)
     c.in-Along.start c.in-Along.is c.args.machine.now.files _ c.unnamed_number.result c.in_default-first.is
     c.unnamed_number.ensures stands
     (starts-along c.args.machine.now.files.disks _ c.in-Ok.route.course c.in-Along.start c.in-Along.is c.in-Ok.ensures.start)
@@ -42,13 +42,13 @@ returns-in_default-first-clause-locates g c m was now tied stands =
 pub returns-clause-locates : goal.returns-clause-locates
 returns-clause-locates g c m was now tied stands =
     let it = c.in-Ok.ensures.route m was now tied stands in
-    let walker : Walker = record { process = c.args.by.p; user = c.user.result; execute = c.args.lookup.execute } in
-    let along = names-along c.args.lookup.purpose (asker_of m c.args.by.p.0 now) was (vec_len c.args.devices.now.terms)
-    c.args.lookup.execute c.args.lookup.refusal (cells_at m c.args.by.p.0) c.in-Ok.route it c.in-Along.start c.in-Along.is in
+    let walker : Walker = record { process = c.args.by.p; by = record { user = c.user.result; execute = c.args.search.lookup.execute } } in
+    let along = names-along c.args.search.purpose (asker_of m c.args.by.p.0 now) was (vec_len c.args.devices.now.terms)
+    c.args.search.lookup.execute c.args.search.lookup.refusal (cells_at m c.args.by.p.0) c.in-Ok.route it c.in-Along.start c.in-Along.is in
     let stand : NamesStand (cells_at m c.args.by.p.0) c.in-Some.at it.list.names = subst (λ (first : Option ℕ). NamesFrom (cells_at m c.args.by.p.0) first it.list.names) c.in-Some.is along in
     let last = has-last (cells_at m c.args.by.p.0) c.in-Some.at it.list.names stand in
-    along-named c.args.lookup.purpose (asker_of m c.args.by.p.0 now) was (vec_len c.args.devices.now.terms) c.args.lookup.execute
-    c.args.lookup.refusal (cells_at m c.args.by.p.0) c.in-Ok.route it c.in-Along.start c.in-Along.is walker
+    along-named c.args.search.purpose (asker_of m c.args.by.p.0 now) was (vec_len c.args.devices.now.terms) c.args.search.lookup.execute
+    c.args.search.lookup.refusal (cells_at m c.args.by.p.0) c.in-Ok.route it c.in-Along.start c.in-Along.is walker
     c.args.machine.now.files _ _ _ refl
     (user-is c.args.machine.now.processes m c.args.by.p.0 c.user.result tied c.user.ensures.user) stands
     (starts-along c.args.machine.now.files.disks _ c.in-Ok.route.course c.in-Along.start c.in-Along.is c.in-Ok.ensures.start)

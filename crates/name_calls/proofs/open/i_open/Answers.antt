@@ -25,7 +25,7 @@ returns-in-Err-clause-call g c now terms many m was tied stands kinds =
     let asker = asker_of m p now in
     let count = vec_len c.args.devices.now.terms in
     let number = c.in-Err.number in
-    let same = regs-are c.args.by c.args.machine.now.processes m c.requires.calls.regs tied in
+    let same = regs-are c.args.by c.args.machine.now.processes m c.requires.calls.calls.regs tied in
     let refusal_is : c.mode_refusal-refusal.result ≡ mode_refusal (is_mode (regs_at m p).a) =
     c.mode_refusal-refusal.ensures ∙ ap mode_refusal (c.is_mode.ensures ∙ ap (λ (r : Regs). is_mode r.a) same) in
     let execute_is : c.is_for_execution-execute.result ≡ is_for_execution (regs_at m p).a = c.is_for_execution-execute.ensures ∙ ap (λ (r : Regs). is_for_execution r.a) same in
@@ -42,7 +42,7 @@ returns-in-Device-clause-call g c now terms many m was tied stands kinds =
     let p = c.args.by.p.0 in
     let asker = asker_of m p now in
     let count = vec_len c.args.devices.now.terms in
-    let same = regs-are c.args.by c.args.machine.now.processes m c.requires.calls.regs tied in
+    let same = regs-are c.args.by c.args.machine.now.processes m c.requires.calls.calls.regs tied in
     let refusal_is : c.mode_refusal-refusal.result ≡ mode_refusal (is_mode (regs_at m p).a) =
     c.mode_refusal-refusal.ensures ∙ ap mode_refusal (c.is_mode.ensures ∙ ap (λ (r : Regs). is_mode r.a) same) in
     let execute_is : c.is_for_execution-execute.result ≡ is_for_execution (regs_at m p).a = c.is_for_execution-execute.ensures ∙ ap (λ (r : Regs). is_for_execution r.a) same in
@@ -60,7 +60,7 @@ returns-in-Along-clause-call g c now terms many m was tied stands kinds =
     let p = c.args.by.p.0 in
     let asker = asker_of m p now in
     let count = vec_len c.args.devices.now.terms in
-    let same = regs-are c.args.by c.args.machine.now.processes m c.requires.calls.regs tied in
+    let same = regs-are c.args.by c.args.machine.now.processes m c.requires.calls.calls.regs tied in
     let start = c.in-Along.start in
     let refusal_is : c.mode_refusal-refusal.result ≡ mode_refusal (is_mode (regs_at m p).a) =
     c.mode_refusal-refusal.ensures ∙ ap mode_refusal (c.is_mode.ensures ∙ ap (λ (r : Regs). is_mode r.a) same) in

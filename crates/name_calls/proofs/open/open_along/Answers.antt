@@ -9,9 +9,8 @@ use Rattle.file_state.specs.declared.state.FileState.{FileState}
 use Rattle.rbf_sector.specs.declared.fd.Fd.{Fd}
 use Rattle.rbf_access.specs.Reading.{IsFdOf}
 use Rattle.name_calls.proofs.OpenEndLemmas.{late-ends, read-ends}
-use Rattle.name_calls.proofs.OpenLemmas.{found-stays, late-found, walk-stays}
+use Rattle.name_calls.proofs.OpenLemmas.{found-stays, late-found, opens_there, walk-stays}
 use Rattle.name_calls.proofs.ReadLemmas.{fault-does, of-found, read-on}
-use Rattle.name_calls.specs.Steps.{opens_there}
 use Rattle.name_calls.proofs.SameLemmas.{some-machine, some-names}
 use Rattle.name_calls.proofs.WalkLemmas.{finds, found-at, read-there, walk-ends, walk-goes, walker-tied}
 use Rattle.name_calls.proofs.open.open_along.Goals as goal
@@ -36,7 +35,7 @@ returns-in-Err-clause-opens g c now m was list tied stands names next terms =
     walk-ends m was now p terms walker c.args.start.directory list.names c.args.machine.now.files new _ _ who.user stands c.requires.file refl refl refl (opens_found asker was list) (λ v file. 1) _
     who.execute
     c.refuse.result c.call_walk.new.s c.in-Err.error it c.refuse.new.io c.refuse.ensures.io (c.refuse.ensures.end ∙ ap Error c.number.ensures) (c.call_walk.ensures.same.represents m tied)
-    (λ v. walk-stays asker was v walker.execute list c.args.start.directory)
+    (λ v. walk-stays asker was v walker.by.execute list c.args.start.directory)
 
 pub returns-in-Err-fd-clause-opens : goal.returns-in-Err-fd-clause-opens
 returns-in-Err-fd-clause-opens g c now m was list tied stands names next terms =

@@ -12,7 +12,7 @@ use Rattle.name_calls.proofs.open.open_found.Goals as goal
 pub returns-then-not-may_open-clause-opens : goal.returns-then-not-may_open-clause-opens
 returns-then-not-may_open-clause-opens c m was now list found views tied stands place fd next =
     let p = c.args.by.p.0 in
-    let may = may-tied c.args.machine.now.processes m p tied c.args.by.regs c.requires.calls.regs found.file c.user.result c.user.ensures.user in
+    let may = may-tied c.args.machine.now.processes m p tied c.args.by.regs c.requires.calls.calls.regs found.file c.user.result c.user.ensures.user in
     refused-quietly m p c.args.machine.now.files views c.refuse.result c.args.machine.now.processes c.refuse.new.io c.refuse.ensures.io _ c.refuse.ensures.end tied was stands
     (opens_found (asker_of m p now) was list found)
     (found-forbidden (asker_of m p now) was list found (may ∙ sym (c.may_open.ensures found.file fd) ∙ c.if-not-may_open.true))
@@ -20,9 +20,9 @@ returns-then-not-may_open-clause-opens c m was now list found views tied stands 
 pub returns-then-is_not_shared-clause-opens : goal.returns-then-is_not_shared-clause-opens
 returns-then-is_not_shared-clause-opens c m was now list found views tied stands place fd next =
     let p = c.args.by.p.0 in
-    let may = may-tied c.args.machine.now.processes m p tied c.args.by.regs c.requires.calls.regs found.file c.user.result c.user.ensures.user in
+    let may = may-tied c.args.machine.now.processes m p tied c.args.by.regs c.requires.calls.calls.regs found.file c.user.result c.user.ensures.user in
     let shared = ap (is_not_shared was found) (mode-tied c.args.machine.now.processes m p tied c.args.by.regs
-    c.requires.calls.regs) ∙ sym (c.is_not_shared.ensures views was found stands place (sym fd.attributes_are))
+    c.requires.calls.calls.regs) ∙ sym (c.is_not_shared.ensures views was found stands place (sym fd.attributes_are))
     in
     refused-quietly m p c.args.machine.now.files views c.refuse-then-is_not_shared.result c.args.machine.now.processes
     c.refuse-then-is_not_shared.new.io c.refuse-then-is_not_shared.ensures.io _
@@ -32,9 +32,9 @@ returns-then-is_not_shared-clause-opens c m was now list found views tied stands
 pub returns-clause-opens : goal.returns-clause-opens
 returns-clause-opens c m was now list found views tied stands place fd next =
     let p = c.args.by.p.0 in
-    let may = may-tied c.args.machine.now.processes m p tied c.args.by.regs c.requires.calls.regs found.file c.user.result c.user.ensures.user in
+    let may = may-tied c.args.machine.now.processes m p tied c.args.by.regs c.requires.calls.calls.regs found.file c.user.result c.user.ensures.user in
     let shared = ap (is_not_shared was found) (mode-tied c.args.machine.now.processes m p tied c.args.by.regs
-    c.requires.calls.regs) ∙ sym (c.is_not_shared.ensures views was found stands place (sym fd.attributes_are))
+    c.requires.calls.calls.regs) ∙ sym (c.is_not_shared.ensures views was found stands place (sym fd.attributes_are))
     in
     let target : c.target_on-target.result ≡ target_on found.file found.place =
     c.target_on-target.ensures.target found.file (c.is_directory.ensures found.file fd) ∙ ap (target_on found.file) (sym place) in

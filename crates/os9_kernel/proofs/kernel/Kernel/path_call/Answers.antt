@@ -58,8 +58,8 @@ time_for-requires g c =
     let (s, tied) = c.requires.stands in
     is-clock c.args.self.now _ s tied
 
-pub attempt-end-requires-clause-may : goal.attempt-end-requires-clause-may
-attempt-end-requires-clause-may g c =
+pub attempt_on_path-end-requires-clause-may : goal.attempt_on_path-end-requires-clause-may
+attempt_on_path-end-requires-clause-may g c =
     let (s, tied) = c.requires.stands in
     let terms = c.args.devices.now.terms in
     let before = outside (λ box. (g.dyn-1.0.entry box.vtable).1) (λ box. (g.dyn-2.0.entry box.vtable).1) c.args.devices.now in
@@ -67,14 +67,14 @@ attempt-end-requires-clause-may g c =
     subst (λ (n : ℕ). MayAttempt c.args.call c.args.self.now.machine.processes c.args.self.now.machine.files c.args.p.0 n) long
     (may-attempt-here c.args.self.now c.args.p c.args.code c.requires.next before s tied c.args.call (path-served c.args.code c.args.call c.requires.serves).1)
 
-pub attempt-end-requires-clause-sound : goal.attempt-end-requires-clause-sound
-attempt-end-requires-clause-sound g c =
+pub attempt_on_path-end-requires-clause-sound : goal.attempt_on_path-end-requires-clause-sound
+attempt_on_path-end-requires-clause-sound g c =
     let (s, tied) = c.requires.stands in
     is-sound c.args.self.now _ s tied
 
 pub tell_end-requires-clause-lives : goal.tell_end-requires-clause-lives
 tell_end-requires-clause-lives g c =
-    lives-on c.attempt-end.result c.attempt-end.new.machine.processes.table c.args.p.0 c.attempt-end.ensures.kept.lives
+    lives-on c.attempt_on_path-end.result c.attempt_on_path-end.new.machine.processes.table c.args.p.0 c.attempt_on_path-end.ensures.kept.lives
 
 pub returns-clause-event : goal.returns-clause-event
 returns-clause-event g c =
@@ -86,15 +86,15 @@ returns-clause-event g c =
     let next = c.requires.next in
     let coded = path-served c.args.code c.args.call c.requires.serves in
     let before : Outside = outside (λ box. (g.dyn-1.0.entry box.vtable).1) (λ box. (g.dyn-2.0.entry box.vtable).1) c.args.devices.now in
-    let after : Outside = outside (λ box. (g.dyn-1.0.entry box.vtable).1) (λ box. (g.dyn-2.0.entry box.vtable).1) c.attempt-end.new.devices in
-    let other : c.event_end.result ≢ EventEnd.NoMemory → c.attempt-end.result ≢ NoMemory = (λ other out. other (c.event_end.ensures ∙ ap event_end_of out)) in
-    let settled_is : new.machine.files ≡ settled p.0 c.attempt-end.result c.attempt-end.new.machine.files =
-    c.tell_end.ensures.files ∙ ap (λ (records : Records). let files : FileState = record c.attempt-end.new.machine.files { records = records } in files) c.forget_request.ensures in
+    let after : Outside = outside (λ box. (g.dyn-1.0.entry box.vtable).1) (λ box. (g.dyn-2.0.entry box.vtable).1) c.attempt_on_path-end.new.devices in
+    let other : c.event_end.result ≢ EventEnd.NoMemory → c.attempt_on_path-end.result ≢ NoMemory = (λ other out. other (c.event_end.ensures ∙ ap event_end_of out)) in
+    let settled_is : new.machine.files ≡ settled p.0 c.attempt_on_path-end.result c.attempt_on_path-end.new.machine.files =
+    c.tell_end.ensures.files ∙ ap (λ (records : Records). let files : FileState = record c.attempt_on_path-end.new.machine.files { records = records } in files) c.forget_request.ensures in
     let (s0, tied0) = c.requires.stands in
     let (time, is_time) = time-shown old before s0 tied0 in
     let fits = time-for old.clock old.machine.processes.tick c.args.call made time c.time_for.ensures is_time in record {
       step = λ ran s tied.
-          let it = ((c.attempt-end.ensures.call time fits s.processes s.files tied.processes tied.files tied.run.locked.state.running.kinds).attempted (other ran)).attempts in
+          let it = ((c.attempt_on_path-end.ensures.call time fits s.processes s.files tied.processes tied.files tied.run.locked.state.running.kinds).attempted (other ran)).attempts in
           let (there, same) = c.tell_end.ensures.told s.processes it.result it.comes in
           let attempt : FileAttempts c.args.call s.processes s.files time p.0 it.result it.left s.terms after.terms =
           subst (λ (terms : List TerminalState). FileAttempts c.args.call s.processes s.files time p.0 it.result
@@ -106,7 +106,7 @@ returns-clause-event g c =
           ∙ attempt-tick c.args.call s.processes s.files time p.0 it.result it.left s.terms after.terms attempt
           ∙ ap (λ (m : Processes). m.tick) tied.processes.is in
           let lives : IsLiving t.processes.records p.0 = subst (λ (m : Processes). IsLiving m.records p.0) (sym there.is)
-          (path-lives c.attempt-end.result c.args.call s.processes s.files time p.0 it.result it.left s.terms after.terms attempt same new.machine.processes.table c.tell_end.ensures.lives) in
+          (path-lives c.attempt_on_path-end.result c.args.call s.processes s.files time p.0 it.result it.left s.terms after.terms attempt same new.machine.processes.table c.tell_end.ensures.lives) in
           let marked : (q : ℕ) (cause : Cause) → Concerns c.marks_with-self.result q cause → Concerns new.known.marks q cause =
           (λ q cause. subst (λ (known : Known). Concerns known.marks q cause) (sym c.tell_end.ensures.known)) in
           let known-then : Event s c.event_end.result t → IsKnown new = (λ event.
@@ -130,7 +130,7 @@ returns-clause-event g c =
             refl,
           );
       memory = λ out s tied.
-          let is = wants-so c.attempt-end.result (sym c.event_end.ensures ∙ out) in record {
+          let is = wants-so c.attempt_on_path-end.result (sym c.event_end.ensures ∙ out) in record {
             p = p.0;
             chosen = chosen-is old p act next before s tied;
             lives = lives-there old p act next before s tied;
@@ -141,7 +141,7 @@ returns-clause-event g c =
             now = time;
             is_now = now-here old before s tied time is_time;
             lacks =
-                elim ((c.attempt-end.ensures.call time fits s.processes s.files tied.processes tied.files tied.run.locked.state.running.kinds).memory is) [
+                elim ((c.attempt_on_path-end.ensures.call time fits s.processes s.files tied.processes tied.files tied.run.locked.state.running.kinds).memory is) [
                   | inl byte ↦
                       inl (record {
                         lacks = subst (λ (terms : List TerminalState). LacksMemory c.args.call s.processes s.files time p.0 terms after.terms) (sym (terms-are old p act next before s tied))
@@ -153,14 +153,14 @@ returns-clause-event g c =
                         done = entry.done;
                         lacks = subst (λ (terms : List TerminalState). LacksEntry c.args.call s.processes s.files time p.0
                             entry.done terms after.terms) (sym (terms-are old p act next before s tied)) entry.lacks;
-                        drives = holds-mounted (record s { files = entry.done }) after.drives entry.drives c.attempt-end.new.machine.files.disks entry.mounted;
+                        drives = holds-mounted (record s { files = entry.done }) after.drives entry.drives c.attempt_on_path-end.new.machine.files.disks entry.mounted;
                       })
                 ];
           };
       waits = λ is.
-          let waiting = waits-so c.attempt-end.result (sym c.event_end.ensures ∙ is) in
-          let now = c.attempt-end.new.machine.processes in
-          let it = ((c.attempt-end.ensures.call time fits s0.processes s0.files tied0.processes tied0.files
+          let waiting = waits-so c.attempt_on_path-end.result (sym c.event_end.ensures ∙ is) in
+          let now = c.attempt_on_path-end.new.machine.processes in
+          let it = ((c.attempt_on_path-end.ensures.call time fits s0.processes s0.files tied0.processes tied0.files
           tied0.run.locked.state.running.kinds).attempted (λ out. let no : Wait ≡ NoMemory = sym waiting ∙ out in cc)).attempts in
           let effect = io_effect it.attempt.effect in
           let came : Comes s0.processes p.0 (result_of s0.processes p.0 effect) Wait now = subst
@@ -181,22 +181,22 @@ returns-clause-event g c =
                 no_own) (call_wait files.io files.records.locks p.0))
                 (λ wait. wait_at (member_of new.machine.processes.sched.members p.0) ≡ Some wait))
                 (sym c.tell_end.ensures.files)
-                (rests-so (call_wait c.attempt-end.new.machine.files.io c.forget_request.new.records.locks p.0) now
-                new.machine.processes p.0 c.attempt-end.ensures.kept.lives
+                (rests-so (call_wait c.attempt_on_path-end.new.machine.files.io c.forget_request.new.records.locks p.0) now
+                new.machine.processes p.0 c.attempt_on_path-end.ensures.kept.lives
                 (subst (λ (records : List (Option Record)). is_waiting (record_at records p.0).life ≡ false) same
                 fresh) (c.tell_end.ensures.waits waiting)));
           };
-      going = λ ran. (p, c.tell_end.ensures.chosen ∙ next.chosen, lives-so c.attempt-end.result new.machine.processes.table p.0 (sym c.event_end.ensures ∙ ran) c.tell_end.ensures.lives);
+      going = λ ran. (p, c.tell_end.ensures.chosen ∙ next.chosen, lives-so c.attempt_on_path-end.result new.machine.processes.table p.0 (sym c.event_end.ensures ∙ ran) c.tell_end.ensures.lives);
       count = λ ran.
-          let it = ((c.attempt-end.ensures.call time fits s0.processes s0.files tied0.processes tied0.files tied0.run.locked.state.running.kinds).attempted (other ran)).attempts in
+          let it = ((c.attempt_on_path-end.ensures.call time fits s0.processes s0.files tied0.processes tied0.files tied0.run.locked.state.running.kinds).attempted (other ran)).attempts in
           let (there, same) = c.tell_end.ensures.told s0.processes it.result it.comes in
           sym (ap (λ (m : Processes). m.tick) there.is)
           ∙ attempt-tick c.args.call s0.processes s0.files time p.0 it.result it.left before.terms after.terms it.attempt
           ∙ ap (λ (m : Processes). m.tick) tied0.processes.is;
       calls = λ s now tied is.
-          elim (cases-memory c.attempt-end.result) [
+          elim (cases-memory c.attempt_on_path-end.result) [
             | inl out ↦
-                elim ((c.attempt-end.ensures.call time fits s.processes s.files tied.processes tied.files tied.run.locked.state.running.kinds).memory out) [
+                elim ((c.attempt_on_path-end.ensures.call time fits s.processes s.files tied.processes tied.files tied.run.locked.state.running.kinds).memory out) [
                   | inl byte ↦ leaves-drives old before after byte.views s now tied is
                   | inr entry ↦
                       attempt-within-at old p c.args.code next before s tied (on_paths c.args.call) c.requires.serves time now after (now-here old before s tied time is_time) is entry.calls
@@ -204,23 +204,23 @@ returns-clause-event g c =
             | inr there ↦
                 attempt-within-at old p c.args.code next before s tied (on_paths c.args.call) c.requires.serves time
                 now after (now-here old before s tied time is_time) is
-                ((c.attempt-end.ensures.call time fits s.processes s.files tied.processes tied.files
+                ((c.attempt_on_path-end.ensures.call time fits s.processes s.files tied.processes tied.files
                 tied.run.locked.state.running.kinds).attempted there).calls
           ];
       images = λ s drive tied unasked.
-          elim (cases-memory c.attempt-end.result) [
+          elim (cases-memory c.attempt_on_path-end.result) [
             | inl out ↦
-                elim ((c.attempt-end.ensures.call time fits s.processes s.files tied.processes tied.files tied.run.locked.state.running.kinds).memory out) [
+                elim ((c.attempt_on_path-end.ensures.call time fits s.processes s.files tied.processes tied.files tied.run.locked.state.running.kinds).memory out) [
                   | inl byte ↦ keeps-drives old before after byte.views s drive tied unasked
                   | inr entry ↦
                       keeps-attempt old p c.args.code next before s tied c.args.call c.requires.serves time
-                      (now-here old before s tied time is_time) c.attempt-end.result after drive
+                      (now-here old before s tied time is_time) c.attempt_on_path-end.result after drive
                       entry.images unasked
                 ]
             | inr there ↦
                 keeps-attempt old p c.args.code next before s tied c.args.call c.requires.serves time
-                (now-here old before s tied time is_time) c.attempt-end.result after drive
-                ((c.attempt-end.ensures.call time fits s.processes s.files tied.processes tied.files
+                (now-here old before s tied time is_time) c.attempt_on_path-end.result after drive
+                ((c.attempt_on_path-end.ensures.call time fits s.processes s.files tied.processes tied.files
                 tied.run.locked.state.running.kinds).attempted there).drives unasked
           ];
     }
@@ -233,8 +233,8 @@ returns-clause-progress g c ran =
     let (s, tied) = c.requires.stands in
     let (time, is_time) = time-shown old _ s tied in
     let fits = time-for old.clock old.machine.processes.tick c.args.call c.time_for.result time c.time_for.ensures is_time in
-    let other : c.attempt-end.result ≢ NoMemory = (λ out. let no : EventEnd.Ran ≡ EventEnd.NoMemory = sym ran ∙ c.event_end.ensures ∙ ap event_end_of out in cc) in
-    let it = ((c.attempt-end.ensures.call time fits s.processes s.files tied.processes tied.files tied.run.locked.state.running.kinds).attempted other).attempts in
+    let other : c.attempt_on_path-end.result ≢ NoMemory = (λ out. let no : EventEnd.Ran ≡ EventEnd.NoMemory = sym ran ∙ c.event_end.ensures ∙ ap event_end_of out in cc) in
+    let it = ((c.attempt_on_path-end.ensures.call time fits s.processes s.files tied.processes tied.files tied.run.locked.state.running.kinds).attempted other).attempts in
     let (there, same) = c.tell_end.ensures.told s.processes it.result it.comes in
     let (t, regs, is) = goes-on it.result (sym (c.event_end.ensures ∙ ap event_end_of same) ∙ ran) s.processes p.0 in
     let none = no-call new.machine.processes t p.0 regs c.requires.next.process.1 (subst (λ (m : Processes). RepresentsProcesses new.machine.processes m) is there) in
@@ -246,11 +246,11 @@ returns-clause-drives g c =
     let (time, is_time) = time-shown c.args.self.now _ s tied in
     let fits = time-for c.args.self.now.clock c.args.self.now.machine.processes.tick c.args.call c.time_for.result time c.time_for.ensures is_time in
     let was = c.args.devices.now.drives in
-    let now = c.attempt-end.new.devices.drives in
+    let now = c.attempt_on_path-end.new.devices.drives in
     let view = boxed_seen (λ box. (g.dyn-1.0.entry box.vtable).1) in
-    elim (cases-memory c.attempt-end.result) [
+    elim (cases-memory c.attempt_on_path-end.result) [
       | inl out ↦
-          elim ((c.attempt-end.ensures.call time fits s.processes s.files tied.processes tied.files tied.run.locked.state.running.kinds).memory out) [
+          elim ((c.attempt_on_path-end.ensures.call time fits s.processes s.files tied.processes tied.files tied.run.locked.state.running.kinds).memory out) [
             | inl byte ↦
                 now.ok.0 ∙ sym (length-map now.items view) ∙ ap length byte.views ∙ length-map was.items view ∙ sym was.ok.0
             | inr entry ↦
@@ -258,6 +258,6 @@ returns-clause-drives g c =
           ]
       | inr other ↦
           now.ok.0 ∙ sym (length-map now.items view)
-          ∙ ((c.attempt-end.ensures.call time fits s.processes s.files tied.processes tied.files tied.run.locked.state.running.kinds).attempted other).calls.as_many
+          ∙ ((c.attempt_on_path-end.ensures.call time fits s.processes s.files tied.processes tied.files tied.run.locked.state.running.kinds).attempted other).calls.as_many
           ∙ length-map was.items view ∙ sym was.ok.0
     ]

@@ -39,12 +39,12 @@ returns-clause-event c devices =
     let p = c.args.p in
     let act = Attempt c.args.code in
     let next = c.requires.next in
-    let ticks_kept = tick-kept old.machine.processes c.attempt-end.new.s (λ (m : Processes). after_attempt m p.0 (attempted c.args.call m p.0))
-    (λ m there. (c.attempt-end.ensures.call m there).0) (λ m. attempt-tick m p.0 c.args.call) in
+    let ticks_kept = tick-kept old.machine.processes c.attempt_on_process-end.new.s (λ (m : Processes). after_attempt m p.0 (attempted c.args.call m p.0))
+    (λ m there. (c.attempt_on_process-end.ensures.call m there).0) (λ m. attempt-tick m p.0 c.args.call) in
     let known_then : (s : State) → Represents old devices s → IsKnown new =
-    (λ s tied. c.follow.ensures.known (known-still old (record old { machine = record old.machine { processes = c.attempt-end.new.s } }) refl refl refl ticks_kept tied.known)) in record {
+    (λ s tied. c.follow.ensures.known (known-still old (record old { machine = record old.machine { processes = c.attempt_on_process-end.new.s } }) refl refl refl ticks_kept tied.known)) in record {
       step = λ _ s tied.
-          let (there, ends) = c.attempt-end.ensures.call s.processes tied.processes in
+          let (there, ends) = c.attempt_on_process-end.ensures.call s.processes tied.processes in
           let (time, is_time) = some-time old devices s tied in
           let result = attempted c.args.call s.processes p.0 in
           let left = files_after_call s.files p.0 result in
@@ -69,17 +69,17 @@ returns-clause-event c devices =
           );
       memory = λ out.
           let (m, there) = some-machine old.machine.processes in
-          let ends = (c.attempt-end.ensures.call m there).1 in
+          let ends = (c.attempt_on_process-end.ensures.call m there).1 in
           absurd (never-wants (attempted c.args.call m p.0) (sym (c.event_end.ensures ∙ ap event_end_of ends) ∙ out));
       going = λ ran. (
         p,
         c.follow.ensures.chosen ∙ next.chosen,
         subst (λ (processes : ProcState). IsLiving
-            processes.table p.0) (sym c.follow.ensures.processes) (lives-so c.attempt-end.result
-            c.attempt-end.new.s.table p.0 (sym c.event_end.ensures ∙ ran) c.attempt-end.ensures.lives),
+            processes.table p.0) (sym c.follow.ensures.processes) (lives-so c.attempt_on_process-end.result
+            c.attempt_on_process-end.new.s.table p.0 (sym c.event_end.ensures ∙ ran) c.attempt_on_process-end.ensures.lives),
       );
       waits = λ is.
-          let waiting = waits-so c.attempt-end.result (sym c.event_end.ensures ∙ is) in record {
+          let waiting = waits-so c.attempt_on_process-end.result (sym c.event_end.ensures ∙ is) in record {
             p = p;
             chosen = next.chosen;
             code = c.args.code;
@@ -94,8 +94,8 @@ returns-clause-event c devices =
                 (subst (λ (processes : ProcState). IfSome (waits_for c.args.call (slice_index_or processes.own.items
                 p.0 no_own)) (λ wait. wait_at (member_of processes.sched.members p.0) ≡ Some wait))
                 (sym c.follow.ensures.processes)
-                (rests-so (waits_for c.args.call (slice_index_or c.attempt-end.new.s.own.items p.0 no_own))
-                old.machine.processes c.attempt-end.new.s p.0 next.lives fresh (c.attempt-end.ensures.waits waiting)));
+                (rests-so (waits_for c.args.call (slice_index_or c.attempt_on_process-end.new.s.own.items p.0 no_own))
+                old.machine.processes c.attempt_on_process-end.new.s p.0 next.lives fresh (c.attempt_on_process-end.ensures.waits waiting)));
           };
       count = λ _. ap (λ (processes : ProcState). processes.tick) c.follow.ensures.processes ∙ ticks_kept;
       calls = leaves-drives old devices devices refl;
@@ -107,8 +107,8 @@ returns-clause-progress c ran =
     let old = c.args.self.now in
     let p = c.args.p in
     let (m, there) = some-machine old.machine.processes in
-    let (now, ends) = c.attempt-end.ensures.call m there in
+    let (now, ends) = c.attempt_on_process-end.ensures.call m there in
     let (t, regs, is) = goes-on (attempted c.args.call m p.0) (sym (c.event_end.ensures ∙ ap event_end_of ends) ∙ ran) m p.0 in
-    let none = no-call c.attempt-end.new.s t p.0 regs c.requires.next.process.1 (subst (λ (x : Processes). RepresentsProcesses c.attempt-end.new.s x) is now) in
+    let none = no-call c.attempt_on_process-end.new.s t p.0 regs c.requires.next.process.1 (subst (λ (x : Processes). RepresentsProcesses c.attempt_on_process-end.new.s x) is now) in
     attempt-lowers old p c.args.code c.requires.next c.follow.new.self c.follow.ensures.chosen
     (ap (λ (processes : ProcState). (slice_index_or processes.own.items p.0 no_own).call) c.follow.ensures.processes ∙ none)

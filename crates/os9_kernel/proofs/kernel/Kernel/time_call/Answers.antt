@@ -22,31 +22,31 @@ use Rattle.os9_kernel.proofs.Represented.{no-call}
 use Rattle.os9_kernel.proofs.Timing.{time-answers, time-tick}
 use Rattle.os9_kernel.proofs.kernel.Kernel.time_call.Goals as goal
 
-pub attempt-end-requires-clause-clock : goal.attempt-end-requires-clause-clock
-attempt-end-requires-clause-clock c =
+pub attempt_on_clock-end-requires-clause-clock : goal.attempt_on_clock-end-requires-clause-clock
+attempt_on_clock-end-requires-clause-clock c =
     let (devices, (s, tied)) = c.requires.stands in
     is-clock c.args.self.now devices s tied
 
 pub tell_end-requires-clause-lives : goal.tell_end-requires-clause-lives
 tell_end-requires-clause-lives c =
-    lives-on c.attempt-end.result c.attempt-end.new.s.table c.args.p.0 c.attempt-end.ensures.lives
+    lives-on c.attempt_on_clock-end.result c.attempt_on_clock-end.new.s.table c.args.p.0 c.attempt_on_clock-end.ensures.lives
 
 pub returns-clause-event : goal.returns-clause-event
 returns-clause-event c devices =
     let old = c.args.self.now in
     let new = c.tell_end.new.self in
-    let clock = c.attempt-end.new.clock in
+    let clock = c.attempt_on_clock-end.new.clock in
     let p = c.args.p in
     let act = Attempt c.args.code in
     let next = c.requires.next in
     let (devices0, (s0, tied0)) = c.requires.stands in
-    let first = c.attempt-end.ensures.call s0.processes tied0.processes in
+    let first = c.attempt_on_clock-end.ensures.call s0.processes tied0.processes in
     let (there0, same0) = c.tell_end.ensures.told s0.processes first.attempts.result first.attempts.comes in
     let ended = sym (c.event_end.ensures ∙ ap event_end_of same0) in
     let ticks_kept = sym (ap (λ (m : Processes). m.tick) there0.is) ∙ time-tick s0.processes p.0 c.args.call old.clock first.now
     first.attempts.result clock first.attempts.attempt ∙ ap (λ (m : Processes). m.tick) tied0.processes.is in record {
       step = λ _ s tied.
-          let it = c.attempt-end.ensures.call s.processes tied.processes in
+          let it = c.attempt_on_clock-end.ensures.call s.processes tied.processes in
           let result = it.attempts.result in
           let (there, same) = c.tell_end.ensures.told s.processes result it.attempts.comes in
           let clock_here = sym (clock-is old p act next devices s tied) in
@@ -76,7 +76,7 @@ returns-clause-event c devices =
           );
       memory = λ out. absurd (never-wants first.attempts.result (ended ∙ out));
       waits = λ is. absurd (time-answers s0.processes p.0 c.args.call old.clock first.now first.attempts.result clock first.attempts.attempt (ended ∙ is));
-      going = λ ran. (p, c.tell_end.ensures.chosen ∙ next.chosen, lives-so c.attempt-end.result new.machine.processes.table p.0 (sym c.event_end.ensures ∙ ran) c.tell_end.ensures.lives);
+      going = λ ran. (p, c.tell_end.ensures.chosen ∙ next.chosen, lives-so c.attempt_on_clock-end.result new.machine.processes.table p.0 (sym c.event_end.ensures ∙ ran) c.tell_end.ensures.lives);
       count = λ _. ticks_kept;
       calls = leaves-drives old devices devices refl;
       images = keeps-drives old devices devices refl;
@@ -88,7 +88,7 @@ returns-clause-progress c ran =
     let new = c.tell_end.new.self in
     let p = c.args.p in
     let (devices, (s, tied)) = c.requires.stands in
-    let it = c.attempt-end.ensures.call s.processes tied.processes in
+    let it = c.attempt_on_clock-end.ensures.call s.processes tied.processes in
     let (there, same) = c.tell_end.ensures.told s.processes it.attempts.result it.attempts.comes in
     let (t, regs, is) = goes-on it.attempts.result (sym (c.event_end.ensures ∙ ap event_end_of same) ∙ ran) s.processes p.0 in
     let none = no-call new.machine.processes t p.0 regs c.requires.next.process.1 (subst (λ (m : Processes). RepresentsProcesses new.machine.processes m) is there) in

@@ -3,7 +3,7 @@ use Rattle.std.proofs.lemmas.List.{length-replicate}
 use Rattle.io_model.specs.Terminal.{driver_with}
 use Rattle.io_rules.specs.declared.io_call.IoCall.TheVariants as Call
 use Rattle.call_dispatch.proofs.Quiet.{attempts-as, has-memory, wants-as}
-use Rattle.call_dispatch.proofs.device_calls.attempt.Goals as goal
+use Rattle.call_dispatch.proofs.device_calls.attempt_on_stream.Goals as goal
 
 pub returns-in-Dup-clause-memory : goal.returns-in-Dup-clause-memory
 returns-in-Dup-clause-memory g c m tied is =

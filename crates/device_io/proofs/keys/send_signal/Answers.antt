@@ -1,5 +1,5 @@
 use Rattle.proc_calls.proofs.Turns.{turns_sent}
-use Rattle.device_io.proofs.keys.send.Goals as goal
+use Rattle.device_io.proofs.keys.send_signal.Goals as goal
 
 pub invariant_of-s-clause-turns : goal.invariant_of-s-clause-turns
 invariant_of-s-clause-turns c =
