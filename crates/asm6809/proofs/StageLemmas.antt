@@ -10,8 +10,14 @@ use Rattle.asm_lines.specs.declared.line.Line.TheVariants.{Skipped, Broken, Stat
 use Rattle.asm_lines.specs.declared.line.Statement.{Statement as StatementCode}
 use Rattle.asm_lines.specs.Lines.{line_said}
 use Rattle.asm_model.specs.Statements.{ModuleFields}
-use Rattle.asm6809.specs.Assembled.{actions_of, first_start, start_of}
-use Rattle.asm6809.specs.Stages.{stage_behind, stage_after, is_rest}
+use Rattle.asm6809.specs.Assembled.{actions_of, first_start, start_of, is_empty, is_framed, is_closed}
+use Rattle.asm6809.specs.Stages.{stage_behind, stage_after}
+
+-- the remaining statements are valid at a stage
+abbrev pub is_rest : Stage → List Action → Bool
+is_rest Before actions = is_framed actions
+is_rest Within actions = is_closed actions
+is_rest Behind actions = is_empty actions
 
 pub rest-next : (stage : Stage) (action : Action) (actions : List Action) → is_rest stage (action ∷ actions) ≡ option_map_or (λ s. is_rest s actions) (stage_behind stage action) false
 rest-next Before label_alone actions = refl

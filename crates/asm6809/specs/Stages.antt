@@ -1,9 +1,8 @@
 -- The parts of a source in which its statements are read.
-use Rattle.std.specs.Prelude.{Bool, Option, Some, None, List}
+use Rattle.std.specs.Prelude.{Option, Some, None}
 use Rattle.asm_model.specs.Statements.{Action, module_start, module_end, LineRead, skipped, broken, stated}
 use Rattle.asm6809.specs.declared.module.Stage.{Stage}
 use Rattle.asm6809.specs.declared.module.Stage.TheVariants.{Before, Within, Behind}
-use Rattle.asm6809.specs.Assembled.{is_empty, is_framed, is_closed}
 
 abbrev pub within_behind : Action → Option Stage
 within_behind (module_start m) = None
@@ -25,9 +24,3 @@ abbrev pub stage_after : Stage → LineRead → Option Stage
 stage_after stage skipped = Some stage
 stage_after stage (broken name) = Some stage
 stage_after stage (stated s) = stage_behind stage s.action
-
--- the remaining statements are valid at a stage
-abbrev pub is_rest : Stage → List Action → Bool
-is_rest Before actions = is_framed actions
-is_rest Within actions = is_closed actions
-is_rest Behind actions = is_empty actions

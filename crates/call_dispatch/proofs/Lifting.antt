@@ -30,7 +30,8 @@ use Rattle.file_state.specs.Lacks.{AttemptsOrLacks, TriesWithin}
 use Rattle.file_state.specs.Tie.{IsSound, StandsFor}
 use Rattle.file_state.specs.declared.state.FileState.{FileState}
 use Rattle.name_calls.proofs.SameLemmas.{some-machine}
-use Rattle.device_paths.specs.Quiet.{Ends, IsQuiet, effect_of}
+use Rattle.device_paths.specs.Quiet.{Ends, effect_of}
+use Rattle.device_paths.proofs.QuietLemmas.{IsQuiet}
 use Rattle.lock_model.specs.Records.{Records, with_waiting}
 use Rattle.file_rules.specs.Memory.{LacksMemory}
 use Rattle.call_dispatch.specs.Attempts.{IsOnDevice, Tries}

@@ -29,7 +29,7 @@ use Rattle.file_rules.specs.OnFile.{by_kind}
 use Rattle.file_rules.specs.Seek.{seeks_nothing}
 use Rattle.file_rules.specs.Step.{FileStep, as_io, deed_of}
 use Rattle.file_rules.specs.declared.path_call.PathCall.TheVariants as Call
-use Rattle.device_paths.specs.Quiet.{IsQuiet}
+use Rattle.device_paths.proofs.QuietLemmas.{IsQuiet}
 use Rattle.call_dispatch.specs.Attempts.{IsOnDevice}
 use Rattle.call_dispatch.specs.Uses.{call_of, device_of}
 use Rattle.call_dispatch.specs.declared.path_use.PathUse.{PathUse}

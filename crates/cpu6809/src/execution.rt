@@ -9,7 +9,7 @@ use crate::effect::{abx, branch, daa, exchange, mul, sex, transfer, unary_on};
 use crate::memory_effect::{
     binary_from, enter_at, jump, lea_of, store, store_word, unary_at, word_from,
 };
-use crate::place::{tail_byte, target_of};
+use crate::place::{Addressing, tail_byte, target_of};
 use crate::stack::{enter, pull, push, return_from_interrupt, return_from_subroutine};
 use arrayvec::ArrayVec;
 use cpu_model::instruction::{DecodeFault, Instr};
@@ -62,15 +62,16 @@ fn execute<B: Bus>(r: &mut Regs, b: &mut B, i: Instr, row: Row) -> Stop
     ensures beside { B.same_beside b.old b.new }
 {
     let Row(operation, mode) = row;
+    let by = Addressing { mode, i };
     match operation {
-        Operation::Unary(unary) => return unary_at(r, b, mode, i, unary),
-        Operation::Binary(binary, on) => return binary_from(r, b, mode, i, binary, on),
-        Operation::Word(binary, on) => return word_from(r, b, mode, i, binary, on),
-        Operation::Store(from) => return store(r, b, mode, i, from),
-        Operation::StoreWord(from) => return store_word(r, b, mode, i, from),
-        Operation::Jmp => return jump(r, b, mode, i),
-        Operation::Jsr => return enter_at(r, b, mode, i),
-        Operation::Lea(to) => return lea_of(r, b, mode, i, to),
+        Operation::Unary(unary) => return unary_at(r, b, by, unary),
+        Operation::Binary(binary, on) => return binary_from(r, b, by, binary, on),
+        Operation::Word(binary, on) => return word_from(r, b, by, binary, on),
+        Operation::Store(from) => return store(r, b, by, from),
+        Operation::StoreWord(from) => return store_word(r, b, by, from),
+        Operation::Jmp => return jump(r, b, by),
+        Operation::Jsr => return enter_at(r, b, by),
+        Operation::Lea(to) => return lea_of(r, b, by, to),
         Operation::Bsr => {
             let target = target_of(r, mode, i.tail);
             return enter(r, b, target);

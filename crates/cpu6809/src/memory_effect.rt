@@ -7,12 +7,11 @@ ghost use Rattle.cpu6809.specs.Does.{Does};
 use crate::bytes::{write_byte, write_word};
 use crate::effect::{binary_on, lea, word_on};
 use crate::operation::unary;
-use crate::place::{address, byte_operand, word_operand};
+use crate::place::{Addressing, address, byte_operand, word_operand};
 use crate::register::{accumulator, set_flags, word_register};
 use crate::stack::enter;
 use cpu_alu::flags_of;
-use cpu_model::instruction::Instr;
-use cpu_model::rows::{Accumulator, Binary, IndexRegister, Mode, Unary, WordBinary, WordRegister};
+use cpu_model::rows::{Accumulator, Binary, IndexRegister, Unary, WordBinary, WordRegister};
 use cpu_model::stop::Stop;
 use os9_base::errors::E_PRCABT;
 use os9_base::memory::Bus;
@@ -20,21 +19,15 @@ use os9_base::registers::Regs;
 
 /// NEG to CLR of the byte at the operand's address. TST writes nothing.
 #[inline(always)]
-pub(crate) fn unary_at<B: Bus>(
-    r: &mut Regs,
-    b: &mut B,
-    mode: Mode,
-    i: Instr,
-    operation: Unary,
-) -> Stop
+pub(crate) fn unary_at<B: Bus>(r: &mut Regs, b: &mut B, by: Addressing, operation: Unary) -> Stop
     ensures step { Does
         (outcome_of_effect (B.cells b.old) (option_and_then
         (λ p. model.unary_effect_at (B.cells b.old) operation p)
-        (places.place_of (B.cells b.old) r.old mode i)))
+        (places.place_of (B.cells b.old) r.old by.mode by.i)))
         result r.new (B.cells b.old) (B.cells b.new) }
     ensures beside { B.same_beside b.old b.new }
 {
-    let Some(at) = address(b, r, mode, i) else {
+    let Some(at) = address(b, r, by) else {
         return Stop::Abort(E_PRCABT);
     };
     let Some(value) = b.read(at) else {
@@ -53,20 +46,14 @@ pub(crate) fn unary_at<B: Bus>(
 
 /// STA and STB.
 #[inline(always)]
-pub(crate) fn store<B: Bus>(
-    r: &mut Regs,
-    b: &mut B,
-    mode: Mode,
-    i: Instr,
-    from: Accumulator,
-) -> Stop
+pub(crate) fn store<B: Bus>(r: &mut Regs, b: &mut B, by: Addressing, from: Accumulator) -> Stop
     ensures step { Does
         (outcome_of_effect (B.cells b.old) (option_map (λ p. model.store from p)
-        (places.place_of (B.cells b.old) r.old mode i)))
+        (places.place_of (B.cells b.old) r.old by.mode by.i)))
         result r.new (B.cells b.old) (B.cells b.new) }
     ensures beside { B.same_beside b.old b.new }
 {
-    let Some(at) = address(b, r, mode, i) else {
+    let Some(at) = address(b, r, by) else {
         return Stop::Abort(E_PRCABT);
     };
     let value = accumulator(r, from);
@@ -83,17 +70,16 @@ pub(crate) fn store<B: Bus>(
 pub(crate) fn store_word<B: Bus>(
     r: &mut Regs,
     b: &mut B,
-    mode: Mode,
-    i: Instr,
+    by: Addressing,
     from: WordRegister,
 ) -> Stop
     ensures step { Does
         (outcome_of_effect (B.cells b.old) (option_map (λ p. model.store_word from p)
-        (places.place_of (B.cells b.old) r.old mode i)))
+        (places.place_of (B.cells b.old) r.old by.mode by.i)))
         result r.new (B.cells b.old) (B.cells b.new) }
     ensures beside { B.same_beside b.old b.new }
 {
-    let Some(at) = address(b, r, mode, i) else {
+    let Some(at) = address(b, r, by) else {
         return Stop::Abort(E_PRCABT);
     };
     let value = word_register(r, from);
@@ -110,18 +96,17 @@ pub(crate) fn store_word<B: Bus>(
 pub(crate) fn binary_from<B: Bus>(
     r: &mut Regs,
     b: &B,
-    mode: Mode,
-    i: Instr,
+    by: Addressing,
     operation: Binary,
     on: Accumulator,
 ) -> Stop
     ensures { Does
         (outcome_of_effect (B.cells b.now) (option_map
         (λ x. model.changes (model.binary_on operation on x))
-        (places.byte_operand (B.cells b.now) r.old mode i)))
+        (places.byte_operand (B.cells b.now) r.old by.mode by.i)))
         result r.new (B.cells b.now) (B.cells b.now) }
 {
-    let Some(value) = byte_operand(b, r, mode, i) else {
+    let Some(value) = byte_operand(b, r, by) else {
         return Stop::Abort(E_PRCABT);
     };
     binary_on(r, operation, on, value);
@@ -133,18 +118,17 @@ pub(crate) fn binary_from<B: Bus>(
 pub(crate) fn word_from<B: Bus>(
     r: &mut Regs,
     b: &B,
-    mode: Mode,
-    i: Instr,
+    by: Addressing,
     operation: WordBinary,
     on: WordRegister,
 ) -> Stop
     ensures { Does
         (outcome_of_effect (B.cells b.now) (option_map
         (λ x. model.changes (model.word_on operation on x))
-        (places.word_operand (B.cells b.now) r.old mode i)))
+        (places.word_operand (B.cells b.now) r.old by.mode by.i)))
         result r.new (B.cells b.now) (B.cells b.now) }
 {
-    let Some(value) = word_operand(b, r, mode, i) else {
+    let Some(value) = word_operand(b, r, by) else {
         return Stop::Abort(E_PRCABT);
     };
     word_on(r, operation, on, value);
@@ -153,13 +137,13 @@ pub(crate) fn word_from<B: Bus>(
 
 /// LEAX to LEAU.
 #[inline(always)]
-pub(crate) fn lea_of<B: Bus>(r: &mut Regs, b: &B, mode: Mode, i: Instr, to: IndexRegister) -> Stop
+pub(crate) fn lea_of<B: Bus>(r: &mut Regs, b: &B, by: Addressing, to: IndexRegister) -> Stop
     ensures { Does
         (outcome_of_effect (B.cells b.now) (option_map (λ p. model.changes (model.lea to p))
-        (places.place_of (B.cells b.now) r.old mode i)))
+        (places.place_of (B.cells b.now) r.old by.mode by.i)))
         result r.new (B.cells b.now) (B.cells b.now) }
 {
-    let Some(at) = address(b, r, mode, i) else {
+    let Some(at) = address(b, r, by) else {
         return Stop::Abort(E_PRCABT);
     };
     lea(r, to, at);
@@ -168,13 +152,13 @@ pub(crate) fn lea_of<B: Bus>(r: &mut Regs, b: &B, mode: Mode, i: Instr, to: Inde
 
 /// JMP.
 #[inline(always)]
-pub(crate) fn jump<B: Bus>(r: &mut Regs, b: &B, mode: Mode, i: Instr) -> Stop
+pub(crate) fn jump<B: Bus>(r: &mut Regs, b: &B, by: Addressing) -> Stop
     ensures { Does
         (outcome_of_effect (B.cells b.now) (option_map (model.jump)
-        (places.place_of (B.cells b.now) r.old mode i)))
+        (places.place_of (B.cells b.now) r.old by.mode by.i)))
         result r.new (B.cells b.now) (B.cells b.now) }
 {
-    let Some(at) = address(b, r, mode, i) else {
+    let Some(at) = address(b, r, by) else {
         return Stop::Abort(E_PRCABT);
     };
     r.pc = at;
@@ -183,14 +167,14 @@ pub(crate) fn jump<B: Bus>(r: &mut Regs, b: &B, mode: Mode, i: Instr) -> Stop
 
 /// JSR.
 #[inline(always)]
-pub(crate) fn enter_at<B: Bus>(r: &mut Regs, b: &mut B, mode: Mode, i: Instr) -> Stop
+pub(crate) fn enter_at<B: Bus>(r: &mut Regs, b: &mut B, by: Addressing) -> Stop
     ensures step { Does
         (outcome_of_effect (B.cells b.old) (option_map (λ p. model.enters p.regs p.at)
-        (places.place_of (B.cells b.old) r.old mode i)))
+        (places.place_of (B.cells b.old) r.old by.mode by.i)))
         result r.new (B.cells b.old) (B.cells b.new) }
     ensures beside { B.same_beside b.old b.new }
 {
-    let Some(at) = address(b, r, mode, i) else {
+    let Some(at) = address(b, r, by) else {
         return Stop::Abort(E_PRCABT);
     };
     enter(r, b, at)

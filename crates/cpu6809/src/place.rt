@@ -12,6 +12,13 @@ use cpu_table::postbyte;
 use os9_base::memory::Bus;
 use os9_base::registers::Regs;
 
+/// How an instruction names its operand: the mode of its row, and its own bytes.
+#[derive(Clone, Copy)]
+pub(crate) struct Addressing {
+    pub(crate) mode: Mode,
+    pub(crate) i: Instr,
+}
+
 #[inline(always)]
 pub(crate) fn tail_byte(tail: Tail) -> u8
     ensures { result ≡ model.tail_byte tail }
@@ -119,17 +126,17 @@ fn indexed<B: Bus>(b: &B, r: &mut Regs, post: u8, tail: Tail, indexing: Indexing
 /// stepped.
 #[inline(always)]
 #[tactic(auto, unfolding(cpu_model::specs::Places::place_of))]
-pub(crate) fn address<B: Bus>(b: &B, r: &mut Regs, mode: Mode, i: Instr) -> Option<u16>
+pub(crate) fn address<B: Bus>(b: &B, r: &mut Regs, by: Addressing) -> Option<u16>
     ensures { option_map (λ at. model.place at r.new) result
-        ≡ model.place_of (B.cells b.now) r.old mode i }
+        ≡ model.place_of (B.cells b.now) r.old by.mode by.i }
 {
-    match mode {
-        Mode::Direct => Some(r.dp as u16 * 256 + tail_byte(i.tail) as u16),
-        Mode::Extended => Some(tail_word(i.tail)),
+    match by.mode {
+        Mode::Direct => Some(r.dp as u16 * 256 + tail_byte(by.i.tail) as u16),
+        Mode::Extended => Some(tail_word(by.i.tail)),
         Mode::Indexed => {
-            let post = i.post.unwrap_or(0);
+            let post = by.i.post.unwrap_or(0);
             let indexing = postbyte(post)?;
-            indexed(b, r, post, i.tail, indexing)
+            indexed(b, r, post, by.i.tail, indexing)
         }
         Mode::Inherent
         | Mode::Immediate8
@@ -154,14 +161,14 @@ pub(crate) fn target_of(r: &Regs, mode: Mode, tail: Tail) -> u16
 /// The byte after the opcode, or at the operand's address.
 #[inline(always)]
 #[tactic(auto, unfolding(cpu_model::specs::Places::byte_operand))]
-pub(crate) fn byte_operand<B: Bus>(b: &B, r: &mut Regs, mode: Mode, i: Instr) -> Option<u8>
+pub(crate) fn byte_operand<B: Bus>(b: &B, r: &mut Regs, by: Addressing) -> Option<u8>
     ensures { option_map (byte_with r.new) result
-        ≡ model.byte_operand (B.cells b.now) r.old mode i }
+        ≡ model.byte_operand (B.cells b.now) r.old by.mode by.i }
 {
-    match mode {
-        Mode::Immediate8 => Some(tail_byte(i.tail)),
+    match by.mode {
+        Mode::Immediate8 => Some(tail_byte(by.i.tail)),
         _ => {
-            let at = address(b, r, mode, i)?;
+            let at = address(b, r, by)?;
             b.read(at)
         }
     }
@@ -170,14 +177,14 @@ pub(crate) fn byte_operand<B: Bus>(b: &B, r: &mut Regs, mode: Mode, i: Instr) ->
 /// The word after the opcode, or at the operand's address.
 #[inline(always)]
 #[tactic(auto, unfolding(cpu_model::specs::Places::word_operand))]
-pub(crate) fn word_operand<B: Bus>(b: &B, r: &mut Regs, mode: Mode, i: Instr) -> Option<u16>
+pub(crate) fn word_operand<B: Bus>(b: &B, r: &mut Regs, by: Addressing) -> Option<u16>
     ensures { option_map (word_with r.new) result
-        ≡ model.word_operand (B.cells b.now) r.old mode i }
+        ≡ model.word_operand (B.cells b.now) r.old by.mode by.i }
 {
-    match mode {
-        Mode::Immediate16 => Some(tail_word(i.tail)),
+    match by.mode {
+        Mode::Immediate16 => Some(tail_word(by.i.tail)),
         _ => {
-            let at = address(b, r, mode, i)?;
+            let at = address(b, r, by)?;
             word_at(b, at)
         }
     }

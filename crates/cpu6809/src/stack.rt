@@ -34,36 +34,43 @@ pub(crate) fn enter<B: Bus>(r: &mut Regs, b: &mut B, target: u16) -> Stop
     Stop::Next
 }
 
-/// Does a mask have the bit of this weight?
+/// A bit of a mask, by its weight.
+#[derive(Clone, Copy)]
+struct Bit {
+    mask: u8,
+    weight: u8,
+}
+
+/// Is a bit of a mask 1?
 #[inline(always)]
-fn names(mask: u8, weight: u8) -> bool
-    requires { 0 < weight }
-    ensures { result ≡ has_bit weight mask }
+fn is_set(bit: Bit) -> bool
+    requires { 0 < bit.weight }
+    ensures { result ≡ has_bit bit.weight bit.mask }
 {
-    mask / weight % 2 == 1
+    bit.mask / bit.weight % 2 == 1
 }
 
 #[inline(always)]
-fn add_byte(frame: &mut ArrayVec<u8, FRAME>, mask: u8, weight: u8, byte: u8)
-    requires weighs { 0 < weight }
+fn add_byte(frame: &mut ArrayVec<u8, FRAME>, bit: Bit, byte: u8)
+    requires weighs { 0 < bit.weight }
     requires room { array_vec_len frame.old < FRAME }
-    ensures bytes { frame.new.items ≡ frame.old.items ++ model.part mask weight (byte ∷ []) }
+    ensures bytes { frame.new.items ≡ frame.old.items ++ model.part bit.mask bit.weight (byte ∷ []) }
     ensures len { array_vec_len frame.new ≤ array_vec_len frame.old + 1 }
 {
-    if names(mask, weight) {
+    if is_set(bit) {
         frame.push(byte);
     }
 }
 
 #[inline(always)]
-fn add_word(frame: &mut ArrayVec<u8, FRAME>, mask: u8, weight: u8, value: u16)
-    requires weighs { 0 < weight }
+fn add_word(frame: &mut ArrayVec<u8, FRAME>, bit: Bit, value: u16)
+    requires weighs { 0 < bit.weight }
     requires room { array_vec_len frame.old + 1 < FRAME }
     ensures bytes { frame.new.items ≡ frame.old.items
-        ++ model.part mask weight (model.word_bytes value) }
+        ++ model.part bit.mask bit.weight (model.word_bytes value) }
     ensures len { array_vec_len frame.new ≤ array_vec_len frame.old + 2 }
 {
-    if names(mask, weight) {
+    if is_set(bit) {
         frame.push((value >> 8) as u8);
         frame.push((value & 0xFF) as u8);
     }
@@ -76,14 +83,18 @@ fn frame(r: &Regs, stack: Stack, mask: u8) -> ArrayVec<u8, FRAME>
     ensures { result.items ≡ model.frame r.now stack mask }
 {
     let mut bytes = ArrayVec::new();
-    add_byte(&mut bytes, mask, 1, r.cc);
-    add_byte(&mut bytes, mask, 2, r.a);
-    add_byte(&mut bytes, mask, 4, r.b);
-    add_byte(&mut bytes, mask, 8, r.dp);
-    add_word(&mut bytes, mask, 16, r.x);
-    add_word(&mut bytes, mask, 32, r.y);
-    add_word(&mut bytes, mask, 64, register(r, other_pointer(stack)));
-    add_word(&mut bytes, mask, 128, r.pc);
+    add_byte(&mut bytes, Bit { mask, weight: 1 }, r.cc);
+    add_byte(&mut bytes, Bit { mask, weight: 2 }, r.a);
+    add_byte(&mut bytes, Bit { mask, weight: 4 }, r.b);
+    add_byte(&mut bytes, Bit { mask, weight: 8 }, r.dp);
+    add_word(&mut bytes, Bit { mask, weight: 16 }, r.x);
+    add_word(&mut bytes, Bit { mask, weight: 32 }, r.y);
+    add_word(
+        &mut bytes,
+        Bit { mask, weight: 64 },
+        register(r, other_pointer(stack)),
+    );
+    add_word(&mut bytes, Bit { mask, weight: 128 }, r.pc);
     bytes
 }
 
@@ -102,22 +113,15 @@ pub(crate) fn push<B: Bus>(r: &mut Regs, b: &mut B, stack: Stack, mask: u8) -> S
     Stop::Next
 }
 
-/// Takes a byte register from the stack at an address, if the mask names it, and returns the next
+/// Takes a byte register from the stack at an address, if its bit is 1, and returns the next
 /// address.
 #[inline(always)]
-fn pull_byte<B: Bus>(
-    b: &B,
-    r: &mut Regs,
-    mask: u8,
-    weight: u8,
-    register: Register,
-    at: u16,
-) -> Option<u16>
-    requires { 0 < weight }
+fn pull_byte<B: Bus>(b: &B, r: &mut Regs, bit: Bit, register: Register, at: u16) -> Option<u16>
+    requires { 0 < bit.weight }
     ensures { option_map (λ next. place next r.new) result
-        ≡ model.pull_byte (B.cells b.now) mask weight register (place at r.old) }
+        ≡ model.pull_byte (B.cells b.now) bit.mask bit.weight register (place at r.old) }
 {
-    if !names(mask, weight) {
+    if !is_set(bit) {
         return Some(at);
     }
     let value = b.read(at)?;
@@ -125,22 +129,15 @@ fn pull_byte<B: Bus>(
     Some(at.wrapping_add(1))
 }
 
-/// Takes a register of sixteen bits from the stack at an address, if the mask names it, and returns
-/// the next address.
+/// Takes a register of sixteen bits from the stack at an address, if its bit is 1, and returns the
+/// next address.
 #[inline(always)]
-fn pull_word<B: Bus>(
-    b: &B,
-    r: &mut Regs,
-    mask: u8,
-    weight: u8,
-    register: Register,
-    at: u16,
-) -> Option<u16>
-    requires { 0 < weight }
+fn pull_word<B: Bus>(b: &B, r: &mut Regs, bit: Bit, register: Register, at: u16) -> Option<u16>
+    requires { 0 < bit.weight }
     ensures { option_map (λ next. place next r.new) result
-        ≡ model.pull_word (B.cells b.now) mask weight register (place at r.old) }
+        ≡ model.pull_word (B.cells b.now) bit.mask bit.weight register (place at r.old) }
 {
-    if !names(mask, weight) {
+    if !is_set(bit) {
         return Some(at);
     }
     let value = word_at(b, at)?;
@@ -153,10 +150,10 @@ fn pull_bytes<B: Bus>(b: &B, r: &mut Regs, mask: u8, at: u16) -> Option<u16>
     ensures { option_map (λ next. place next r.new) result
         ≡ model.pull_bytes (B.cells b.now) mask (place at r.old) }
 {
-    let at = pull_byte(b, r, mask, 1, Register::Cc, at)?;
-    let at = pull_byte(b, r, mask, 2, Register::A, at)?;
-    let at = pull_byte(b, r, mask, 4, Register::B, at)?;
-    pull_byte(b, r, mask, 8, Register::Dp, at)
+    let at = pull_byte(b, r, Bit { mask, weight: 1 }, Register::Cc, at)?;
+    let at = pull_byte(b, r, Bit { mask, weight: 2 }, Register::A, at)?;
+    let at = pull_byte(b, r, Bit { mask, weight: 4 }, Register::B, at)?;
+    pull_byte(b, r, Bit { mask, weight: 8 }, Register::Dp, at)
 }
 
 #[inline(always)]
@@ -164,10 +161,10 @@ fn pull_words<B: Bus>(b: &B, r: &mut Regs, stack: Stack, mask: u8, at: u16) -> O
     ensures { option_map (λ next. place next r.new) result
         ≡ model.pull_words (B.cells b.now) stack mask (place at r.old) }
 {
-    let at = pull_word(b, r, mask, 16, Register::X, at)?;
-    let at = pull_word(b, r, mask, 32, Register::Y, at)?;
-    let at = pull_word(b, r, mask, 64, other_pointer(stack), at)?;
-    pull_word(b, r, mask, 128, Register::Pc, at)
+    let at = pull_word(b, r, Bit { mask, weight: 16 }, Register::X, at)?;
+    let at = pull_word(b, r, Bit { mask, weight: 32 }, Register::Y, at)?;
+    let at = pull_word(b, r, Bit { mask, weight: 64 }, other_pointer(stack), at)?;
+    pull_word(b, r, Bit { mask, weight: 128 }, Register::Pc, at)
 }
 
 /// Takes the registers that a mask names from a stack, if all their bytes can be read.

@@ -7,13 +7,12 @@ use Rattle.file_drives.specs.Drives.{drive_states}
 use Rattle.machine_model.specs.Console.{terminals_emptied}
 use Rattle.machine_model.specs.Terminals.{TerminalsOnlyGain}
 use Rattle.machine_model.proofs.TerminalLaws.{gain-emptied, gain-same, gain-then}
-use Rattle.machine_model.specs.Along.{IsCarriedByEvents}
+use Rattle.machine_model.proofs.Induction.{IsCarriedByEvents, along-steps}
 use Rattle.machine_model.specs.Devices.{DrivesOnlyGain, OnlyGain}
 use Rattle.machine_model.specs.Run.{Steps}
 use Rattle.machine_model.specs.State.{State}
 use Rattle.machine_model.proofs.Drives.{drives-same, drives-then}
 use Rattle.machine_model.proofs.Gains.{event-gains, run-gains}
-use Rattle.machine_model.proofs.Induction.{along-steps}
 use Rattle.os9_kernel.specs.Outside.{Outside}
 use Rattle.os9_kernel.specs.Tie.{Represents}
 use Rattle.os9_kernel.specs.declared.kernel.Kernel.{Kernel}

@@ -4,8 +4,16 @@ use Rattle.std.proofs.lemmas.List.{length-map}
 use Rattle.os9_outer.specs.TerminalState.{TerminalState}
 use Rattle.io_rules.specs.Arrivals.{ArrivesAt, ArrivesFrom, Desk}
 use Rattle.io_rules.specs.Io.{Io}
-use Rattle.device_io.specs.Keys.{KeysArrive, KeysArriveAt, KeysArriveFrom, KeysBreak, KeysBreakAt, PollBreaks, desk}
+use Rattle.device_io.specs.Keys.{KeysArrive, KeysArriveAt, KeysBreak, KeysBreakAt, PollBreaks, desk}
 use Rattle.proc_state.specs.declared.state.ProcState.{ProcState}
+use Rattle.proc_rules.specs.Processes.{Processes}
+use Rattle.proc_state.specs.Tie.{Represents}
+
+-- the keys of `count` terminals from this one on arrived
+abbrev pub KeysArriveFrom : ProcState → Io → List TerminalState → ProcState → Io → List TerminalState → ℕ → ℕ → Type 0
+KeysArriveFrom s io terms new now after n count =
+    (m : Processes) → Represents s m →
+    (next : Processes) × ArrivesFrom s.tick n count (desk m io terms) (desk next now after) × Represents new next
 
 -- no terminal is left
 pub arrive-none : (s : ProcState) (io : Io) (terms : List TerminalState) (n count : ℕ) → count ≡ 0 → KeysArriveFrom s io terms s io terms n count
@@ -46,17 +54,15 @@ module _ (s between new : ProcState) (io now last : Io) (terms states after : Li
       )
 
   -- or the poll of the next terminal breaks off
-  pub break-more : KeysBreakAt between now states new last after n → KeysBreak s io terms new last after 0
+  pub break-more : KeysBreakAt between now states new last after n → KeysBreak s io terms new last after
   break-more here = λ m tied.
       let so_far = first m tied in
-      let one = here so_far.0 so_far.2 in
-      let at : n ≡ 0 + n = omega arith in (
+      let one = here so_far.0 so_far.2 in (
         n,
         desk so_far.0 now states,
         so_far.1,
         one.0,
-        subst (λ (k : ℕ). PollBreaks s.tick k (desk so_far.0 now states) last after) at
-            (subst (λ (tick : ℕ). PollBreaks tick n (desk so_far.0 now states) last after) same one.1),
+        subst (λ (tick : ℕ). PollBreaks tick n (desk so_far.0 now states) last after) same one.1,
       )
 
 -- all of them

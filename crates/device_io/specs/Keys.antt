@@ -1,5 +1,5 @@
 -- Keys that arrive: the part of the kernel's processes and of its state of input and output.
-use Rattle.std.specs.Prelude.{◌≡◌, ℕ, ◌+◌, false, List}
+use Rattle.std.specs.Prelude.{◌≡◌, ℕ, false, List}
 use Rattle.os9_outer.specs.TerminalState.{TerminalState, ChangesOneTerminal}
 use Rattle.proc_rules.specs.Processes.{Processes}
 use Rattle.io_model.specs.Terminal.{Terminal, Arrives}
@@ -18,12 +18,6 @@ abbrev pub KeysArrive : ProcState → Io → List TerminalState → ProcState �
 KeysArrive s io terms new now after =
     (m : Processes) → Represents s m →
     (next : Processes) × Arrivals s.tick (desk m io terms) (desk next now after) × Represents new next
-
--- the keys of `count` terminals from this one on arrived
-abbrev pub KeysArriveFrom : ProcState → Io → List TerminalState → ProcState → Io → List TerminalState → ℕ → ℕ → Type 0
-KeysArriveFrom s io terms new now after n count =
-    (m : Processes) → Represents s m →
-    (next : Processes) × ArrivesFrom s.tick n count (desk m io terms) (desk next now after) × Represents new next
 
 -- the keys of this one terminal arrived
 abbrev pub KeysArriveAt : ProcState → Io → List TerminalState → ProcState → Io → List TerminalState → ℕ → Type 0
@@ -45,9 +39,9 @@ abbrev pub KeysBreakAt : ProcState → Io → List TerminalState → ProcState �
 KeysBreakAt s io terms new now after n =
     (m : Processes) → Represents s m → Represents new m × PollBreaks s.tick n (desk m io terms) now after
 
--- the keys of some terminals from this one on arrived, and then a poll broke off
-abbrev pub KeysBreak : ProcState → Io → List TerminalState → ProcState → Io → List TerminalState → ℕ → Type 0
-KeysBreak s io terms new now after n =
+-- the keys of some first terminals arrived, and then the poll of the next one broke off
+abbrev pub KeysBreak : ProcState → Io → List TerminalState → ProcState → Io → List TerminalState → Type 0
+KeysBreak s io terms new now after =
     (m : Processes) → Represents s m →
-    (polled : ℕ) × (between : Desk) × ArrivesFrom s.tick n polled (desk m io terms) between
-    × Represents new between.processes × PollBreaks s.tick (n + polled) between now after
+    (polled : ℕ) × (between : Desk) × ArrivesFrom s.tick 0 polled (desk m io terms) between
+    × Represents new between.processes × PollBreaks s.tick polled between now after

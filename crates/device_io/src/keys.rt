@@ -38,7 +38,7 @@ pub fn arrive_keys(
         (terminals_seen CharDriver-box devices.new) }
     ensures broken { IsErr result → KeysBreak s.old io.old
         (terminals_seen CharDriver-box devices.old) s.new io.new
-        (terminals_seen CharDriver-box devices.new) 0 }
+        (terminals_seen CharDriver-box devices.new) }
     ensures quiet { result ≡ Ok false → (s.new ≡ s.old) × (io.new ≡ io.old) }
     ensures tick { s.new.tick ≡ s.old.tick }
     ensures drives { devices.new.drives ≡ devices.old.drives }

@@ -13,7 +13,7 @@ use Rattle.io_rules.specs.Lead.{Lead, Search, to_terminal, to_pipe, nowhere, lea
 use Rattle.io_rules.specs.Open.{begins, opened_regs, opens, opens_lead, reads_list}
 use Rattle.io_rules.specs.PathList.{PathList, path_list}
 use Rattle.io_rules.specs.Step.{Caller, IoStep, refused, refuses, needs, done}
-use Rattle.device_paths.specs.Quiet.{IsQuiet}
+use Rattle.device_paths.proofs.QuietLemmas.{IsQuiet}
 use Rattle.device_paths.specs.Places.{allows}
 use Rattle.device_paths.specs.declared.places.Search as Place
 use Rattle.device_paths.specs.Listed.{listed, listed_of}

@@ -19,9 +19,17 @@ use Rattle.io_rules.specs.declared.status.TheConstants.{SS_OPT, SS_READY, SS_EOF
 use Rattle.io_rules.specs.Step.{Caller, IoStep, refused, comes, reads, writes, needs, refuses, done, stores, answers}
 use Rattle.io_rules.specs.declared.io_call.IoCall.{IoCall}
 use Rattle.io_state.specs.Attempt.{Attempts}
-use Rattle.device_paths.specs.Quiet.{IsQuiet, effect_of, Ends}
+use Rattle.device_paths.specs.Quiet.{effect_of, Ends}
 use Rattle.proc_state.specs.Tie.{Represents}
 use Rattle.proc_state.specs.declared.state.ProcState.{ProcState}
+use Rattle.std.specs.Prelude.{⊤}
+
+-- an attempt reaches no device
+abbrev pub IsQuiet : IoStep → Type 0
+IsQuiet (refused number) = ⊤
+IsQuiet (comes effect) = ⊤
+IsQuiet (reads read) = ⊥
+IsQuiet (writes write) = ⊥
 
 -- what such an attempt does
 does-quiet : (step : IoStep) (caller : Caller) (io : Io) (terms : List TerminalState) → IsQuiet step → Does step caller io (effect_of step io) terms terms

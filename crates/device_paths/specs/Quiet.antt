@@ -1,5 +1,5 @@
 -- Attempts that reach no device.
-use Rattle.std.specs.Prelude.{◌≡◌, ℕ, ⊤}
+use Rattle.std.specs.Prelude.{◌≡◌, ℕ}
 use Rattle.os9_base.specs.declared.call.CallEnd.{CallEnd}
 use Rattle.proc_rules.specs.Processes.{Processes}
 use Rattle.io_rules.specs.Attempts.{io_after, result_of}
@@ -7,13 +7,6 @@ use Rattle.io_rules.specs.Io.{Io}
 use Rattle.io_rules.specs.Step.{IoEffect, IoStep, refused, comes, reads, writes, leaves, fails}
 use Rattle.proc_state.specs.Tie.{Comes}
 use Rattle.proc_state.specs.declared.state.ProcState.{ProcState}
-
--- an attempt reaches no device
-abbrev pub IsQuiet : IoStep → Type 0
-IsQuiet (refused number) = ⊤
-IsQuiet (comes effect) = ⊤
-IsQuiet (reads read) = ⊥
-IsQuiet (writes write) = ⊥
 
 -- what such an attempt leaves
 abbrev pub effect_of : IoStep → Io → IoEffect

@@ -8,10 +8,11 @@ use crate::call::{Call, CallOnFile, CallOnName, FileCall, NameCall, Span};
 use crate::row::NumberedCall;
 use module_format::crc24;
 use os9_base::errors::{E_BPNAM, E_FNA};
+use os9_base::name::Name;
 use os9_base::registers::TimePacket;
 use os9_outer::drive::BlockDriver;
 use rbf_access::Volume;
-use rbf_entries::{NewAttributes, NewFile, create, delete, make_dir, set_attr, set_fd_attr};
+use rbf_entries::{NewAttributes, NewEntry, create, delete, make_dir, set_attr, set_fd_attr};
 use rbf_sector::Fd;
 use rbf_walk::{Searcher, may, walk};
 use rbf_write::{NewBytes, set_size, write_at};
@@ -43,7 +44,7 @@ fn call_file(
     volume: &mut Volume,
     d: &mut dyn BlockDriver,
     made: &CallOnFile,
-    now: TimePacket,
+    date: TimePacket,
 ) -> Result<Done, Undone>
     requires mounted { IsMounted volume.old (media d.old) }
     ensures mounted { IsMounted volume.new (media d.new) }
@@ -59,39 +60,40 @@ fn call_file(
         FileCall::May { user, mode } => Ok(Done::Permitted(may(&volume.fd(d, fd)?, user, mode))),
         FileCall::Read(span) => read_file(alloc, volume, d, fd, span),
         FileCall::Attr { attr, user } => {
-            set_attr(
-                volume,
-                d,
-                fd,
-                NewAttributes {
-                    attr,
-                    user,
-                    date: now,
-                },
-            )?;
+            let asked = NewAttributes { attr, user, date };
+            set_attr(volume, d, fd, asked)?;
             Ok(Done::Plainly)
         }
         FileCall::FdAttr { attr } => {
-            set_fd_attr(volume, d, fd, attr, now)?;
+            set_fd_attr(volume, d, fd, attr, date)?;
             Ok(Done::Plainly)
         }
         FileCall::Write { at, pattern } => {
-            let bytes = pattern.bytes(alloc)?;
-            see_data_file(volume, d, fd)?;
-            let write = NewBytes {
-                at,
-                bytes: &bytes,
-                now,
-            };
-            write_at(volume, d, fd, write)?;
-            Ok(Done::Plainly)
+            let bytes = &pattern.bytes(alloc)?;
+            write_file(volume, d, fd, NewBytes { at, bytes, date })
         }
         FileCall::Size { size } => {
             see_data_file(volume, d, fd)?;
-            set_size(volume, d, fd, size, now)?;
+            set_size(volume, d, fd, size, date)?;
             Ok(Done::Plainly)
         }
     }
+}
+
+// Writes bytes to a file that is not a directory.
+fn write_file(
+    volume: &mut Volume,
+    d: &mut dyn BlockDriver,
+    fd: u32,
+    write: NewBytes<'_>,
+) -> Result<Done, Undone>
+    requires mounted { IsMounted volume.old (media d.old) }
+    requires file { HasFile (media d.old) fd }
+    ensures mounted { IsMounted volume.new (media d.new) }
+{
+    see_data_file(volume, d, fd)?;
+    write_at(volume, d, fd, write)?;
+    Ok(Done::Plainly)
 }
 
 // Reads bytes of a file.
@@ -140,7 +142,7 @@ fn call_name(
     volume: &mut Volume,
     d: &mut dyn BlockDriver,
     made: &CallOnName,
-    now: TimePacket,
+    date: TimePacket,
 ) -> Result<Done, Undone>
     requires mounted { IsMounted volume.old (media d.old) }
     ensures mounted { IsMounted volume.new (media d.new) }
@@ -156,38 +158,43 @@ fn call_name(
     };
     let dir = walk(volume, d, root, names, by)?;
     match call {
-        NameCall::Create { attr, .. } if attr > MOST_FILE_ATTRIBUTES => {
-            Err(Undone::Refused(E_FNA))
-        }
-        NameCall::Create { attr, user, way } => {
-            let file = NewFile {
-                name: *name,
-                attr,
-                date: now,
-            };
-            let by = Searcher {
-                user,
-                execute: way.is_execute(),
-            };
-            create(volume, d, dir, &file, by)?;
-            Ok(Done::Plainly)
+        NameCall::Create { attr, .. } => {
+            create_file(volume, d, dir, &new_entry(name, attr, date), by)
         }
         NameCall::MakeDir { attr, user } => {
-            let file = NewFile {
-                name: *name,
-                attr,
-                date: now,
-            };
-            make_dir(volume, d, dir, &file, user)?;
+            make_dir(volume, d, dir, &new_entry(name, attr, date), user)?;
             Ok(Done::Plainly)
         }
-        NameCall::Delete { user, way } => {
-            let by = Searcher {
-                user,
-                execute: way.is_execute(),
-            };
+        NameCall::Delete { .. } => {
             delete(volume, d, dir, name, by)?;
             Ok(Done::Plainly)
         }
     }
+}
+
+fn new_entry(name: &Name, attr: u8, date: TimePacket) -> NewEntry {
+    NewEntry {
+        name: *name,
+        attr,
+        date,
+    }
+}
+
+// Makes a file in a directory, if its attributes are not those of a directory.
+fn create_file(
+    volume: &mut Volume,
+    d: &mut dyn BlockDriver,
+    dir: u32,
+    file: &NewEntry,
+    by: Searcher,
+) -> Result<Done, Undone>
+    requires mounted { IsMounted volume.old (media d.old) }
+    requires file { HasFile (media d.old) dir }
+    ensures mounted { IsMounted volume.new (media d.new) }
+{
+    if file.attr > MOST_FILE_ATTRIBUTES {
+        return Err(Undone::Refused(E_FNA));
+    }
+    create(volume, d, dir, file, by)?;
+    Ok(Done::Plainly)
 }

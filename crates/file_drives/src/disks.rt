@@ -27,7 +27,7 @@ use os9_base::registers::TimePacket;
 use os9_outer::drive::BlockDriver;
 use rbf_access::{FileFault, VolFault, Volume};
 use rbf_entries::{
-    Deletable, NewAttributes, NewFile, NewPlace, create_at, delete_at, find_deletable, find_place,
+    Deletable, NewAttributes, NewEntry, NewPlace, create_at, delete_at, find_deletable, find_place,
     make_dir_at, set_attr,
 };
 use rbf_sector::Fd;
@@ -246,7 +246,7 @@ impl Disks {
     ) -> Result<(), FileFault>
         requires file { HasDataFileAt self.old (drives_seen BlockDriver-box devices.old) place }
         ensures changed { (user : ℕ) → ChangesVolume place
-            (asking (writes place.number write.entry.at write.entry.bytes.now) user write.entry.now)
+            (asking (writes place.number write.entry.at write.entry.bytes.now) user write.entry.date)
             (file_answer result)
             (writing_calls place.number write.entry.at (length write.entry.bytes.now) result)
             self.old (drives_seen BlockDriver-box devices.old)
@@ -296,7 +296,7 @@ impl Disks {
 
     /// Gives a file or directory other attributes, for a user (SS.Attr, this project's own
     /// argument). Bit 7, which says whether it is a directory, is unchanged, and the date of its
-    /// last change is `now`.
+    /// last change is the one that is asked for.
     ///
     /// # Errors
     ///
@@ -411,7 +411,7 @@ impl Disks {
         devices: &mut Devices,
         dir: FilePlace,
         found: &NewPlace,
-        file: &NewFile,
+        file: &NewEntry,
     ) -> Result<u32, FileFault>
         requires file { HasFileAt self.old (drives_seen BlockDriver-box devices.old) dir }
         requires place { IsPlaceAt (drives_seen BlockDriver-box devices.old)
@@ -444,7 +444,7 @@ impl Disks {
         devices: &mut Devices,
         dir: FilePlace,
         found: &NewPlace,
-        file: &NewFile,
+        file: &NewEntry,
     ) -> Result<u32, FileFault>
         requires file { HasFileAt self.old (drives_seen BlockDriver-box devices.old) dir }
         requires place { IsPlaceAt (drives_seen BlockDriver-box devices.old)

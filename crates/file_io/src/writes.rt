@@ -321,7 +321,7 @@ fn write_granted(
     let write = NewBytes {
         at: writing.lock.range.start,
         bytes,
-        now: by.time,
+        date: by.time,
     };
     let disks = &mut machine.files.disks;
     match disks.write_at(devices, opened.place, write) {

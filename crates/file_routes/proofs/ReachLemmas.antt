@@ -15,10 +15,22 @@ use Rattle.file_rules.specs.Route.{Found, walk_ends, walks}
 use Rattle.lock_model.specs.declared.place.FilePlace.{FilePlace}
 use Rattle.file_drives.specs.Drives.{DriveView}
 use Rattle.file_drives.specs.Mounted.{AgreesOnDrive, AreMounted, HasFileAt, kept_at, mounted_at, number_arrived}
-use Rattle.file_routes.specs.Reached.{EndsOn, Finds, WalkComes}
+use Rattle.file_routes.specs.Reached.{EndsOn, Finds}
 use Rattle.file_routes.specs.Walks.{Walks}
 use Rattle.file_routes.specs.declared.walk.Walker.{Walker}
 use Rattle.file_routes.proofs.VolumeLemmas.{agrees-at, file-there, view-there}
+
+-- what a walk comes to, by its result
+abbrev pub WalkComes : Walker → Files → FilePlace → List (List ℕ) → Result FilePlace DirError → Type 0
+WalkComes walker files from names (Ok place) = Finds walker files from names place
+WalkComes walker files from names (Err NotAllowed) = EndsOn walker files from names not_allowed
+WalkComes walker files from names (Err BadPath) = ⊥
+WalkComes walker files from names (Err NotFound) = EndsOn walker files from names not_found
+WalkComes walker files from names (Err Exists) = ⊥
+WalkComes walker files from names (Err (File (Device number))) =
+    (v : DiskVolume) × (volume_at files from.drive ≡ Some v)
+WalkComes walker files from names (Err (File NoCluster)) = ⊥
+WalkComes walker files from names (Err (File TooManyRuns)) = ⊥
 
 -- ---- the volume of a file that is there
 

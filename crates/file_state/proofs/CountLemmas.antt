@@ -14,10 +14,16 @@ use Rattle.file_drives.proofs.DriveLemmas.{changes-weaker}
 use Rattle.file_drives.specs.Changed.{Asked, ChangesVolume}
 use Rattle.file_drives.specs.Drives.{DriveView, OneDriveMoves, Reads, ReadsDrive, unused_drive}
 use Rattle.file_drives.specs.Mounted.{ReadsFile}
-use Rattle.file_state.proofs.ReachedLemmas.{has-changed}
-use Rattle.file_state.specs.Counted.{CalledAtMost, HasChangedIn, calls_at}
+use Rattle.file_state.proofs.ReachedLemmas.{HasChanged, has-changed}
+use Rattle.file_state.specs.Counted.{CalledAtMost, calls_at}
 use Rattle.file_state.specs.Tie.{StandsFor}
 use Rattle.file_state.specs.declared.state.FileState.{FileState}
+
+-- a change with its result, and the number of drive calls for it, by the volume that it left
+pub record HasChangedIn (most : DiskVolume → ℕ) (asked : Asked) (answer : Result ℕ DirError) (drive : ℕ)
+    (v : DiskVolume) (file : DiskFile) (files : Files) (new : FileState) (before after : List DriveView) : Type 0 where
+  pub changed : HasChanged asked answer drive v file files new before after
+  pub calls : CalledAtMost (most changed.left) before after
 
 -- no call
 pub called-none : (views : List DriveView) → CalledAtMost 0 views views

@@ -30,7 +30,8 @@ use Rattle.file_state.specs.Counted.{AttemptsIn}
 use Rattle.file_state.specs.Ends.{Ends, EndsUnentered}
 use Rattle.file_state.specs.Lacks.{LacksItsEntry}
 use Rattle.file_state.specs.Media.{ChangesDisk, KeepsDrives, MediaAfter, MediaAfterChange, file_changed}
-use Rattle.file_state.specs.Reached.{HasChanged, HasRead, OthersStay}
+use Rattle.file_state.specs.Reached.{HasRead, OthersStay}
+use Rattle.file_state.proofs.ReachedLemmas.{HasChanged}
 use Rattle.file_state.specs.declared.state.FileState.{FileState}
 
 -- ---- all media are as they were

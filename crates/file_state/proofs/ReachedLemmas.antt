@@ -1,7 +1,7 @@
 -- From calls of one drive, as the mounted volumes have them, to the words of the calls on files. A call on files takes
 -- `has-read` after each read and `has-changed` after a change, puts them together by `has-read-then` and
 -- `has-changed-then`, and ends by the lemmas of EndLemmas and KeepLemmas.
-use Rattle.std.proofs.Common.{◌≡◌, ◌⊎◌, ℕ, ◌∙◌, Option, Some, None, option_and_then, List, slice_get, slice_set, Result, refl, ap, sym, subst, inl, inr}
+use Rattle.std.proofs.Common.{◌≡◌, ◌⊎◌, ℕ, ◌∙◌, true, Option, Some, None, option_and_then, List, slice_get, slice_set, Result, refl, ap, sym, subst, inl, inr}
 use Rattle.std.proofs.lemmas.List.{set-get_or}
 use Rattle.std.proofs.lemmas.Option.{none-some}
 use Rattle.rbf_model.specs.File.{DiskFile}
@@ -12,13 +12,28 @@ use Rattle.rbf_walk.specs.declared.error.DirError.{DirError}
 use Rattle.file_rules.specs.Files.{DriveState, Files, NoneFailed, OneFailed, file_in, volume_at, with_drives, with_volume}
 use Rattle.lock_model.specs.declared.place.FilePlace.{FilePlace}
 use Rattle.file_drives.proofs.DriveLemmas.{changes-weaker, none-failed, one-failed}
-use Rattle.file_drives.specs.Changed.{AnswersOnDisk, Asked, ChangesVolume}
-use Rattle.file_drives.specs.Drives.{DriveView, KeepsIdent, OneDriveMoves, Reads, ReadsDrive, drive_states, media_at}
+use Rattle.file_drives.specs.Changed.{AnswersOnDisk, Asked, ChangesVolume, AnswersChange, IsRefused, is_refused}
+use Rattle.file_drives.specs.Drives.{DriveView, KeepsIdent, OneDriveMoves, Reads, ReadsDrive, drive_states, media_at, media_of}
 use Rattle.file_drives.specs.Mounted.{HasFileAt, ReadsFile}
 use Rattle.file_state.proofs.MediaLemmas.{media-read, media-same, others-none, others-one, others-then}
-use Rattle.file_state.specs.Reached.{DrivesMove, HasChanged, HasRead}
+use Rattle.file_state.specs.Reached.{DrivesMove, HasRead, OthersStay}
 use Rattle.file_state.specs.Tie.{StandsFor}
 use Rattle.file_state.specs.declared.state.FileState.{FileState}
+
+-- a change of the volume `v` of the drive was asked for, with this result; `file` is the file to change, or the
+-- directory in which a file was to be made or deleted
+pub record HasChanged (asked : Asked) (answer : Result ℕ DirError) (drive : ℕ) (v : DiskVolume) (file : DiskFile)
+    (files : Files) (new : FileState) (before now : List DriveView) : Type 0 where
+  pub left : DiskVolume
+  pub answers : AnswersChange asked v file left answer
+  pub moved : DrivesMove (directory_fault answer) drive files.drives (drive_states now)
+  pub stands : StandsFor new now (with_drives (with_volume files drive left) (drive_states now))
+  pub others : OthersStay drive before now
+  -- if it is refused, or had to be when the drive failed, the media are unchanged
+  pub refused : IsRefused answer ⊎ (is_refused asked v file ≡ true) → media_of now ≡ media_of before
+  -- the media of the drive is as the disk's own call leaves it
+  pub disk : AnswersOnDisk asked.change asked.user asked.now v file answer (media_at before drive) (media_at now drive)
+  pub ident : KeepsIdent (media_at before drive) (media_at now drive)
 
 -- ---- where a file is
 

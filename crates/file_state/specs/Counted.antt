@@ -1,22 +1,16 @@
 -- The number of calls of a machine's drives in a call on files, and its effect on them (this project's own).
-use Rattle.std.specs.Prelude.{◌≡◌, ℕ, ◌+◌, ◌≤◌, List, length, slice_index_or, Result}
+use Rattle.std.specs.Prelude.{◌≡◌, ℕ, ◌+◌, ◌≤◌, List, length, slice_index_or}
 use Rattle.os9_base.specs.declared.call.CallEnd.{CallEnd}
 use Rattle.os9_base.specs.declared.registers.TimePacket.{TimePacket}
 use Rattle.os9_outer.specs.TerminalState.{TerminalState}
 use Rattle.proc_rules.specs.Processes.{Processes}
-use Rattle.rbf_model.specs.File.{DiskFile}
-use Rattle.rbf_model.specs.Volume.{DiskVolume}
-use Rattle.rbf_walk.specs.declared.error.DirError.{DirError}
 use Rattle.file_rules.specs.Attempts.{asker_of, file_step}
 use Rattle.file_rules.specs.Files.{Asker, Files}
 use Rattle.file_rules.specs.Step.{Step, refused, comes, reaches}
 use Rattle.file_rules.specs.declared.path_call.PathCall.{PathCall}
-use Rattle.file_drives.specs.Changed.{Asked}
 use Rattle.file_drives.specs.Drives.{DriveView, unused_drive}
 use Rattle.file_state.specs.Attempt.{Attempts, OnEach, Standing}
 use Rattle.file_state.specs.Media.{KeepsDrives}
-use Rattle.file_state.specs.Reached.{HasChanged}
-use Rattle.file_state.specs.declared.state.FileState.{FileState}
 
 -- the number of calls of the drive of this number; 0 if there is none
 abbrev pub calls_at : List DriveView → ℕ → ℕ
@@ -26,12 +20,6 @@ calls_at views n = (slice_index_or views n unused_drive).counts.calls
 pub record CalledAtMost (most : ℕ) (before after : List DriveView) : Type 0 where
   pub as_many : length after ≡ length before
   pub each : (n : ℕ) → calls_at after n ≤ calls_at before n + most
-
--- a change with its result, and the number of drive calls for it, by the volume that it left
-pub record HasChangedIn (most : DiskVolume → ℕ) (asked : Asked) (answer : Result ℕ DirError) (drive : ℕ)
-    (v : DiskVolume) (file : DiskFile) (files : Files) (new : FileState) (before after : List DriveView) : Type 0 where
-  pub changed : HasChanged asked answer drive v file files new before after
-  pub calls : CalledAtMost (most changed.left) before after
 
 -- ---- in an attempt
 

@@ -1,14 +1,10 @@
 -- What calls of one drive leave of the kernel's files, in the terms of the calls on files.
-use Rattle.std.specs.Prelude.{◌≡◌, ◌≢◌, ◌⊎◌, ℕ, true, Option, Some, None, List, slice_get, Result, Ok, Err}
-use Rattle.rbf_model.specs.File.{DiskFile}
+use Rattle.std.specs.Prelude.{◌≡◌, ◌≢◌, ℕ, Option, Some, None, List, slice_get, Result, Ok, Err}
 use Rattle.rbf_model.specs.Volume.{DiskVolume}
 use Rattle.rbf_access.specs.declared.faults.VolFault.{VolFault}
 use Rattle.rbf_access.specs.declared.volume.Volume.{Volume}
-use Rattle.rbf_walk.specs.Walk.{directory_fault}
-use Rattle.rbf_walk.specs.declared.error.DirError.{DirError}
 use Rattle.file_rules.specs.Files.{Files, DriveState, NoneFailed, OneFailed, with_drives, with_volume}
-use Rattle.file_drives.specs.Changed.{AnswersChange, AnswersOnDisk, Asked, IsRefused, is_refused}
-use Rattle.file_drives.specs.Drives.{DriveView, KeepsIdent, drive_states, media_at, media_of}
+use Rattle.file_drives.specs.Drives.{DriveView, drive_states, media_of}
 use Rattle.file_drives.specs.Mounted.{DriveHolds, kept_at}
 use Rattle.file_state.specs.Tie.{StandsFor}
 use Rattle.file_state.specs.declared.state.FileState.{FileState}
@@ -29,21 +25,6 @@ pub record HasRead (fault : Option ℕ) (drive : ℕ) (files : Files) (new : Fil
   pub stands : StandsFor new now (with_drives files (drive_states now))
   pub media_kept : media_of now ≡ media_of before
   pub others : OthersStay drive before now
-
--- a change of the volume `v` of the drive was asked for, with this result; `file` is the file to change, or the
--- directory in which a file was to be made or deleted
-pub record HasChanged (asked : Asked) (answer : Result ℕ DirError) (drive : ℕ) (v : DiskVolume) (file : DiskFile)
-    (files : Files) (new : FileState) (before now : List DriveView) : Type 0 where
-  pub left : DiskVolume
-  pub answers : AnswersChange asked v file left answer
-  pub moved : DrivesMove (directory_fault answer) drive files.drives (drive_states now)
-  pub stands : StandsFor new now (with_drives (with_volume files drive left) (drive_states now))
-  pub others : OthersStay drive before now
-  -- if it is refused, or had to be when the drive failed, the media are unchanged
-  pub refused : IsRefused answer ⊎ (is_refused asked v file ≡ true) → media_of now ≡ media_of before
-  -- the media of the drive is as the disk's own call leaves it
-  pub disk : AnswersOnDisk asked.change asked.user asked.now v file answer (media_at before drive) (media_at now drive)
-  pub ident : KeepsIdent (media_at before drive) (media_at now drive)
 
 -- ---- mounting
 

@@ -1,21 +1,19 @@
 //! The state of input and output with the disks.
 
-ghost use Rattle.std.specs.Prelude.{◌≡◌, ◌<◌, ◌==◌, ◌||◌, ℕ, Bool, false, None, Some, IfOk, IfSome, IsSome, OnOk, OnErr, List, replicate, vec_len};
+ghost use Rattle.std.specs.Prelude.{◌≡◌, ◌<◌, ◌==◌, Bool, false, None, Some, IfOk, IfSome, IsSome, OnOk, OnErr, List, replicate, vec_len};
 ghost use Rattle.std.specs.Option.{option_map_or};
-ghost use Rattle.proc_rules.specs.IoReady.{has_io};
 ghost use Rattle.io_model.specs.Path.{new_number, slot_of};
 ghost use Rattle.io_rules.specs.Io.{first_io, pending_at, open_path};
-ghost use Rattle.io_rules.specs.Waiting.{interrupted_count, io_may_go};
+ghost use Rattle.io_rules.specs.Waiting.{interrupted_count};
 ghost use Rattle.io_state.specs.Files.{IsOnDisk};
 ghost use Rattle.lock_model.specs.Locks.{lock_of};
 ghost use Rattle.lock_model.specs.Records.{ends_lock, ends_locks_below, no_records};
-ghost use Rattle.lock_model.specs.Waits.{lock_may_go};
 ghost use Rattle.record_locks.specs.Places.{IsPath};
 ghost use Rattle.rbf_model.specs.File.{DiskFile, is_directory as is_directory_model};
 ghost use Rattle.rbf_model.specs.Volume.{DiskVolume};
 ghost use Rattle.file_rules.specs.Files.{Files, directories_at, directory_of, no_directories, target_on as target_on_model, with_directories_of, with_directory, with_drives, with_volume};
 ghost use Rattle.file_rules.specs.Close.{files_after_close};
-ghost use Rattle.file_rules.specs.Locking.{call_wait, end_of_wait as end_of_wait_model, files_interrupted, files_may_go, lock_ends as lock_ends_model, request_wait as request_wait_model};
+ghost use Rattle.file_rules.specs.Locking.{call_wait, end_of_wait as end_of_wait_model, files_interrupted, lock_ends as lock_ends_model, request_wait as request_wait_model};
 ghost use Rattle.file_rules.specs.Processes.{files_started, files_ended};
 ghost use Rattle.file_rules.specs.Sharing.{is_open as is_open_model, is_not_shared as is_not_shared_model, is_single as is_single_model, some_path_on};
 ghost use Rattle.file_rules.specs.Route.{Found};
@@ -35,11 +33,9 @@ use io_state::state::IoState;
 use lock_model::lock::{PATH_PLACES, Request};
 use lock_model::place::FilePlace;
 use os9_base::call::OutOfMemory;
-use os9_base::limits::PROCESS_PLACES;
 use os9_base::registers::Pid;
 use os9_outer::drive::BlockDriver;
 use os9_sched::{Cause, Wait};
-use proc_rules::io_ready::IoReady;
 use rbf_access::VolFault;
 use record_locks::records::Records;
 use std::alloc::Global;
@@ -286,29 +282,6 @@ impl FileState {
     {
         self.records.cancel(p);
         self.io.interrupt(p)
-    }
-
-    /// The processes whose waiting calls may go on in a tick.
-    pub fn ready_set(&self, tick: u32) -> IoReady
-        ensures { (views : List DriveView) (files : Files) → StandsFor self.now views files
-            → (p : ℕ) → p < 33 → has_io result p ≡ files_may_go files tick p }
-    {
-        let mut ready = IoReady::none();
-        for number in 0..PROCESS_PLACES {
-            if self.may_go(Pid(number), tick) {
-                ready.allow(Pid(number));
-            }
-        }
-        ready
-    }
-
-    /// May the waiting call of a process go on in a tick?
-    fn may_go(&self, p: Pid, tick: u32) -> bool
-        requires { p.0 < 33 }
-        ensures { result
-            ≡ (io_may_go self.now.io p.0 || lock_may_go self.now.records.locks tick p.0) }
-    {
-        self.io.may_go(p) || self.records.locks().may_go(p, tick)
     }
 
     /// What a process waits for, if a call of it waits on a terminal, on a pipe or for a record.

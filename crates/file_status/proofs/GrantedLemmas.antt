@@ -18,10 +18,9 @@ use Rattle.file_rules.specs.Attempts.{asker_of}
 use Rattle.file_rules.specs.Change.{sizes}
 use Rattle.file_rules.specs.Files.{Asker, Files, OpenFile}
 use Rattle.file_rules.specs.Seek.{long_of}
-use Rattle.file_state.proofs.CountLemmas.{has-changed-in}
+use Rattle.file_state.proofs.CountLemmas.{has-changed-in, HasChangedIn}
 use Rattle.file_state.proofs.RequestLemmas.{stands-restored}
 use Rattle.file_state.specs.Attempt.{unrequested}
-use Rattle.file_state.specs.Counted.{HasChangedIn}
 use Rattle.file_state.specs.Ends.{EndsOrLacks}
 use Rattle.file_state.specs.Tie.{StandsFor}
 use Rattle.file_state.specs.declared.state.FileState.{FileState}

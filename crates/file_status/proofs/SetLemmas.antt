@@ -36,8 +36,7 @@ use Rattle.io_rules.specs.Step.{answers}
 use Rattle.lock_model.specs.declared.place.FilePlace.{FilePlace}
 use Rattle.file_drives.specs.Changed.{ChangesVolume, numbered}
 use Rattle.file_drives.specs.Drives.{DriveView}
-use Rattle.file_state.proofs.CountLemmas.{has-changed-in}
-use Rattle.file_state.specs.Counted.{HasChangedIn}
+use Rattle.file_state.proofs.CountLemmas.{has-changed-in, HasChangedIn}
 use Rattle.file_state.proofs.RequestLemmas.{lacks-none}
 use Rattle.file_state.specs.Ends.{Ends, EndsOrLacks}
 use Rattle.file_state.specs.Tie.{StandsFor}

@@ -35,13 +35,13 @@ use Rattle.file_rules.specs.Change.{sizes}
 use Rattle.file_rules.specs.Files.{Asker, DriveState, Files, OpenFile, volume_at, with_drives, with_io, with_records, with_volume}
 use Rattle.file_rules.specs.Seek.{long_of}
 use Rattle.file_rules.specs.Step.{FileEffect, FileStep, MayBeLeft, VolumeChange, changes, comes, deed_of, leaves, reaches, refuses, refuses_so, with_drives_after, with_volume_after}
-use Rattle.file_state.proofs.CountLemmas.{called-more}
+use Rattle.file_state.proofs.CountLemmas.{called-more, HasChangedIn}
 use Rattle.file_state.proofs.EndLemmas.{asked_of, breaks, goes-well, is-made, is-too-long}
 use Rattle.file_state.proofs.KeepLemmas.{error-keeps, keeps-broken, keeps-made, keeps-refused, keeps-unentered}
 use Rattle.file_state.proofs.ReachedLemmas.{same-volume}
 use Rattle.file_state.proofs.RequestLemmas.{forgotten-again, lacks-none, stands-beside}
 use Rattle.file_state.specs.Attempt.{without_request}
-use Rattle.file_state.specs.Counted.{CalledAtMost, HasChangedIn}
+use Rattle.file_state.specs.Counted.{CalledAtMost}
 use Rattle.file_state.specs.Ends.{Ends, EndsOrLacks}
 use Rattle.file_state.specs.Media.{KeepsDrives}
 use Rattle.file_state.specs.Opened.{path_of}

@@ -26,11 +26,11 @@ use Rattle.file_drives.specs.Drives.{DriveView, drive_states}
 use Rattle.file_state.proofs.CountLemmas.{called-more, called-none}
 use Rattle.file_state.proofs.EndLemmas.{asked_of, breaks, breaks-nothing, goes-well, is-made}
 use Rattle.file_state.proofs.KeepLemmas.{MayKeepAll, error-keeps, keeps-broken, keeps-made, keeps-read, keeps-refused, keeps-same}
-use Rattle.file_state.proofs.ReachedLemmas.{same-volume}
+use Rattle.file_state.proofs.ReachedLemmas.{same-volume, HasChanged}
 use Rattle.file_state.specs.Counted.{CalledAtMost, calls_of}
 use Rattle.file_state.specs.Ends.{Ends}
 use Rattle.file_state.specs.Media.{KeepsDrives, file_changed}
-use Rattle.file_state.specs.Reached.{HasChanged, HasRead}
+use Rattle.file_state.specs.Reached.{HasRead}
 use Rattle.file_state.specs.Tie.{StandsFor}
 use Rattle.file_state.specs.declared.state.FileState.{FileState}
 use Rattle.file_status.specs.Status.{uncalled}

@@ -6,7 +6,13 @@ use Rattle.std.proofs.lemmas.Option.{slice_get-get_or, slice_get_past, slice_get
 use Rattle.std.proofs.lemmas.Bool.{cases_lt, cases_eq, eqb-true, eq-eqb}
 use Rattle.os9_base.specs.Cells.{put_cell}
 use Rattle.cpu_model.specs.Step.{all_named, write_cells}
-use Rattle.proc_model.specs.Objects.{slot_of, object_byte, object_cells, with_cell, with_writes, NamesObjects}
+use Rattle.proc_model.specs.Objects.{slot_of, object_byte, object_cells, with_cell, with_writes}
+
+-- a map names existing objects, and no object in two of its slots
+pub record NamesObjects (objects : List (List ℕ)) (places : List (Option ℕ)) : Type 0 where
+  pub there : (slot number : ℕ) → slot_of places slot ≡ Some number → number < length objects
+  pub apart : (slot other number : ℕ) → slot_of places slot ≡ Some number → slot_of places other ≡ Some number
+      → slot ≡ other
 
 module _ {X : Type 0} where
   -- what a list has at a place that was written

@@ -15,13 +15,13 @@ use Rattle.proc_model.specs.declared.group.BlockId.{BlockId}
 use Rattle.proc_model.specs.Memory.{MemoryState, map_at}
 use Rattle.proc_model.specs.MemoryChanges.{written}
 use Rattle.proc_model.specs.ModuleList.{ModuleEntry}
-use Rattle.proc_model.specs.Objects.{with_cell, with_writes, NamesObjects}
+use Rattle.proc_model.specs.Objects.{with_cell, with_writes}
+use Rattle.guest_memory.proofs.Objects.{NamesObjects, with_writes-tied}
 use Rattle.proc_model.specs.Slots.{Slots}
 use Rattle.guest_memory.specs.Memory.{RepresentMemory}
 use Rattle.guest_memory.specs.Sound.{IsSound}
 use Rattle.guest_memory.proofs.Keeping.{map_of, held_at, names_live}
 use Rattle.guest_memory.proofs.Naming.{map_at-memory_of}
-use Rattle.guest_memory.proofs.Objects.{with_writes-tied}
 use Rattle.guest_memory.proofs.Stores.{IsMap-renamed}
 use Rattle.guest_memory.proofs.Writing.{cells-tied, represent-written, IsSound-written}
 use Rattle.guest_memory.specs.Running.{cells_seen, LeavesMemory, ExecutesInMemory, FollowInMemory, EndsInMemory, RunsInMemory}

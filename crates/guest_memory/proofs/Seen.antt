@@ -13,7 +13,7 @@ use Rattle.proc_model.specs.declared.group.Group.{Group}
 use Rattle.proc_model.specs.Group.{group_block_numbers}
 use Rattle.proc_model.specs.Memory.{MemoryState, map_at, group_at, free_blocks}
 use Rattle.proc_model.specs.ModuleList.{ModuleEntry, module_entry_at, found_module}
-use Rattle.proc_model.specs.Objects.{NamesObjects}
+use Rattle.guest_memory.proofs.Objects.{NamesObjects}
 use Rattle.proc_model.specs.Slots.{Slots, no_slots, block_at, IsFreeRun, IsHighestFreeRun, highest_free_run}
 use Rattle.guest_memory.specs.Renaming.{renamed_map, renamed_entry}
 use Rattle.guest_memory.proofs.Directory.{entry_at-renamed}

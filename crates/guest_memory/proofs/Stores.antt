@@ -16,8 +16,8 @@ use Rattle.block_map.specs.Window.{SameBeyond}
 use Rattle.block_map.specs.Window.{map_cells as block_cells}
 use Rattle.block_map.proofs.Places.{at, same_id}
 use Rattle.block_map.proofs.Windows.{length-block_bytes}
-use Rattle.proc_model.specs.Objects.{slot_of, object_cells, with_object_byte, with_cell, with_writes, NamesObjects}
-use Rattle.guest_memory.proofs.Objects.{slice_get-set_same, slice_get-set_other, with_writes-tied}
+use Rattle.proc_model.specs.Objects.{slot_of, object_cells, with_object_byte, with_cell, with_writes}
+use Rattle.guest_memory.proofs.Objects.{NamesObjects, slice_get-set_same, slice_get-set_other, with_writes-tied}
 use Rattle.guest_memory.specs.Renaming.{RepresentObjects}
 
 -- ---- what writes do to one object

@@ -1,7 +1,6 @@
 //! Pending calls: when they may go on, what they wait for, and how they are broken off.
 
-ghost use Rattle.std.specs.Prelude.{◌≡◌, ◌<◌, ℕ, Some, IfSome, IsSome};
-ghost use Rattle.proc_rules.specs.IoReady.{has_io};
+ghost use Rattle.std.specs.Prelude.{◌≡◌, ◌<◌, Some, IfSome, IsSome};
 ghost use Rattle.io_model.specs.Path.{desc_of};
 ghost use Rattle.io_model.specs.Pipe.{IsPipe};
 ghost use Rattle.io_rules.specs.Io.{target_of};
@@ -16,25 +15,10 @@ use io_model::pending::PendingCall;
 use io_model::pipe::{PIPE_BYTES, PipeId};
 use io_rules::io_call::Direction;
 use os9_base::calls::I_READ;
-use os9_base::limits::PROCESS_PLACES;
 use os9_base::registers::Pid;
 use os9_sched::Cause;
-use proc_rules::io_ready::IoReady;
 
 impl IoState {
-    /// The processes whose pending calls on a terminal or a pipe may go on.
-    pub fn ready_set(&self) -> IoReady
-        ensures { (p : ℕ) → p < 33 → has_io result p ≡ io_may_go self.now p }
-    {
-        let mut ready = IoReady::none();
-        for number in 0..PROCESS_PLACES {
-            if self.may_go(Pid(number)) {
-                ready.allow(Pid(number));
-            }
-        }
-        ready
-    }
-
     /// May the pending call of a process on a terminal or a pipe go on?
     pub fn may_go(&self, p: Pid) -> bool
         requires { p.0 < 33 }

@@ -13,7 +13,8 @@ use Rattle.guest_memory.proofs.Seen.{names-seen}
 use Rattle.guest_memory.proofs.Lists.{slice_get-left}
 use Rattle.proc_model.specs.Memory.{MemoryState, map_at, with_map}
 use Rattle.proc_model.specs.MemoryChanges.{group_mapped, new_numbers}
-use Rattle.proc_model.specs.Objects.{NamesObjects, file_blocks, object_byte, object_cells, slot_of}
+use Rattle.proc_model.specs.Objects.{file_blocks, object_byte, object_cells, slot_of}
+use Rattle.guest_memory.proofs.Objects.{NamesObjects}
 use Rattle.proc_model.specs.Slots.{Slots, group_slot, highest_free_run, place_names, with_group}
 use Rattle.proc_rules.specs.Link.{Mapped, mapped_group}
 use Rattle.file_rules.specs.Load.{Loaded}

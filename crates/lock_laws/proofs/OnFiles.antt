@@ -18,12 +18,11 @@ use Rattle.machine_model.specs.Console.{terminals_emptied}
 use Rattle.machine_model.specs.declared.ends.EventEnd.{EventEnd}
 use Rattle.machine_model.specs.declared.ends.SliceEnd.{SliceEnd}
 use Rattle.proc_rules.specs.Ready.{act_of}
-use Rattle.machine_model.specs.Along.{IsCarriedByMoves}
+use Rattle.machine_model.proofs.Induction.{IsCarriedByMoves, along-run, along-slice}
 use Rattle.machine_model.specs.Event.{Event}
 use Rattle.machine_model.specs.Run.{Choose, Run, Slice, Tick, desk_of}
 use Rattle.machine_model.specs.Start.{Boot, Starts}
 use Rattle.machine_model.specs.State.{State}
-use Rattle.machine_model.proofs.Induction.{along-run, along-slice}
 use Rattle.wait_laws.proofs.RunningLaws.{arrivals-left, tick-leaves, tick-regs}
 use Rattle.lock_laws.specs.Contents.{IsPathOn}
 use Rattle.lock_laws.specs.Locked.{AllRunLocked, AreOnFiles, IsAskedFor, IsRunLocked, LeavesLocks}

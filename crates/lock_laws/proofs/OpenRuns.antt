@@ -5,12 +5,11 @@ use Rattle.time_rules.specs.CivilTime.{is_time_packet}
 use Rattle.machine_model.specs.Console.{terminals_emptied}
 use Rattle.machine_model.specs.declared.ends.EventEnd.{EventEnd}
 use Rattle.machine_model.specs.declared.ends.SliceEnd.{SliceEnd}
-use Rattle.machine_model.specs.Along.{IsCarriedByMoves}
+use Rattle.machine_model.proofs.Induction.{IsCarriedByMoves, along-run, along-slice}
 use Rattle.machine_model.specs.Event.{Event}
 use Rattle.machine_model.specs.Run.{Choose, Run, Slice, Tick}
 use Rattle.machine_model.specs.Start.{Boot, Starts}
 use Rattle.machine_model.specs.State.{State}
-use Rattle.machine_model.proofs.Induction.{along-run, along-slice}
 use Rattle.wait_laws.specs.Running.{IsRunning}
 use Rattle.wait_laws.proofs.RunningLaws.{running-then}
 use Rattle.lock_laws.proofs.OnFiles.{choice-locked, emptied-locked, event-locked, start-on, tick-locked}

@@ -5,12 +5,11 @@ use Rattle.machine_model.specs.Console.{terminals_emptied}
 use Rattle.machine_model.specs.declared.ends.EventEnd.{EventEnd}
 use Rattle.machine_model.specs.declared.ends.SliceEnd.{SliceEnd}
 use Rattle.io_model.specs.Path.{PathTable}
-use Rattle.machine_model.specs.Along.{IsCarriedByMoves}
+use Rattle.machine_model.proofs.Induction.{IsCarriedByMoves, along-run, along-slice}
 use Rattle.machine_model.specs.Event.{Event}
 use Rattle.machine_model.specs.Run.{Choose, Run, Slice, Tick, desk_of}
 use Rattle.machine_model.specs.Start.{Boot, Starts}
 use Rattle.machine_model.specs.State.{State}
-use Rattle.machine_model.proofs.Induction.{along-run, along-slice}
 use Rattle.wait_laws.proofs.Events.{event-running}
 use Rattle.wait_laws.proofs.RunningLaws.{arrivals-left, choice-running, emptied-running, start-running, tick-running}
 use Rattle.lock_laws.specs.Locked.{AllAgreed, AreAgreed, IsAgreed}

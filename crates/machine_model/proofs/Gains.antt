@@ -24,14 +24,13 @@ use Rattle.machine_model.specs.Console.{console_bytes, terminals_emptied}
 use Rattle.machine_model.specs.ProcessEvent.{next_instruction}
 use Rattle.machine_model.specs.Terminals.{TerminalsOnlyGain}
 use Rattle.machine_model.proofs.TerminalLaws.{gain-arrivals, gain-attempt, gain-broken, gain-emptied, gain-same, gain-then}
-use Rattle.machine_model.specs.Along.{IsCarriedByMoves}
+use Rattle.machine_model.proofs.Induction.{IsCarriedByMoves, along-part, along-run, along-slice}
 use Rattle.machine_model.specs.Devices.{DrivesOnlyGain, OnlyGain}
 use Rattle.machine_model.specs.Event.{Acts, Event, before_delivery, files_after_delivery, files_after_instruction}
 use Rattle.machine_model.specs.Run.{BeginsSlice, BreaksTick, Choose, Run, Slice, Tick, desk_of}
 use Rattle.machine_model.specs.Services.{Service, Serves, files_after_call, files_after_fork, loads, no_call, on_paths, on_processes, on_time, service_of, with_files}
 use Rattle.machine_model.specs.State.{Rest, State}
 use Rattle.machine_model.proofs.Drives.{drives-same, drives-then, loads-gain, none-gains, volumes-gain}
-use Rattle.machine_model.proofs.Induction.{along-part, along-run, along-slice}
 
 -- ---- two states
 

@@ -3,7 +3,6 @@ pub mod ProcessEvent
 pub mod ProcessStart
 pub mod Living
 pub mod Terminals
-pub mod Along
 pub mod Devices
 pub mod Event
 pub mod Run

@@ -13,7 +13,8 @@ use Rattle.file_drives.specs.Mounted.{HasFileAt, OnDisks, ReadsFile}
 use Rattle.file_state.proofs.CountLemmas.{called-more, called-one, called-read}
 use Rattle.file_state.proofs.ReachedLemmas as reached
 use Rattle.file_state.specs.Counted.{CalledAtMost}
-use Rattle.file_state.specs.Reached.{HasChanged, HasRead}
+use Rattle.file_state.specs.Reached.{HasRead}
+use Rattle.file_state.proofs.ReachedLemmas.{HasChanged}
 use Rattle.file_state.specs.Tie.{StandsFor}
 use Rattle.file_state.specs.declared.state.FileState.{FileState}
 

@@ -32,7 +32,8 @@ use Rattle.file_drives.specs.Mounted.{OnDisks, ReadsFile}
 use Rattle.file_state.proofs.EndLemmas.{WritesNothing, asked_of}
 use Rattle.file_state.proofs.CountLemmas.{called-more, called-then}
 use Rattle.file_state.specs.Counted.{CalledAtMost}
-use Rattle.file_state.specs.Reached.{HasChanged, HasRead}
+use Rattle.file_state.specs.Reached.{HasRead}
+use Rattle.file_state.proofs.ReachedLemmas.{HasChanged}
 use Rattle.file_state.specs.Tie.{StandsFor}
 use Rattle.file_state.specs.declared.state.FileState.{FileState}
 use Rattle.file_routes.specs.Routes.{next_step}

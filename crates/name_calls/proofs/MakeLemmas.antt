@@ -44,7 +44,8 @@ use Rattle.file_state.proofs.ReachedLemmas as reached
 use Rattle.file_state.specs.Counted.{CalledAtMost}
 use Rattle.file_state.specs.Ends.{Ends}
 use Rattle.file_state.specs.Media.{KeepsDrives}
-use Rattle.file_state.specs.Reached.{HasChanged, HasRead}
+use Rattle.file_state.specs.Reached.{HasRead}
+use Rattle.file_state.proofs.ReachedLemmas.{HasChanged}
 use Rattle.file_state.specs.declared.state.FileState.{FileState}
 use Rattle.name_calls.proofs.BeginLemmas.{begins-numbered}
 use Rattle.name_calls.proofs.OpenCallLemmas.{entering-within, sum-behind, sum-within, within-sum}

@@ -16,7 +16,8 @@ use Rattle.file_state.proofs.KeepLemmas.{ReachesAtMost, error-keeps, keeps-broke
 use Rattle.file_state.proofs.ReachedLemmas as reached
 use Rattle.file_state.specs.Counted.{CalledAtMost, calls_of}
 use Rattle.file_state.specs.Media.{file_changed}
-use Rattle.file_state.specs.Reached.{HasChanged, HasRead}
+use Rattle.file_state.specs.Reached.{HasRead}
+use Rattle.file_state.proofs.ReachedLemmas.{HasChanged}
 use Rattle.file_state.specs.declared.state.FileState.{FileState}
 use Rattle.file_routes.proofs.VolumeLemmas.{agrees-at, view-there}
 use Rattle.file_routes.specs.Routes.{next_step}

@@ -18,9 +18,9 @@ use Rattle.file_state.specs.Counted.{CalledAtMost, calls_of}
 use Rattle.file_state.specs.Reached.{HasRead}
 use Rattle.file_state.specs.Tie.{StandsFor}
 use Rattle.file_state.specs.declared.state.FileState.{FileState}
-use Rattle.file_routes.proofs.ReachLemmas.{volume-there, walk-comes, walks-forbidden, walks-found, walks-reaches, walks-unfound}
+use Rattle.file_routes.proofs.ReachLemmas.{volume-there, walk-comes, walks-forbidden, walks-found, walks-reaches, walks-unfound, WalkComes}
 use Rattle.file_routes.proofs.VolumeLemmas.{file-there}
-use Rattle.file_routes.specs.Reached.{Finds, WalkComes}
+use Rattle.file_routes.specs.Reached.{Finds}
 use Rattle.file_routes.specs.Walks.{Walks}
 use Rattle.file_routes.specs.declared.walk.Walker.{Walker}
 use Rattle.name_calls.proofs.ListCallLemmas.{calls-reached}

@@ -31,7 +31,7 @@ use io_state::requester::Requester;
 use os9_base::call::CallEnd;
 use os9_base::errors::{E_BPNAM, E_FNA, E_PTHFUL};
 use os9_outer::drive::BlockDriver;
-use rbf_entries::NewFile;
+use rbf_entries::NewEntry;
 
 /// I$Create: makes a file and opens a path on it, or opens a terminal or a pipe (System
 /// Programmer's Manual, I$Create). Takes the mode in A, the attributes in B and the address of the
@@ -141,7 +141,7 @@ fn create_in(
     let Some(_) = machine.files.next_number(by.p) else {
         return refuse(&mut machine.files.io, by.p, E_PTHFUL);
     };
-    let file = NewFile {
+    let file = NewEntry {
         name: last.name,
         attr: by.regs.b,
         date: by.time,

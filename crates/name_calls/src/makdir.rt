@@ -27,7 +27,7 @@ use file_state::state::FileState;
 use io_state::requester::Requester;
 use os9_base::call::CallEnd;
 use os9_outer::drive::BlockDriver;
-use rbf_entries::NewFile;
+use rbf_entries::NewEntry;
 use rbf_walk::Searcher;
 
 /// I$MakDir: makes a directory (System Programmer's Manual, I$MakDir). Takes its attributes in B
@@ -112,7 +112,7 @@ fn make_in(
         user,
         execute: false,
     };
-    let file = NewFile {
+    let file = NewEntry {
         name: last.name,
         attr: by.regs.b,
         date: by.time,

@@ -1,5 +1,5 @@
 -- Memory: objects of 8,192 bytes, and maps that name them (Level Two manual, "Memory management").
-use Rattle.std.specs.Prelude.{◌≡◌, ℕ, ◌+◌, ◌*◌, ◌/◌, ◌%◌, ◌<◌, Option, Some, None, option_and_then, List, [], ◌∷◌, ◌++◌, length, map, take, drop, replicate, slice_get, slice_set}
+use Rattle.std.specs.Prelude.{ℕ, ◌+◌, ◌*◌, ◌/◌, ◌%◌, Option, Some, None, option_and_then, List, [], ◌∷◌, ◌++◌, length, map, take, drop, replicate, slice_get, slice_set}
 use Rattle.std.specs.List.{range_with_len}
 
 -- what a slot of a map names: the place of an object in the list of all objects so far, or nothing
@@ -32,12 +32,6 @@ with_cell objects places address byte = with_object_byte objects (address % 8192
 abbrev pub with_writes : List (List ℕ) → List (Option ℕ) → List (ℕ × ℕ) → List (List ℕ)
 with_writes objects places [] = objects
 with_writes objects places (write ∷ writes) = with_writes (with_cell objects places write.0 write.1) places writes
-
--- a map names existing objects, and no object in two of its slots
-pub record NamesObjects (objects : List (List ℕ)) (places : List (Option ℕ)) : Type 0 where
-  pub there : (slot number : ℕ) → slot_of places slot ≡ Some number → number < length objects
-  pub apart : (slot other number : ℕ) → slot_of places slot ≡ Some number → slot_of places other ≡ Some number
-      → slot ≡ other
 
 -- ---- new objects
 

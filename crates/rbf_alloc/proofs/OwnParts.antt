@@ -10,7 +10,11 @@ use Rattle.std.proofs.lemmas.Option.{get_or_from_slice_get}
 use Rattle.rbf_map.specs.Map.{ClusterMap}
 use Rattle.rbf_alloc.specs.declared.own.Stretch.{Stretch}
 use Rattle.rbf_alloc.proofs.Stretches.{clamped, within, none_between}
-use Rattle.rbf_alloc.specs.Own.{own_segments, in_segment, in_part, in_front, in_own, in_stretch, here, AreInMap, NoneHere}
+use Rattle.rbf_alloc.specs.Own.{own_segments, in_segment, in_part, in_own, in_stretch, here, AreInMap, NoneHere, in_segments}
+
+-- a cluster has a sector of one of the first `count` segments of a file
+abbrev pub in_front : ℕ → OwnSectors → ℕ → ℕ → Bool
+in_front k own count c = in_segments k (take count (own_segments own)) c
 
 or_none : (t : Bool) → (t || false) ≡ t
 or_none true = refl

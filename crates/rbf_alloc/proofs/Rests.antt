@@ -5,9 +5,9 @@ use Rattle.std.proofs.lemmas.Bool.{and_parts, and_from, both_ways, false_from_ne
 use Rattle.rbf_map.specs.Map.{ClusterMap}
 use Rattle.rbf_alloc.specs.declared.own.OwnSectors.{OwnSectors}
 use Rattle.rbf_alloc.specs.declared.own.Stretch.{Stretch}
-use Rattle.rbf_alloc.specs.Own.{own_segments, in_segment, in_part, in_front, in_own, in_stretch, here, AreInMap, NoneHere, ClearsIn, ClearsMarks}
+use Rattle.rbf_alloc.specs.Own.{own_segments, in_segment, in_part, in_own, in_stretch, here, AreInMap, NoneHere, ClearsIn, ClearsMarks}
+use Rattle.rbf_alloc.proofs.OwnParts.{in_front, part_in_own, none_here, front_more, front_all, front_in, front_here, here_all}
 use Rattle.rbf_alloc.proofs.ClearedMarks.{none_cleared, then_cleared, as_cleared, none_freed, then_freed, as_freed}
-use Rattle.rbf_alloc.proofs.OwnParts.{part_in_own, none_here, front_more, front_all, front_in, front_here, here_all}
 use Rattle.rbf_alloc.proofs.Stretches.{within, bounds, none_between, one_more, all_between}
 use Rattle.rbf_alloc.specs.declared.rest.CutSectors.{CutSectors}
 use Rattle.rbf_alloc.specs.Rest.{in_rest, in_rest_of, AllKept, IsRest}

@@ -1,5 +1,5 @@
 -- The clusters of a file's own sectors, segment by segment, and the sector of the map that has their marks.
-use Rattle.std.specs.Prelude.{◌≡◌, ℕ, ◌+◌, ◌-◌, ◌/◌, ◌%◌, ◌<◌, ◌==◌, ◌&&◌, nat_le, nat_lt, Bool, true, not, false, List, ◌∷◌, length, take, get_or, slice_index, if◌then◌else◌}
+use Rattle.std.specs.Prelude.{◌≡◌, ℕ, ◌+◌, ◌-◌, ◌/◌, ◌%◌, ◌<◌, ◌==◌, ◌&&◌, nat_le, nat_lt, Bool, true, not, false, List, ◌∷◌, length, get_or, slice_index, if◌then◌else◌}
 use Rattle.std.specs.Int.{bit_at}
 use Rattle.std.specs.List.{list_any}
 use Rattle.rbf_map.specs.Map.{ClusterMap, mark}
@@ -18,12 +18,9 @@ in_segment k segment c = nat_le (segment.0 / k) c && nat_le c ((segment.0 + segm
 abbrev pub in_segments : ℕ → List (ℕ × ℕ) → ℕ → Bool
 in_segments k segments c = list_any (λ segment. in_segment k segment c) segments
 
--- a cluster has a sector of a file's segments: of the one in place i, of any of the first `count`, or of any
+-- a cluster has a sector of a file's segments: of the one in place i, or of any
 abbrev pub in_part : ℕ → OwnSectors → ℕ → ℕ → Bool
 in_part k own i c = in_segment k (get_or (own_segments own) i (0, 0)) c
-
-abbrev pub in_front : ℕ → OwnSectors → ℕ → ℕ → Bool
-in_front k own count c = in_segments k (take count (own_segments own)) c
 
 abbrev pub in_own : ℕ → OwnSectors → ℕ → Bool
 in_own k own c = in_segments k (own_segments own) c

@@ -8,7 +8,7 @@ ghost use Rattle.rbf_entries.specs.Places.{place_calls};
 ghost use Rattle.rbf_entries.specs.Creating.{request};
 
 use crate::placed::create_at;
-use crate::{NewFile, find_place};
+use crate::{NewEntry, find_place};
 use os9_outer::drive::BlockDriver;
 use rbf_access::Volume;
 use rbf_walk::{DirError, Searcher};
@@ -30,7 +30,7 @@ pub fn create(
     v: &mut Volume,
     d: &mut dyn BlockDriver,
     dir: u32,
-    file: &NewFile,
+    file: &NewEntry,
     by: Searcher,
 ) -> Result<u32, DirError>
     requires mounted { IsMounted v.old (media d.old) }

@@ -4,6 +4,15 @@ ghost use Rattle.rbf_change.specs.Names as model;
 ghost use Rattle.rbf_change.specs.Names.{marked_name};
 
 use os9_base::name::Name;
+use os9_base::registers::TimePacket;
+
+/// A file or directory that is to be made: its name, its attributes and the date of its creation.
+#[derive(Clone, Copy, Debug)]
+pub struct NewEntry {
+    pub name: Name,
+    pub attr: u8,
+    pub date: TimePacket,
+}
 
 /// The entry of a new file: its name as given, with bit 7 on its last character, zeros after it,
 /// and the number of its descriptor (OS-9 Technical Reference, Random Block File Manager,

@@ -11,7 +11,7 @@ ghost use Rattle.rbf_entries.specs.FolderMade.{folder_calls};
 
 use crate::folder::{NewFolder, create_folder};
 use crate::folder_parts::new_clusters;
-use crate::{NewFile, NewPlace, check_room, enter_file, find_place, new_entry};
+use crate::{NewEntry, NewPlace, check_room, enter_file, find_place, new_entry};
 use os9_outer::drive::BlockDriver;
 use rbf_access::{FileFault, Volume};
 use rbf_walk::{DirError, Searcher};
@@ -34,7 +34,7 @@ pub fn make_dir(
     v: &mut Volume,
     d: &mut dyn BlockDriver,
     dir: u32,
-    file: &NewFile,
+    file: &NewEntry,
     user: u16,
 ) -> Result<u32, DirError>
     requires mounted { IsMounted v.old (media d.old) }
@@ -68,7 +68,7 @@ pub fn make_dir_at(
     v: &mut Volume,
     d: &mut dyn BlockDriver,
     found: &NewPlace,
-    file: &NewFile,
+    file: &NewEntry,
 ) -> Result<u32, FileFault>
     requires mounted { IsMounted v.old (media d.old) }
     requires place { IsPlaceFor (media d.old) file.now.name found.now }

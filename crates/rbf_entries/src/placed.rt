@@ -7,7 +7,7 @@ ghost use Rattle.rbf_entries.specs.Entering.{AnswersEntering, entering_calls, wi
 ghost use Rattle.rbf_entries.specs.Places.{IsPlaceFor};
 ghost use Rattle.rbf_entries.specs.Creating.{request};
 
-use crate::{NewFile, NewPlace, check_room, create_fd, enter_file, new_entry};
+use crate::{NewEntry, NewPlace, check_room, create_fd, enter_file, new_entry};
 use os9_outer::drive::BlockDriver;
 use rbf_access::{FileFault, Volume};
 
@@ -26,7 +26,7 @@ pub fn create_at(
     v: &mut Volume,
     d: &mut dyn BlockDriver,
     found: &NewPlace,
-    file: &NewFile,
+    file: &NewEntry,
 ) -> Result<u32, FileFault>
     requires mounted { IsMounted v.old (media d.old) }
     requires place { IsPlaceFor (media d.old) file.now.name found.now }

@@ -26,7 +26,7 @@ pub record Laying : Type 0 where
   pub now : TimePacket
 
 abbrev pub laying_of : ℕ → NewBytes → Laying
-laying_of n write = record { number = n; at = write.at; bytes = write.bytes.now; now = write.now }
+laying_of n write = record { number = n; at = write.at; bytes = write.bytes.now; now = write.date }
 
 -- the resulting contents
 abbrev pub laid_contents : List ℕ → Laying → List ℕ

@@ -17,7 +17,7 @@ use rbf_access::{FileFault, Volume};
 use rbf_segs::Segs;
 
 /// A file over whose bytes others are laid: its segments, followed by those of lost clusters that
-/// it will gain, and its size, which is unchanged.
+/// it will gain, if any, and its size, which is unchanged.
 #[derive(Clone, Copy, Debug)]
 pub struct FileData<'a> {
     pub segs: &'a Segs,

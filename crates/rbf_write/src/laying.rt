@@ -54,7 +54,7 @@ pub fn lay_over(
         size: loaded.file.size,
     };
     fill(volume, d, file, write)?;
-    resize(volume, d, loaded, end as u32, write.now)?;
+    resize(volume, d, loaded, end as u32, write.date)?;
     Ok(())
 }
 
@@ -88,14 +88,14 @@ fn lay_longer(
     let new = NewFields {
         segs: &longer,
         size: end as u32,
-        now: write.now,
+        date: write.date,
     };
     fill(volume, d, grown, write)?;
     finish(volume, d, loaded, new)?;
     Ok(())
 }
 
-// Writes the descriptor of a file with these fields, if its bytes now have another end.
+// Writes the descriptor of a file with these fields, if its bytes now have a later end.
 fn finish(
     volume: &mut Volume,
     d: &mut dyn BlockDriver,
@@ -103,10 +103,10 @@ fn finish(
     new: NewFields<'_>,
 ) -> Result<(), FileFault>
     requires may { MayFinish (media d.old) loaded.now new.segs.now (IsFinished loaded.now
-        new.segs.now new.size new.now (media d.old)) }
+        new.segs.now new.size new.date (media d.old)) }
     requires cached { IsCacheOf (media d.old) volume.old.cache }
     ensures done { OnOk result (IsFinished loaded.now new.entry.segs.now new.entry.size
-        new.entry.now (media d.old) (media d.new)) }
+        new.entry.date (media d.old) (media d.new)) }
     ensures media_kept { OnErr result (media d.new ≡ media d.old) }
     ensures later { OnErr result (loaded.now.file.size < new.entry.size) }
     ensures device { OnErr result (IsSome (file_fault result)) }

@@ -5,5 +5,5 @@ use os9_base::registers::TimePacket;
 pub struct NewBytes<'a> {
     pub at: u32,
     pub bytes: &'a [u8],
-    pub now: TimePacket,
+    pub date: TimePacket,
 }

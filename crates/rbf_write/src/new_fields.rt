@@ -13,12 +13,12 @@ use rbf_access::{FileFault, Volume};
 use rbf_sector::Fd;
 use rbf_segs::Segs;
 
-// The segments and the size of a changed file, and when it changed.
+/// The segments and the size of a changed file, and when it changed.
 #[derive(Clone, Copy)]
 pub struct NewFields<'a> {
     pub segs: &'a Segs,
     pub size: u32,
-    pub now: TimePacket,
+    pub date: TimePacket,
 }
 
 // Writes the descriptor of a file with these fields.
@@ -29,10 +29,10 @@ pub fn store_fields(
     new: NewFields<'_>,
 ) -> Result<(), FileFault>
     requires may { MayFinish (media d.old) loaded.now new.segs.now
-        (IsStored loaded.now new.segs.now new.size new.now (media d.old)) }
+        (IsStored loaded.now new.segs.now new.size new.date (media d.old)) }
     requires cached { IsCacheOf (media d.old) volume.old.cache }
     ensures stored { OnOk result
-        (IsStored loaded.now new.entry.segs.now new.entry.size new.entry.now
+        (IsStored loaded.now new.entry.segs.now new.entry.size new.entry.date
         (media d.old) (media d.new)) }
     ensures media_kept { OnErr result (media d.new ≡ media d.old) }
     ensures device { OnErr result (IsSome (file_fault result)) }
@@ -42,7 +42,7 @@ pub fn store_fields(
 {
     let file = Fd {
         size: new.size,
-        modified: minute(&new.now),
+        modified: minute(&new.date),
         segs: *new.segs,
         ..loaded.file
     };

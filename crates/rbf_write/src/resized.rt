@@ -14,7 +14,7 @@ use os9_base::registers::TimePacket;
 use os9_outer::drive::BlockDriver;
 use rbf_access::{FileFault, Volume};
 
-// Writes the descriptor of a file that has kept its segments, if its bytes now have another end.
+// Writes the descriptor of a file that has kept its segments, if its bytes now have a later end.
 pub fn resize(
     volume: &mut Volume,
     d: &mut dyn BlockDriver,

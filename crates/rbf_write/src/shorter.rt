@@ -44,7 +44,7 @@ pub fn cut(
     let new = NewFields {
         segs: &segs,
         size,
-        now,
+        date: now,
     };
     store_fields(volume, d, loaded, new)?;
     let sectors = CutSectors {

@@ -52,7 +52,7 @@ pub fn set_size(
     let write = NewBytes {
         at: size,
         bytes: &[],
-        now,
+        date: now,
     };
     lay_over(volume, d, &loaded, write)
 }

@@ -18,12 +18,11 @@ use Rattle.machine_model.specs.Console.{terminals_emptied}
 use Rattle.stream_laws.specs.Keys.{KeyMove, arrive, arrived_by, stay, use_up, EventKeys, FollowOn, HasAhead, IsKeyStep, KeyStep, KeysArrive, KeysPass, Stands, after_event, ahead_at, ahead_moves, keys_to_come}
 use Rattle.stream_laws.proofs.KeyAttempts.{come_of}
 use Rattle.stream_laws.proofs.KeyArrivals.{Polled, arrivals-polled, come-emptied}
-use Rattle.machine_model.specs.Along.{IsCarriedByMoves}
+use Rattle.machine_model.proofs.Induction.{IsCarriedByMoves, along-run, along-slice}
 use Rattle.machine_model.specs.Event.{Event}
 use Rattle.machine_model.specs.Run.{Choose, Run, Slice, Tick, desk_of}
 use Rattle.machine_model.specs.Start.{Boot, Starts}
 use Rattle.machine_model.specs.State.{State}
-use Rattle.machine_model.proofs.Induction.{along-run, along-slice}
 use Rattle.stream_laws.proofs.KeyEvents.{event-keys}
 
 -- ---- a tick

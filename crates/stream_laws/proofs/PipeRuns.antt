@@ -10,11 +10,10 @@ use Rattle.machine_model.specs.declared.ends.EventEnd.{EventEnd}
 use Rattle.machine_model.specs.declared.ends.SliceEnd.{SliceEnd}
 use Rattle.machine_model.specs.Console.{terminals_emptied}
 use Rattle.stream_laws.proofs.PipeArrivals.{DeskRests, arrivals-rest}
-use Rattle.machine_model.specs.Along.{IsCarriedByEvents, IsCarriedByMoves}
+use Rattle.machine_model.proofs.Induction.{IsCarriedByMoves, IsCarriedByEvents, along-first, along-part, along-run, along-slice, along-steps}
 use Rattle.machine_model.specs.Event.{Event}
 use Rattle.machine_model.specs.Run.{BeginsSlice, Choose, FirstSteps, Run, Slice, Steps, Tick, desk_of}
 use Rattle.machine_model.specs.State.{State}
-use Rattle.machine_model.proofs.Induction.{along-first, along-part, along-run, along-slice, along-steps}
 use Rattle.stream_laws.specs.Flow.{AllLive, IsPassing, Linked, Passes, Passing, PassesThrough, Rests, moved_by}
 use Rattle.stream_laws.proofs.PipeEvents.{event-passes}
 

@@ -12,7 +12,7 @@ use crate::way::way_to;
 use os9_base::registers::TimePacket;
 use os9_outer::drive::BlockDriver;
 use rbf_access::Volume;
-use rbf_entries::{NewFile, create, make_dir};
+use rbf_entries::{NewEntry, create, make_dir};
 use rbf_walk::Searcher;
 
 /// The attributes of a file made by `put`: its owner may read and write it, others may read it.
@@ -38,7 +38,7 @@ pub fn make_file(
     ensures fault { Faults BlockDriver-dyn (tool_fault result) d.old d.new }
 {
     let dir = way_to(v, d, &place.way)?;
-    let file = NewFile {
+    let file = NewEntry {
         name: place.name,
         attr: FILE_ATTRIBUTES,
         date: now,
@@ -67,7 +67,7 @@ pub fn make_folder(
     ensures fault { Faults BlockDriver-dyn (tool_fault result) d.old d.new }
 {
     let dir = way_to(v, d, &place.way)?;
-    let file = NewFile {
+    let file = NewEntry {
         name: place.name,
         attr: DIRECTORY_ATTRIBUTES,
         date: now,

@@ -75,6 +75,11 @@ fn put_at(
     ensures fault { Faults BlockDriver-dyn (tool_fault result) d.old d.new }
 {
     let n = make_file(v, d, place, now)?;
-    write_at(v, d, n, NewBytes { at: 0, bytes, now })?;
+    let write = NewBytes {
+        at: 0,
+        bytes,
+        date: now,
+    };
+    write_at(v, d, n, write)?;
     Ok(())
 }

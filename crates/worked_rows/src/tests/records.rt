@@ -8,8 +8,10 @@ use file_state::state::FileState;
 use lock_model::lock::{Grant, Held, Range, Request};
 use lock_model::place::FilePlace;
 use os9_base::calls::I_READ;
+use os9_base::limits::PROCESS_PLACES;
 use os9_base::registers::Pid;
 use os9_sched::Cause;
+use proc_rules::io_ready::IoReady;
 use proc_state::choice::{dispatch, settle};
 use proc_state::state::ProcState;
 use process_table::Life;
@@ -97,9 +99,20 @@ fn ask(records: &mut Records, owner: Pid, path: u8) -> Result<Grant, Fail>
     Ok(grant)
 }
 
+/// The processes whose requests for a record may go on in a tick.
+fn ready(records: &Records, tick: u32) -> IoReady {
+    let mut ready = IoReady::none();
+    for number in 0..PROCESS_PLACES {
+        if records.locks().may_go(Pid(number), tick) {
+            ready.allow(Pid(number));
+        }
+    }
+    ready
+}
+
 /// The choice of a process.
 fn chosen(s: &mut ProcState, files: &FileState) -> Option<Pid> {
-    settle(s, &files.ready_set(s.tick));
+    settle(s, &ready(&files.records, s.tick));
     dispatch(s)
 }
 

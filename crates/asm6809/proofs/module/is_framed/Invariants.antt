@@ -2,8 +2,7 @@
 use Rattle.std.proofs.Common.{◌≡◌, map}
 use Rattle.asm_lines.specs.Lines.{line_said}
 use Rattle.asm6809.specs.Assembled.{actions_of, is_framed}
-use Rattle.asm6809.specs.Stages.{is_rest}
-use Rattle.asm6809.proofs.StageLemmas.{actions_at}
+use Rattle.asm6809.proofs.StageLemmas.{is_rest, actions_at}
 use Rattle.asm6809.proofs.module.is_framed.Given as goal
 
 abbrev pub invariant-loop-line : goal.invariant-loop-line

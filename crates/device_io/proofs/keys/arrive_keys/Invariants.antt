@@ -2,7 +2,7 @@
 use Rattle.std.proofs.Common.{◌≡◌, ◌≤◌, false}
 use Rattle.std.specs.Vec.{vec_len}
 use Rattle.device_table.specs.Seen.{terminal_states}
-use Rattle.device_io.specs.Keys.{KeysArriveFrom}
+use Rattle.device_io.proofs.KeyLemmas.{KeysArriveFrom}
 use Rattle.device_io.proofs.keys.arrive_keys.Given as goal
 
 abbrev pub invariant-loop-n : goal.invariant-loop-n

@@ -1,7 +1,7 @@
 use Rattle.std.proofs.Common.{refl, arith}
-use Rattle.rbf_alloc.specs.Own.{in_front, in_own, in_stretch}
+use Rattle.rbf_alloc.specs.Own.{in_own, in_stretch}
+use Rattle.rbf_alloc.proofs.OwnParts.{in_front, front_in, front_all, stretch_here}
 use Rattle.rbf_alloc.proofs.ClearedMarks.{none_cleared, then_cleared, as_cleared}
-use Rattle.rbf_alloc.proofs.OwnParts.{front_in, front_all, stretch_here}
 use Rattle.rbf_alloc.proofs.bits.clear_own.Goals as goal
 
 pub loop-i-init : goal.loop-i-init

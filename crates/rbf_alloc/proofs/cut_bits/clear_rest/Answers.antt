@@ -1,7 +1,7 @@
 use Rattle.std.proofs.Common.{◌+◌, ◌&&◌, not, ap, refl, arith}
-use Rattle.rbf_alloc.specs.Own.{in_front, in_own, in_stretch}
+use Rattle.rbf_alloc.specs.Own.{in_own, in_stretch}
+use Rattle.rbf_alloc.proofs.OwnParts.{in_front, front_all, stretch_here}
 use Rattle.rbf_alloc.proofs.ClearedMarks.{none_cleared, then_cleared, as_cleared}
-use Rattle.rbf_alloc.proofs.OwnParts.{front_all, stretch_here}
 use Rattle.rbf_alloc.specs.Rest.{in_rest, in_rest_of}
 use Rattle.rbf_alloc.proofs.Rests.{front_rest}
 use Rattle.rbf_alloc.proofs.cut_bits.clear_rest.Goals as goal

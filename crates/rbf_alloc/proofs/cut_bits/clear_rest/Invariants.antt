@@ -1,6 +1,7 @@
 -- So far the marks of those of the segments before this one have been cleared.
 use Rattle.std.proofs.Common.{◌&&◌, not}
-use Rattle.rbf_alloc.specs.Own.{ClearsIn, in_front, in_own}
+use Rattle.rbf_alloc.specs.Own.{ClearsIn, in_own}
+use Rattle.rbf_alloc.proofs.OwnParts.{in_front}
 use Rattle.rbf_alloc.proofs.cut_bits.clear_rest.Given as goal
 
 abbrev pub invariant-loop-i : goal.invariant-loop-i

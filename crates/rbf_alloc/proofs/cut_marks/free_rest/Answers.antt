@@ -1,7 +1,7 @@
 use Rattle.std.proofs.Common.{◌+◌, ◌&&◌, not, refl, arith}
-use Rattle.rbf_alloc.specs.Own.{here, in_front, in_own, in_stretch}
+use Rattle.rbf_alloc.specs.Own.{here, in_own, in_stretch}
+use Rattle.rbf_alloc.proofs.OwnParts.{in_front, stretch_here}
 use Rattle.rbf_alloc.proofs.ClearedMarks.{none_freed, then_freed, as_freed}
-use Rattle.rbf_alloc.proofs.OwnParts.{stretch_here}
 use Rattle.rbf_alloc.specs.Rest.{in_rest, in_rest_of}
 use Rattle.rbf_alloc.proofs.Rests.{front_rest_here, rest_here_all, part_of_rest}
 use Rattle.rbf_alloc.proofs.cut_marks.free_rest.Goals as goal

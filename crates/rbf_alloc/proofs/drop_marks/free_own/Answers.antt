@@ -1,7 +1,7 @@
 use Rattle.std.proofs.Common.{refl, arith}
-use Rattle.rbf_alloc.specs.Own.{here, in_front, in_own, in_stretch}
+use Rattle.rbf_alloc.specs.Own.{here, in_own, in_stretch}
+use Rattle.rbf_alloc.proofs.OwnParts.{in_front, front_here, here_all, stretch_in_map}
 use Rattle.rbf_alloc.proofs.ClearedMarks.{none_freed, then_freed, as_freed}
-use Rattle.rbf_alloc.proofs.OwnParts.{front_here, here_all, stretch_in_map}
 use Rattle.rbf_alloc.proofs.drop_marks.free_own.Goals as goal
 
 pub loop-i-init : goal.loop-i-init

@@ -45,7 +45,7 @@ pub returns-in_err-lay_over-clause-answer : goal.returns-in_err-lay_over-clause-
 returns-in_err-lay_over-clause-answer g c v file on is =
     let p = err_from_is_err_and c.from_residual-in_err-lay_over.result c.from_residual-in_err-lay_over.ensures.1 in
     rw (p.1, p.2)
-    (whole_answers _ _ c.args.fd c.held_file-loaded.result.number c.args.write.at c.args.write.bytes.now c.args.write.now
+    (whole_answers _ _ c.args.fd c.held_file-loaded.result.number c.args.write.at c.args.write.bytes.now c.args.write.date
     c.in_ok-bring.ensures.media_kept (c.held_file-loaded.ensures _ c.in_ok-bring.ensures.cached).number_is
     (some_room c.args.write.bytes.now c.is_empty.result c.if-is_empty.false c.is_empty.ensures)
     ((goal.BlockDriver-dyn g (c.args.d.now.0, c.lay_over.new.d)).media c.lay_over.new.d)
@@ -55,7 +55,7 @@ pub returns-in_err-lay_over-clause-counts : goal.returns-in_err-lay_over-clause-
 returns-in_err-lay_over-clause-counts g c v file on is marks are =
     let p = err_from_is_err_and c.from_residual-in_err-lay_over.result c.from_residual-in_err-lay_over.ensures.1 in
     rw (p.1, p.2)
-    (whole_calls _ _ c.args.fd c.held_file-loaded.result.number c.args.write.at c.args.write.bytes.now c.args.write.now
+    (whole_calls _ _ c.args.fd c.held_file-loaded.result.number c.args.write.at c.args.write.bytes.now c.args.write.date
     c.in_ok-bring.ensures.media_kept (c.held_file-loaded.ensures _ c.in_ok-bring.ensures.cached).number_is
     (some_room c.args.write.bytes.now c.is_empty.result c.if-is_empty.false c.is_empty.ensures)
     ((goal.BlockDriver-dyn g (c.args.d.now.0, c.lay_over.new.d)).media c.lay_over.new.d)
@@ -64,7 +64,7 @@ returns-in_err-lay_over-clause-counts g c v file on is marks are =
 
 pub returns-clause-answer : goal.returns-clause-answer
 returns-clause-answer g c v file on is =
-    whole_answers _ _ c.args.fd c.held_file-loaded.result.number c.args.write.at c.args.write.bytes.now c.args.write.now
+    whole_answers _ _ c.args.fd c.held_file-loaded.result.number c.args.write.at c.args.write.bytes.now c.args.write.date
     c.in_ok-bring.ensures.media_kept (c.held_file-loaded.ensures _ c.in_ok-bring.ensures.cached).number_is
     (some_room c.args.write.bytes.now c.is_empty.result c.if-is_empty.false c.is_empty.ensures)
     ((goal.BlockDriver-dyn g (c.args.d.now.0, c.lay_over.new.d)).media c.lay_over.new.d) (Ok tt)
@@ -72,7 +72,7 @@ returns-clause-answer g c v file on is =
 
 pub returns-clause-counts : goal.returns-clause-counts
 returns-clause-counts g c v file on is marks are =
-    whole_calls _ _ c.args.fd c.held_file-loaded.result.number c.args.write.at c.args.write.bytes.now c.args.write.now
+    whole_calls _ _ c.args.fd c.held_file-loaded.result.number c.args.write.at c.args.write.bytes.now c.args.write.date
     c.in_ok-bring.ensures.media_kept (c.held_file-loaded.ensures _ c.in_ok-bring.ensures.cached).number_is
     (some_room c.args.write.bytes.now c.is_empty.result c.if-is_empty.false c.is_empty.ensures)
     ((goal.BlockDriver-dyn g (c.args.d.now.0, c.lay_over.new.d)).media c.lay_over.new.d) (Ok tt) _ _ _ _

@@ -24,7 +24,7 @@ pub returns-clause-changed : goal.returns-clause-changed
 returns-clause-changed g c user =
     changes-volume (goal.BlockDriver-dyn g) c.args.devices.now.drives.items c.self.view_is c.self.invariant c.index_mut.ensures.value
     c.in-Some.is c.index_mut-in-Some.ensures.value (search rules) c.requires.file.has _
-    (asking (writes c.args.place.number c.args.write.at c.args.write.bytes.now) user c.args.write.now) (file_answer c.write_at.result)
+    (asking (writes c.args.place.number c.args.write.at c.args.write.bytes.now) user c.args.write.date) (file_answer c.write_at.result)
     (writing_calls c.args.place.number c.args.write.at (length c.args.write.bytes.now) c.write_at.result)
-    (λ v file was there. write-leaves c.write_at.new.volume _ _ c.args.place.number c.args.write.at c.args.write.bytes.now c.args.write.now c.write_at.ensures.mounted
+    (λ v file was there. write-leaves c.write_at.new.volume _ _ c.args.place.number c.args.write.at c.args.write.bytes.now c.args.write.date c.write_at.ensures.mounted
     user c.write_at.result c.write_at.ensures.answer c.write_at.ensures.refused_calls c.write_at.ensures.counts v file was.on there)
