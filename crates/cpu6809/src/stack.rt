@@ -54,7 +54,8 @@ fn is_set(bit: Bit) -> bool
 fn add_byte(frame: &mut ArrayVec<u8, FRAME>, bit: Bit, byte: u8)
     requires weighs { 0 < bit.weight }
     requires room { array_vec_len frame.old < FRAME }
-    ensures bytes { frame.new.items ≡ frame.old.items ++ model.part bit.mask bit.weight (byte ∷ []) }
+    ensures bytes { frame.new.items ≡ frame.old.items ++ model.part bit.mask bit.weight
+        (byte ∷ []) }
     ensures len { array_vec_len frame.new ≤ array_vec_len frame.old + 1 }
 {
     if is_set(bit) {

@@ -62,7 +62,8 @@ pub(crate) fn send(
     requires terminals { AreTerminals io.old.paths (vec_len devices.old.terms) }
     ensures call { IsLineFirst to_write.now.kind io.old by.p.0 to_write.now.bytes.now
         → SendsFrom to_write.now.kind (write_named to_write.now.kind) by to_write.now.bytes.now
-        result (streams CharDriver-box io.old devices.old) (streams CharDriver-box io.new devices.new) }
+        result (streams CharDriver-box io.old devices.old)
+        (streams CharDriver-box io.new devices.new) }
     ensures drives { devices.new.drives ≡ devices.old.drives }
     ensures count { vec_len devices.new.terms ≡ vec_len devices.old.terms }
 {

@@ -246,7 +246,8 @@ impl Disks {
     ) -> Result<(), FileFault>
         requires file { HasDataFileAt self.old (drives_seen BlockDriver-box devices.old) place }
         ensures changed { (user : ℕ) → ChangesVolume place
-            (asking (writes place.number write.entry.at write.entry.bytes.now) user write.entry.date)
+            (asking (writes place.number write.entry.at write.entry.bytes.now) user
+            write.entry.date)
             (file_answer result)
             (writing_calls place.number write.entry.at (length write.entry.bytes.now) result)
             self.old (drives_seen BlockDriver-box devices.old)

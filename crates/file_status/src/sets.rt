@@ -193,7 +193,8 @@ fn size_granted(
         (drives_seen BlockDriver-box devices.old) opened.now.place }
     requires granted { IsGranted machine.old.files.records.locks sizing.lock }
     ensures call { SetsGranted opened.now (sizes_granted sizing.size_before sizing.lock)
-        granted_size_calls by.time by.p.0 result (machine_seen BlockDriver-box machine.old devices.old)
+        granted_size_calls by.time by.p.0 result
+        (machine_seen BlockDriver-box machine.old devices.old)
         (machine_seen BlockDriver-box machine.new devices.new) }
     ensures kept { SameTerminals by machine.new.processes devices.old devices.new }
 {
@@ -217,7 +218,8 @@ fn enter_size(
     requires path { IsPathOf machine.old.files.io opened.now }
     requires free { conflicts machine.old.files.records.locks sizing.lock ≡ false }
     ensures call { (m : Processes) → Represents machine.old.processes m → EndsSized
-        sizing.size_before sizing.lock by.regs opened.now m by.p.0 machine.old.files result machine.new.processes
+        sizing.size_before sizing.lock by.regs opened.now m by.p.0 machine.old.files result
+        machine.new.processes
         machine.new.files }
     ensures lives { IsLiving machine.new.processes.table by.p.0 }
 {
