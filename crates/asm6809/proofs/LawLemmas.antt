@@ -8,7 +8,7 @@ use Rattle.std.proofs.lemmas.List.Sums.{AllPass-from_list_all}
 use Rattle.os9_base.specs.declared.limits.TheConstants.{MOST_GROUP_BYTES}
 use Rattle.os9_base.specs.Name.{is_name_character, if_name, IsName}
 use Rattle.os9_base.proofs.NameLemmas.{is_stored_character-from_name}
-use Rattle.proc_model.specs.Crc.{crc_of}
+use Rattle.proc_model.specs.CrcModel.{crc_of}
 use Rattle.proc_model.specs.Module.{IsModule, info_at}
 use Rattle.proc_model.specs.declared.module.ModuleInfo.{ModuleInfo}
 use Rattle.module_format.specs.declared.maker.Header.{Header}

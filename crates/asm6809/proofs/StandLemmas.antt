@@ -7,7 +7,7 @@ use Rattle.std.proofs.lemmas.Bool.{and_parts}
 use Rattle.std.proofs.lemmas.List.{take_at, drop_at, drop-drop, length-map}
 use Rattle.std.proofs.lemmas.List.Elements.{All-cons, All-nil}
 use Rattle.std.proofs.lemmas.List.Sums.{sum_by-cons}
-use Rattle.proc_model.specs.Crc.{crc_of}
+use Rattle.proc_model.specs.CrcModel.{crc_of}
 use Rattle.cpu_model.specs.declared.instruction.Tail.{Tail}
 use Rattle.cpu_model.specs.declared.instruction.Tail.TheVariants.{Empty, Byte}
 use Rattle.cpu_model.specs.Reading.{reading}

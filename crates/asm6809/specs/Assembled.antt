@@ -3,7 +3,7 @@ use Rattle.std.specs.Prelude.{◌≡◌, ℕ, ◌+◌, ◌&&◌, not, nat_le, na
 use Rattle.std.specs.Option.{option_map_or}
 use Rattle.std.specs.List.{flat_map, list_all}
 use Rattle.os9_base.specs.declared.limits.TheConstants.{MOST_GROUP_BYTES}
-use Rattle.proc_model.specs.Crc.{crc_of}
+use Rattle.proc_model.specs.CrcModel.{crc_of}
 use Rattle.proc_model.specs.Module.{IsModule, info_at}
 use Rattle.proc_model.specs.declared.module.ModuleInfo.{ModuleInfo}
 use Rattle.cpu_model.specs.declared.instruction.Instr.{Instr}

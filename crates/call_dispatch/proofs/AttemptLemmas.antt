@@ -7,8 +7,8 @@ use Rattle.os9_base.specs.declared.errors.TheConstants.{E_BADTIME, E_BPADDR}
 use Rattle.os9_base.specs.declared.registers.Regs.{Regs}
 use Rattle.os9_base.specs.declared.registers.TimePacket.{TimePacket}
 use Rattle.proc_model.specs.MemoryChanges.{stored}
-use Rattle.proc_rules.specs.Processes.{Processes, regs_at, cells_at, with_memory}
-use Rattle.proc_rules.specs.UserBytes.{user_bytes}
+use Rattle.proc_model.specs.Processes.{Processes, regs_at, cells_at, with_memory}
+use Rattle.proc_model.specs.UserBytes.{user_bytes}
 use Rattle.time_rules.specs.CivilTime.{is_time_packet}
 use Rattle.time_rules.proofs.Next.{later-packet}
 use Rattle.proc_state.specs.declared.state.ProcState.{ProcState}

@@ -5,15 +5,15 @@ use Rattle.os9_base.specs.declared.call.CallEnd.TheVariants.{Done}
 use Rattle.os9_base.specs.declared.registers.Regs.{Regs}
 use Rattle.os9_base.specs.declared.registers.TimePacket.{TimePacket}
 use Rattle.os9_outer.specs.TerminalState.{TerminalState}
-use Rattle.proc_rules.specs.Processes.{Processes, regs_at, with_regs_of}
+use Rattle.proc_model.specs.Processes.{Processes, regs_at, with_regs_of}
 use Rattle.io_model.specs.Path.{closed_desc, paths_after_close}
 use Rattle.io_model.specs.declared.pending.PendingCall.{PendingCall}
 use Rattle.io_model.specs.declared.path.Desc.{Desc}
 use Rattle.io_model.specs.declared.path.Target.{Target}
 use Rattle.io_model.specs.declared.path.Target.TheVariants.{File, Folder, Term, Pipe}
-use Rattle.io_rules.specs.Close.{i_close as closes_device, after_close, without_path, without_target}
-use Rattle.io_rules.specs.Io.{Io, OpenPath, pending_at, with_call, with_paths}
-use Rattle.io_rules.specs.Step.{answers}
+use Rattle.io_model.specs.Close.{i_close as closes_device, after_close, without_path, without_target}
+use Rattle.io_model.specs.Io.{Io, OpenPath, pending_at, with_call, with_paths}
+use Rattle.io_model.specs.Step.{answers}
 use Rattle.proc_state.specs.Tie.{Represents}
 use Rattle.proc_state.specs.declared.state.ProcState.{ProcState}
 use Rattle.file_drives.specs.Drives.{DriveView}

@@ -4,16 +4,16 @@ use Rattle.os9_base.specs.declared.call.CallEnd.{CallEnd}
 use Rattle.os9_base.specs.declared.call.CallEnd.TheVariants.{NoMemory}
 use Rattle.os9_base.specs.declared.registers.TimePacket.{TimePacket}
 use Rattle.os9_outer.specs.TerminalState.{TerminalState}
-use Rattle.proc_rules.specs.CallResult.{CallResult}
-use Rattle.proc_rules.specs.Processes.{Processes}
-use Rattle.io_rules.specs.Attempts.{Does, IoAttempts, caller_of, io_after, result_of, step_of}
-use Rattle.io_rules.specs.Io.{Io}
-use Rattle.io_rules.specs.Step.{Caller, IoEffect, IoStep, refused, comes, reads, writes}
-use Rattle.io_rules.specs.declared.io_call.IoCall.{IoCall}
+use Rattle.proc_model.specs.CallResult.{CallResult}
+use Rattle.proc_model.specs.Processes.{Processes}
+use Rattle.io_model.specs.Attempts.{Does, IoAttempts, caller_of, io_after, result_of, step_of}
+use Rattle.io_model.specs.Io.{Io}
+use Rattle.io_model.specs.Step.{Caller, IoEffect, IoStep, refused, comes, reads, writes}
+use Rattle.io_model.specs.declared.io_call.IoCall.{IoCall}
 use Rattle.io_state.specs.Attempt.{Attempts as AttemptsOnDevice}
 use Rattle.proc_state.specs.Tie.{Comes}
 use Rattle.proc_state.specs.declared.state.ProcState.{ProcState}
-use Rattle.io_rules.specs.Memory.{WantsMemory}
+use Rattle.io_model.specs.Memory.{WantsMemory}
 use Rattle.file_rules.specs.Attempts.{asker_of, file_step, files_after, files_kept}
 use Rattle.file_rules.specs.Files.{Asker, Files, with_io}
 use Rattle.file_rules.specs.Step.{Deed, FileEffect, as_io, deed_of, on_files}

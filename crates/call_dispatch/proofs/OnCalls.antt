@@ -4,10 +4,10 @@ use Rattle.os9_base.specs.declared.call.CallEnd.{CallEnd}
 use Rattle.os9_base.specs.declared.registers.TimePacket.{TimePacket}
 use Rattle.os9_outer.specs.TerminalState.{TerminalState}
 use Rattle.call_dispatch.proofs.Quiet.{is-first}
-use Rattle.io_rules.specs.Io.{pending_at}
-use Rattle.io_rules.specs.declared.io_call.IoCall.TheVariants as Device
+use Rattle.io_model.specs.Io.{pending_at}
+use Rattle.io_model.specs.declared.io_call.IoCall.TheVariants as Device
 use Rattle.io_state.specs.Sound.{IsIo}
-use Rattle.proc_rules.specs.Records.{record_at}
+use Rattle.proc_model.specs.Records.{record_at}
 use Rattle.proc_state.specs.declared.state.ProcState.{ProcState}
 use Rattle.file_rules.specs.declared.path_call.PathCall.{PathCall}
 use Rattle.file_drives.specs.Drives.{DriveView}

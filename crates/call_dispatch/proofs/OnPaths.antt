@@ -7,14 +7,14 @@ use Rattle.os9_base.specs.declared.errors.TheConstants.{E_BPNUM}
 use Rattle.os9_base.specs.declared.registers.Regs.{Regs}
 use Rattle.os9_base.specs.declared.registers.TimePacket.{TimePacket}
 use Rattle.os9_outer.specs.TerminalState.{TerminalState}
-use Rattle.proc_rules.specs.Processes.{Processes, regs_at}
-use Rattle.io_rules.specs.Again.{IsAgain, IsPending, path_number}
-use Rattle.io_rules.specs.Attempts.{caller_of}
-use Rattle.io_rules.specs.Io.{Io, OpenPath, pending_at, open_path}
-use Rattle.io_rules.specs.Step.{Caller, IoStep, needs, done as io_done}
-use Rattle.io_rules.specs.Codes.{direction_of, direction_of_call, io_call_of}
-use Rattle.io_rules.specs.declared.io_call.IoCall.{IoCall}
-use Rattle.io_rules.specs.declared.io_call.IoCall.TheVariants as Device
+use Rattle.proc_model.specs.Processes.{Processes, regs_at}
+use Rattle.io_model.specs.Again.{IsAgain, IsPending, path_number}
+use Rattle.io_model.specs.Attempts.{caller_of}
+use Rattle.io_model.specs.Io.{Io, OpenPath, pending_at, open_path}
+use Rattle.io_model.specs.Step.{Caller, IoStep, needs, done as io_done}
+use Rattle.io_model.specs.Codes.{direction_of, direction_of_call, io_call_of}
+use Rattle.io_model.specs.declared.io_call.IoCall.{IoCall}
+use Rattle.io_model.specs.declared.io_call.IoCall.TheVariants as Device
 use Rattle.io_model.specs.Path.{desc_of}
 use Rattle.io_model.specs.declared.path.Desc.{Desc}
 use Rattle.io_model.specs.declared.path.SysPath.{SysPath}

@@ -4,21 +4,21 @@ use Rattle.os9_base.specs.declared.call.CallEnd.{CallEnd}
 use Rattle.os9_base.specs.declared.call.CallEnd.TheVariants.{Done, Error, Wait, Ended, NoMemory}
 use Rattle.os9_base.specs.declared.registers.Regs.{Regs}
 use Rattle.os9_outer.specs.TerminalState.{TerminalState}
-use Rattle.proc_rules.specs.CallResult.{CallResult}
-use Rattle.proc_rules.specs.CallResult as Result
-use Rattle.proc_rules.specs.Processes.{Processes}
+use Rattle.proc_model.specs.CallResult.{CallResult}
+use Rattle.proc_model.specs.CallResult as Result
+use Rattle.proc_model.specs.Processes.{Processes}
 use Rattle.io_model.specs.declared.pending.PendingCall.{PendingCall}
-use Rattle.io_rules.specs.Again.{IsAgain, IsPending}
-use Rattle.io_rules.specs.Codes.{direction_of, io_call_of, direction_of_call}
-use Rattle.io_rules.specs.Io.{Io, pending_at}
-use Rattle.io_rules.specs.declared.io_call.IoCall.{IoCall}
-use Rattle.io_rules.specs.declared.io_call.IoCall.TheVariants as Call
+use Rattle.io_model.specs.Again.{IsAgain, IsPending}
+use Rattle.io_model.specs.Codes.{direction_of, io_call_of, direction_of_call}
+use Rattle.io_model.specs.Io.{Io, pending_at}
+use Rattle.io_model.specs.declared.io_call.IoCall.{IoCall}
+use Rattle.io_model.specs.declared.io_call.IoCall.TheVariants as Call
 use Rattle.io_state.specs.Attempt.{Attempts}
 use Rattle.io_state.specs.Sound.{IsIo, SetsStatus}
 use Rattle.proc_state.specs.Tie.{Comes}
 use Rattle.proc_state.specs.declared.state.ProcState.{ProcState}
-use Rattle.io_rules.specs.Attempts.{caller_of, step_of}
-use Rattle.io_rules.specs.Memory.{WantsMemory}
+use Rattle.io_model.specs.Attempts.{caller_of, step_of}
+use Rattle.io_model.specs.Memory.{WantsMemory}
 
 -- a call that waits moves bytes or sets a status, so another one is at its first attempt
 pub is-first : (call : IoCall) (regs : Regs) (io : Io) (p : ℕ) → direction_of_call call ≡ None → call ≢ Call.SetStt → IsIo io → IsAgain call regs io p → pending_at io p ≡ None

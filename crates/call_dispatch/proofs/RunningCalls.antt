@@ -6,18 +6,18 @@ use Rattle.os9_base.specs.Cells.{Cells}
 use Rattle.os9_base.specs.declared.registers.Regs.{Regs}
 use Rattle.guest_memory.specs.Tie.{cells_of}
 use Rattle.guest_memory.proofs.Seen.{cells_of-seen}
-use Rattle.proc_rules.specs.Records.{record_at}
-use Rattle.proc_rules.specs.Processes.{Processes, cells_at, regs_at}
-use Rattle.proc_rules.specs.Ready.{attempts, act_of}
+use Rattle.proc_model.specs.Records.{record_at}
+use Rattle.proc_model.specs.Processes.{Processes, cells_at, regs_at}
+use Rattle.proc_model.specs.Ready.{attempts, act_of}
 use Rattle.io_model.specs.Path.{PathTable, desc_of}
 use Rattle.io_model.specs.declared.pending.PendingCall.{PendingCall}
 use Rattle.io_model.specs.declared.path.Desc.{Desc}
 use Rattle.io_model.specs.declared.path.Target.TheVariants.{Term}
-use Rattle.io_rules.specs.Again.{IsAgain, IsPending}
-use Rattle.io_rules.specs.Codes.{io_call_of}
-use Rattle.io_rules.specs.Io.{Io, pending_at}
-use Rattle.io_rules.specs.declared.io_call.IoCall.{IoCall}
-use Rattle.io_rules.specs.declared.io_call.IoCall.TheVariants as Call
+use Rattle.io_model.specs.Again.{IsAgain, IsPending}
+use Rattle.io_model.specs.Codes.{io_call_of}
+use Rattle.io_model.specs.Io.{Io, pending_at}
+use Rattle.io_model.specs.declared.io_call.IoCall.{IoCall}
+use Rattle.io_model.specs.declared.io_call.IoCall.TheVariants as Call
 use Rattle.call_laws.specs.Pending.{ArePending, StaysAllowed as IsAllowed, StaysRead as AllowedRead}
 use Rattle.call_laws.specs.Terminals.{AreOnTerminals}
 use Rattle.call_laws.proofs.Codes.{attempts-code}

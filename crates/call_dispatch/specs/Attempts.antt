@@ -5,10 +5,10 @@ use Rattle.os9_base.specs.declared.call.CallEnd.{CallEnd}
 use Rattle.os9_base.specs.declared.call.CallEnd.TheVariants.{NoMemory}
 use Rattle.os9_base.specs.declared.registers.TimePacket.{TimePacket}
 use Rattle.os9_outer.specs.TerminalState.{TerminalState}
-use Rattle.proc_rules.specs.Processes.{Processes}
-use Rattle.io_rules.specs.Attempts.{step_of}
-use Rattle.io_rules.specs.Io.{Io, pending_at}
-use Rattle.io_rules.specs.declared.io_call.IoCall.{IoCall}
+use Rattle.proc_model.specs.Processes.{Processes}
+use Rattle.io_model.specs.Attempts.{step_of}
+use Rattle.io_model.specs.Io.{Io, pending_at}
+use Rattle.io_model.specs.declared.io_call.IoCall.{IoCall}
 use Rattle.call_dispatch.specs.Staying.{MayAttempt as MayAttemptOnDevice}
 use Rattle.proc_state.specs.Tie.{Represents}
 use Rattle.proc_state.specs.declared.state.ProcState.{ProcState}

@@ -1,9 +1,9 @@
 //! The calls by their names.
 
 ghost use Rattle.std.specs.Prelude.{◌≡◌, IfSome, slice_index_or};
-ghost use Rattle.proc_rules.specs.Records.{IsLiving};
-ghost use Rattle.proc_rules.specs.Attempts.{attempted, after_attempt, attempt_end};
-ghost use Rattle.proc_rules.specs.Processes.{Processes, no_own};
+ghost use Rattle.proc_model.specs.Records.{IsLiving};
+ghost use Rattle.proc_model.specs.Attempts.{attempted, after_attempt, attempt_end};
+ghost use Rattle.proc_model.specs.Processes.{Processes, no_own};
 ghost use Rattle.proc_state.specs.Tie.{Represents, Comes};
 ghost use Rattle.proc_calls.specs.Telling.{LivesOn, KeepsTurns, WaitsFor};
 ghost use Rattle.call_dispatch.specs.Waits as model;
@@ -23,7 +23,7 @@ use proc_calls::signals::{f_icpt, f_send};
 use proc_calls::sleep::f_sleep;
 use proc_calls::telling::tell;
 use proc_calls::unlink::f_unlink;
-use proc_rules::proc_call::ProcCall;
+use proc_model::proc_call::ProcCall;
 use proc_state::state::ProcState;
 
 /// An attempt of a call by a living process (System Programmer's Manual, "User mode service

@@ -1,14 +1,14 @@
 //! The requirements of an attempt hold in every state of a run.
 
 ghost use Rattle.std.specs.Prelude.{◌≡◌, ◌<◌, ℕ, Some};
-ghost use Rattle.proc_rules.specs.Processes.{Processes};
-ghost use Rattle.proc_rules.specs.Ready.{attempts, act_of};
+ghost use Rattle.proc_model.specs.Processes.{Processes};
+ghost use Rattle.proc_model.specs.Ready.{attempts, act_of};
 ghost use Rattle.call_dispatch.specs.Staying.{MayAttempt};
 ghost use Rattle.call_laws.specs.Pending.{ArePending};
 ghost use Rattle.call_laws.specs.Terminals.{AreOnTerminals};
-ghost use Rattle.io_rules.specs.Codes.{io_call_of};
-ghost use Rattle.io_rules.specs.Io.{Io};
-ghost use Rattle.io_rules.specs.declared.io_call.IoCall.{IoCall};
+ghost use Rattle.io_model.specs.Codes.{io_call_of};
+ghost use Rattle.io_model.specs.Io.{Io};
+ghost use Rattle.io_model.specs.declared.io_call.IoCall.{IoCall};
 ghost use Rattle.proc_state.specs.Tie.{Represents};
 ghost use Rattle.proc_state.specs.declared.state.ProcState.{ProcState};
 

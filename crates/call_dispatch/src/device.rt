@@ -6,12 +6,12 @@ ghost use Rattle.file_state.specs.Context.{machine_seen};
 ghost use Rattle.device_table.specs.Seen.{terminals_seen};
 ghost use Rattle.call_dispatch.specs.Attempts.{TriesOnDevice};
 ghost use Rattle.call_dispatch.specs.Staying.{MayAttempt};
-ghost use Rattle.io_rules.specs.Io.{pending_at};
+ghost use Rattle.io_model.specs.Io.{pending_at};
 
 use crate::device_calls::attempt_on_stream;
 use device_table::devices::Devices;
 use file_state::machine::Machine;
-use io_rules::io_call::IoCall;
+use io_model::io_call::IoCall;
 use io_state::requester::Requester;
 use os9_base::call::CallEnd;
 use os9_outer::drive::BlockDriver;

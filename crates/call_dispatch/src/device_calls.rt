@@ -3,7 +3,7 @@
 ghost use Rattle.std.specs.Prelude.{◌≡◌, None, vec_len};
 ghost use Rattle.io_state.specs.Context.{InCall, SameDrives};
 ghost use Rattle.call_dispatch.specs.Staying.{MayAttempt};
-ghost use Rattle.io_rules.specs.Io.{pending_at};
+ghost use Rattle.io_model.specs.Io.{pending_at};
 ghost use Rattle.device_io.specs.Streams.{streams};
 ghost use Rattle.device_io.specs.Trying.{AttemptsFrom, WantsMemoryFrom};
 
@@ -13,7 +13,7 @@ use device_paths::numbers::{i_close, i_dup};
 use device_paths::open::{i_create, i_open};
 use device_paths::status::{i_getstt, i_setstt};
 use device_table::devices::Devices;
-use io_rules::io_call::IoCall;
+use io_model::io_call::IoCall;
 use io_state::requester::Requester;
 use io_state::state::IoState;
 use os9_base::call::CallEnd;

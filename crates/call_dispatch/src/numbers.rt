@@ -14,7 +14,7 @@ use crate::path::{close_path, seek_path, use_path};
 use crate::path_use::PathUse;
 use device_table::devices::Devices;
 use file_state::machine::Machine;
-use io_rules::io_call::IoCall;
+use io_model::io_call::IoCall;
 use io_state::requester::Requester;
 use os9_base::call::CallEnd;
 use os9_outer::drive::BlockDriver;

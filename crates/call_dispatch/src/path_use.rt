@@ -1,11 +1,11 @@
 //! The calls that use an open path.
 
 ghost use Rattle.std.specs.Prelude.{◌≡◌};
-ghost use Rattle.io_rules.specs.Again as model;
+ghost use Rattle.io_model.specs.Again as model;
 ghost use Rattle.call_dispatch.specs.Uses.{device_of};
 
-use io_rules::io_call::IoCall;
-use io_rules::modes::STANDARD_ERROR;
+use io_model::io_call::IoCall;
+use io_model::modes::STANDARD_ERROR;
 use os9_base::registers::Regs;
 
 /// A call that uses an open path, and does one thing on a file or a directory and another on a

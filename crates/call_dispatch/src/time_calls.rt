@@ -1,8 +1,8 @@
 //! The calls on the time, each as an attempt by a process, and all of them by their codes.
 
 ghost use Rattle.std.specs.Prelude.{◌≡◌};
-ghost use Rattle.proc_rules.specs.Records.{IsLiving};
-ghost use Rattle.proc_rules.specs.Processes.{Processes};
+ghost use Rattle.proc_model.specs.Records.{IsLiving};
+ghost use Rattle.proc_model.specs.Processes.{Processes};
 ghost use Rattle.proc_state.specs.Tie.{Represents, IsSame};
 ghost use Rattle.time_rules.specs.Attempts.{clock_after};
 ghost use Rattle.time_rules.specs.Clock.{IsClock};

@@ -4,8 +4,8 @@ ghost use Rattle.std.specs.Prelude.{◌≡◌, IfSome};
 ghost use Rattle.call_dispatch.specs.Waits as model;
 
 use os9_sched::{Cause, Wait};
-use proc_rules::own::Own;
-use proc_rules::proc_call::ProcCall;
+use proc_model::own::Own;
+use proc_model::proc_call::ProcCall;
 
 /// What a call waits for, if it is F$Wait or F$Sleep: the end of a child, or its tick or signal 1.
 /// No other call waits.

@@ -15,37 +15,37 @@ use Rattle.proc_model.specs.Memory.{MemoryState, map_at}
 use Rattle.proc_model.specs.MemoryChanges.{cleared, cut, grown, group_unmapped, has_most_links, linked, unlinked, stored, writes_from}
 use Rattle.proc_model.specs.ModuleList.{ModuleEntry, module_entry_at, found_module, without_link}
 use Rattle.proc_model.specs.Slots.{group_slot, no_slots}
-use Rattle.proc_rules.specs.declared.own.Own.{Own}
-use Rattle.proc_rules.specs.declared.record.Record.{Record}
-use Rattle.proc_rules.specs.declared.record.Reap.{Reap}
-use Rattle.proc_rules.specs.declared.record.Reap.TheVariants.{NoChild, NotYet}
-use Rattle.proc_rules.specs.declared.record.SendFault.{SendFault}
-use Rattle.proc_rules.specs.declared.record.SendFault.TheVariants.{NoProcess, Pending}
-use Rattle.proc_rules.specs.Ends.{ended_child, orphaned, reaped, after_exit, after_reap}
-use Rattle.proc_rules.specs.Records.{record_of, record_at, is_waiting, with_record, with_regs, without_record, with_priority}
-use Rattle.proc_rules.specs.Signals.{is_reached, wake_signal, with_signal}
+use Rattle.proc_model.specs.declared.own.Own.{Own}
+use Rattle.proc_model.specs.declared.record.Record.{Record}
+use Rattle.proc_model.specs.declared.record.Reap.{Reap}
+use Rattle.proc_model.specs.declared.record.Reap.TheVariants.{NoChild, NotYet}
+use Rattle.proc_model.specs.declared.record.SendFault.{SendFault}
+use Rattle.proc_model.specs.declared.record.SendFault.TheVariants.{NoProcess, Pending}
+use Rattle.proc_model.specs.Ends.{ended_child, orphaned, reaped, after_exit, after_reap}
+use Rattle.proc_model.specs.Records.{record_of, record_at, is_waiting, with_record, with_regs, without_record, with_priority}
+use Rattle.proc_model.specs.Signals.{is_reached, wake_signal, with_signal}
 use Rattle.os9_base.specs.declared.name_fault.NameFault.{NameFault}
 use Rattle.os9_base.specs.declared.name_fault.NameFault.TheVariants.{Unreadable, NoName}
 use Rattle.os9_base.specs.UserNames.{name_at, user_cell}
-use Rattle.proc_rules.specs.declared.proc_call.ProcCall.TheVariants as Call
-use Rattle.proc_rules.specs.Attempts.{after_attempt, done_regs, refused_regs, goes_on}
-use Rattle.proc_rules.specs.CallResult.{CallResult, done, refused, waits, needs, refuses, changes, reads_name}
-use Rattle.proc_rules.specs.CmpNam.{f_cmpnam, same_names}
-use Rattle.proc_rules.specs.Crc.{f_crc, crc_continued}
-use Rattle.proc_rules.specs.End.{ended, without_process}
-use Rattle.proc_rules.specs.Processes.{Processes, no_own, own_at, regs_at, user_at, cells_at, with_memory, with_records, with_regs_of, with_own}
-use Rattle.proc_rules.specs.Link.{Mapped, f_link, mapped_group, links_at, after_link}
-use Rattle.proc_rules.specs.Mem.{f_mem, sets_pages, resized, with_size, size_regs}
-use Rattle.proc_rules.specs.ModuleLinks.{Entered, entered_at, found_entry, module_at, still_primary, without_module_link}
-use Rattle.proc_rules.specs.Program.{page_count, most_pages, blocks_of_pages}
-use Rattle.proc_rules.specs.PrsNam.{f_prsnam, parses_name, past_slash, name_regs}
-use Rattle.proc_rules.specs.SPrior.{f_sprior}
-use Rattle.proc_rules.specs.Send.{f_send, is_asleep, after_signal}
-use Rattle.proc_rules.specs.Sleep.{f_sleep, falls_asleep, may_wake, ticks_left}
-use Rattle.proc_rules.specs.UnLink.{f_unlink, after_unlink, without_group_link, with_links_left}
-use Rattle.proc_rules.specs.UnLoad.{f_unload}
-use Rattle.proc_rules.specs.UserBytes.{user_bytes, d_of}
-use Rattle.proc_rules.specs.Wait.{f_wait, reaped_regs}
+use Rattle.proc_model.specs.declared.proc_call.ProcCall.TheVariants as Call
+use Rattle.proc_model.specs.Attempts.{after_attempt, done_regs, refused_regs, goes_on}
+use Rattle.proc_model.specs.CallResult.{CallResult, done, refused, waits, needs, refuses, changes, reads_name}
+use Rattle.proc_model.specs.CmpNam.{f_cmpnam, same_names}
+use Rattle.proc_model.specs.Crc.{f_crc, crc_continued}
+use Rattle.proc_model.specs.End.{ended, without_process}
+use Rattle.proc_model.specs.Processes.{Processes, no_own, own_at, regs_at, user_at, cells_at, with_memory, with_records, with_regs_of, with_own}
+use Rattle.proc_model.specs.Link.{Mapped, f_link, mapped_group, links_at, after_link}
+use Rattle.proc_model.specs.Mem.{f_mem, sets_pages, resized, with_size, size_regs}
+use Rattle.proc_model.specs.ModuleLinks.{Entered, entered_at, found_entry, module_at, still_primary, without_module_link}
+use Rattle.proc_model.specs.Program.{page_count, most_pages, blocks_of_pages}
+use Rattle.proc_model.specs.PrsNam.{f_prsnam, parses_name, past_slash, name_regs}
+use Rattle.proc_model.specs.SPrior.{f_sprior}
+use Rattle.proc_model.specs.Send.{f_send, is_asleep, after_signal}
+use Rattle.proc_model.specs.Sleep.{f_sleep, falls_asleep, may_wake, ticks_left}
+use Rattle.proc_model.specs.UnLink.{f_unlink, after_unlink, without_group_link, with_links_left}
+use Rattle.proc_model.specs.UnLoad.{f_unload}
+use Rattle.proc_model.specs.UserBytes.{user_bytes, d_of}
+use Rattle.proc_model.specs.Wait.{f_wait, reaped_regs}
 use Rattle.machine_model.specs.declared.ends.EventEnd.{EventEnd}
 use Rattle.machine_model.specs.declared.ends.EventEnd.TheVariants.{Ran, Waits, Ended}
 use Rattle.machine_model.specs.ProcessEvent.{call_event_end}

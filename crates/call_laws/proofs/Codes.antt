@@ -1,8 +1,8 @@
 -- The code of the call that a process attempts.
 use Rattle.std.proofs.Common.{◌≡◌, ℕ, Bool, true, false, Option, Some, None, ap}
-use Rattle.proc_rules.specs.Records.{is_waiting, record_at}
-use Rattle.proc_rules.specs.Processes.{Processes, own_at}
-use Rattle.proc_rules.specs.Ready.{attempts, act_of, next_act}
+use Rattle.proc_model.specs.Records.{is_waiting, record_at}
+use Rattle.proc_model.specs.Processes.{Processes, own_at}
+use Rattle.proc_model.specs.Ready.{attempts, act_of, next_act}
 
 -- a process that attempts a call made it
 pub attempts-code : (processes : Processes) (p code : ℕ) → act_of processes p ≡ attempts code → (own_at processes p).call ≡ Some code

@@ -1,9 +1,9 @@
 -- What an attempt of a call on paths leaves of the other processes.
 use Rattle.std.proofs.Common.{ℕ, refl, inl}
 use Rattle.proc_model.specs.MemoryChanges.{stored, writes_from}
-use Rattle.proc_rules.specs.Processes.{Processes}
-use Rattle.io_rules.specs.Attempts.{result_by}
-use Rattle.io_rules.specs.Step.{IoEffect, IoEnd, answers, fails, keeps}
+use Rattle.proc_model.specs.Processes.{Processes}
+use Rattle.io_model.specs.Attempts.{result_by}
+use Rattle.io_model.specs.Step.{IoEffect, IoEnd, answers, fails, keeps}
 use Rattle.machine_model.specs.declared.ends.EventEnd.TheVariants.{Ran, Waits}
 use Rattle.call_laws.proofs.MemoryKept.{itself-written, kept-written}
 use Rattle.call_laws.proofs.OthersKept.{changed-self}

@@ -6,13 +6,13 @@ use Rattle.os9_base.specs.declared.errors.TheConstants.{E_PRCABT}
 use Rattle.os9_base.specs.declared.registers.Regs.{Regs}
 use Rattle.cpu_model.specs.Step.{Outcome, Done, Calls, Aborts, step_of}
 use Rattle.proc_model.specs.MemoryChanges.{written, stored, writes_from}
-use Rattle.proc_rules.specs.declared.record.Intercept.{Intercept}
-use Rattle.proc_rules.specs.declared.record.Record.{Record}
-use Rattle.proc_rules.specs.Records.{record_of, record_at, is_waiting, with_regs}
-use Rattle.proc_rules.specs.Signals.{with_signal}
-use Rattle.proc_rules.specs.Attempts.{goes_on}
-use Rattle.proc_rules.specs.Delivery.{delivered, after_delivery, has_no_room, interrupted_regs, frame_bytes, routine_begun, stack_top, with_frame}
-use Rattle.proc_rules.specs.Processes.{Processes, regs_at, cells_at, with_records}
+use Rattle.proc_model.specs.declared.record.Intercept.{Intercept}
+use Rattle.proc_model.specs.declared.record.Record.{Record}
+use Rattle.proc_model.specs.Records.{record_of, record_at, is_waiting, with_regs}
+use Rattle.proc_model.specs.Signals.{with_signal}
+use Rattle.proc_model.specs.Attempts.{goes_on}
+use Rattle.proc_model.specs.Delivery.{delivered, after_delivery, has_no_room, interrupted_regs, frame_bytes, routine_begun, stack_top, with_frame}
+use Rattle.proc_model.specs.Processes.{Processes, regs_at, cells_at, with_records}
 use Rattle.machine_model.specs.declared.ends.EventEnd.TheVariants.{Ran}
 use Rattle.machine_model.specs.ProcessEvent.{after_instruction, broken_off, delivery_end, instruction_end, next_instruction}
 use Rattle.call_laws.proofs.MemoryKept.{itself-written, kept-written}

@@ -6,14 +6,14 @@ use Rattle.os9_base.specs.declared.errors.TheConstants.{E_BPADDR, E_NEMOD, E_BNA
 use Rattle.proc_model.specs.declared.memory.MemoryFault.{MemoryFault}
 use Rattle.proc_model.specs.Memory.{MemoryState}
 use Rattle.proc_model.specs.MemoryChanges.{started}
-use Rattle.proc_rules.specs.declared.record.Record.{Record}
-use Rattle.proc_rules.specs.Records.{IsLiving, after_make, free_process, new_record, record_at, with_record}
-use Rattle.proc_rules.specs.CallResult.{CallResult, done, refused, waits, ends, needs, refuses, changes}
-use Rattle.proc_rules.specs.Fork.{f_fork, forked_regs, with_child, with_child_record}
-use Rattle.proc_rules.specs.Processes.{Processes, regs_at, cells_at, with_regs_of}
-use Rattle.proc_rules.specs.ModuleLinks.{Entered, found_entry}
-use Rattle.proc_rules.specs.Program.{Program, area_pages, asks_for_program, blocks_of_pages, most_pages, program_kind, is_unreadable, module_name, name_at_x, reads_program}
-use Rattle.proc_rules.specs.UserBytes.{user_bytes}
+use Rattle.proc_model.specs.declared.record.Record.{Record}
+use Rattle.proc_model.specs.Records.{IsLiving, after_make, free_process, new_record, record_at, with_record}
+use Rattle.proc_model.specs.CallResult.{CallResult, done, refused, waits, ends, needs, refuses, changes}
+use Rattle.proc_model.specs.Fork.{f_fork, forked_regs, with_child, with_child_record}
+use Rattle.proc_model.specs.Processes.{Processes, regs_at, cells_at, with_regs_of}
+use Rattle.proc_model.specs.ModuleLinks.{Entered, found_entry}
+use Rattle.proc_model.specs.Program.{Program, area_pages, asks_for_program, blocks_of_pages, most_pages, program_kind, is_unreadable, module_name, name_at_x, reads_program}
+use Rattle.proc_model.specs.UserBytes.{user_bytes}
 use Rattle.call_laws.proofs.OthersKept.{living-within, record-put}
 
 -- the result of F$Fork names the child

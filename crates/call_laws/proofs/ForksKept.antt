@@ -10,19 +10,19 @@ use Rattle.proc_model.specs.Memory.{MemoryState}
 use Rattle.proc_model.specs.MemoryChanges.{linked, started, unlinked}
 use Rattle.proc_model.specs.ModuleList.{ModuleEntry, without_link}
 use Rattle.proc_model.specs.Slots.{NamesBlock}
-use Rattle.proc_rules.specs.declared.own.Own.{Own}
-use Rattle.proc_rules.specs.declared.record.Record.{Record}
-use Rattle.proc_rules.specs.Records.{IsLiving, record_of, record_at, new_record, free_process, after_make, with_record, with_regs}
-use Rattle.proc_rules.specs.declared.proc_call.ProcCall.{ProcCall}
-use Rattle.proc_rules.specs.declared.proc_call.ProcCall.TheVariants as Call
-use Rattle.proc_rules.specs.Attempts.{attempted, done_regs, goes_on}
-use Rattle.proc_rules.specs.CallResult.{CallResult, done, needs, refuses, changes}
-use Rattle.proc_rules.specs.Chain.{f_chain, begun_anew, with_program}
-use Rattle.proc_rules.specs.Fork.{f_fork, with_child, with_child_record, forked_regs}
-use Rattle.proc_rules.specs.Processes.{Processes, no_own, own_at, regs_at, cells_at, with_regs_of}
-use Rattle.proc_rules.specs.ModuleLinks.{Entered, found_entry, without_module_link, without_primary_link}
-use Rattle.proc_rules.specs.Program.{Program, is_unreadable, module_name, name_at_x, asks_for_program, program_kind, area_pages, most_pages, blocks_of_pages, parameters_at, start_regs, start_own, with_parameters, reads_program}
-use Rattle.proc_rules.specs.UserBytes.{user_bytes}
+use Rattle.proc_model.specs.declared.own.Own.{Own}
+use Rattle.proc_model.specs.declared.record.Record.{Record}
+use Rattle.proc_model.specs.Records.{IsLiving, record_of, record_at, new_record, free_process, after_make, with_record, with_regs}
+use Rattle.proc_model.specs.declared.proc_call.ProcCall.{ProcCall}
+use Rattle.proc_model.specs.declared.proc_call.ProcCall.TheVariants as Call
+use Rattle.proc_model.specs.Attempts.{attempted, done_regs, goes_on}
+use Rattle.proc_model.specs.CallResult.{CallResult, done, needs, refuses, changes}
+use Rattle.proc_model.specs.Chain.{f_chain, begun_anew, with_program}
+use Rattle.proc_model.specs.Fork.{f_fork, with_child, with_child_record, forked_regs}
+use Rattle.proc_model.specs.Processes.{Processes, no_own, own_at, regs_at, cells_at, with_regs_of}
+use Rattle.proc_model.specs.ModuleLinks.{Entered, found_entry, without_module_link, without_primary_link}
+use Rattle.proc_model.specs.Program.{Program, is_unreadable, module_name, name_at_x, asks_for_program, program_kind, area_pages, most_pages, blocks_of_pages, parameters_at, start_regs, start_own, with_parameters, reads_program}
+use Rattle.proc_model.specs.UserBytes.{user_bytes}
 use Rattle.machine_model.specs.declared.ends.EventEnd.TheVariants.{Ran}
 use Rattle.call_laws.specs.Others.{AttemptsCall, KeepsOwn, ComesOf}
 use Rattle.call_laws.specs.Links.{ChangesPrimary}

@@ -15,14 +15,14 @@ use Rattle.io_model.specs.declared.path.Target.TheVariants.{Term, Pipe}
 use Rattle.io_model.specs.declared.terminal.Progress.{Progress}
 use Rattle.io_model.specs.declared.terminal.Progress.TheVariants.{Done, Wait, End, Fault, NoMemory}
 use Rattle.io_model.specs.declared.terminal.Reading.{Reading}
-use Rattle.io_rules.specs.Attempts.{Does, io_step}
-use Rattle.io_rules.specs.Codes.{direction_of_call}
-use Rattle.io_rules.specs.Io.{Io, terminal_at, pending_at, new_desc, with_paths, with_pipes}
-use Rattle.io_rules.specs.Step.{Caller, IoEffect, IoEnd, IoStep, refused, comes, reads, writes, TerminalRead, TerminalWrite}
-use Rattle.io_rules.specs.Terminals.{ReadsTerminal, WritesTerminal, request_of, write_ends}
-use Rattle.io_rules.specs.Waiting.{pid}
-use Rattle.io_rules.specs.declared.io_call.Direction.TheVariants.{Writing}
-use Rattle.io_rules.specs.declared.io_call.IoCall.{IoCall}
+use Rattle.io_model.specs.Attempts.{Does, io_step}
+use Rattle.io_model.specs.Codes.{direction_of_call}
+use Rattle.io_model.specs.Io.{Io, terminal_at, pending_at, new_desc, with_paths, with_pipes}
+use Rattle.io_model.specs.Step.{Caller, IoEffect, IoEnd, IoStep, refused, comes, reads, writes, TerminalRead, TerminalWrite}
+use Rattle.io_model.specs.Terminals.{ReadsTerminal, WritesTerminal, request_of, write_ends}
+use Rattle.io_model.specs.Waiting.{pid}
+use Rattle.io_model.specs.declared.io_call.Direction.TheVariants.{Writing}
+use Rattle.io_model.specs.declared.io_call.IoCall.{IoCall}
 use Rattle.call_laws.specs.Terminals.{KeepsReading}
 use Rattle.call_laws.proofs.StepWalk.{StepGives, Walk, step-gives}
 use Rattle.call_laws.proofs.PathsKept.{PathsLeft, left-same, left-begin, left-dup, IoLeft, io-same, io-then, io-paths, io-pipes, io-closed, reading-set}

@@ -12,7 +12,7 @@ use Rattle.proc_model.specs.MemoryChanges.{new_numbers, with_new_objects, grown,
 use Rattle.proc_model.specs.ModuleList.{ModuleEntry, module_entry_at}
 use Rattle.proc_model.specs.Objects.{slot_of, with_object_byte, with_cell, with_writes, zero_object}
 use Rattle.proc_model.specs.Slots.{Slots, no_slots, NamesBlock, is_free_run, highest_free_run, with_low, cut_low_to, with_group, map_without_group, group_slot, filled_places}
-use Rattle.proc_rules.specs.Link.{Mapped, mapped_group}
+use Rattle.proc_model.specs.Link.{Mapped, mapped_group}
 use Rattle.call_laws.specs.Objects.{KeepsSizes, IsNewOrShared, KeepsObjects, KeepsToItself}
 use Rattle.call_laws.specs.Modules.{KeepsModules}
 use Rattle.call_laws.proofs.ModulesKept.{keeps-more, modules-same, more-linked}

@@ -11,17 +11,17 @@ use Rattle.os9_base.specs.declared.registers.Regs.{Regs}
 use Rattle.proc_model.specs.declared.module.ModId.{ModId}
 use Rattle.proc_model.specs.Memory.{MemoryState, map_at}
 use Rattle.proc_model.specs.ModuleList.{ModuleEntry, module_entry_at}
-use Rattle.proc_rules.specs.declared.own.Own.{Own}
-use Rattle.proc_rules.specs.declared.record.Record.{Record}
-use Rattle.proc_rules.specs.declared.turn.Turn.{Turn}
-use Rattle.proc_rules.specs.Ends.{is_child, is_ended_child, ended_child, ended_record, orphaned, after_reap, after_exit}
-use Rattle.proc_rules.specs.Records.{IsLiving, new_record, record_of, record_at, record_passes, has_ended, is_living, with_record, with_regs, without_record, free_process}
-use Rattle.proc_rules.specs.Signals.{is_reached}
-use Rattle.proc_rules.specs.Turns.{with_turn, without_turn}
-use Rattle.proc_rules.specs.declared.proc_call.ProcCall.TheVariants as Call
-use Rattle.proc_rules.specs.Attempts.{goes_on, waiting}
-use Rattle.proc_rules.specs.Processes.{Processes, no_own, own_at, with_own}
-use Rattle.proc_rules.specs.ModuleLinks.{still_primary}
+use Rattle.proc_model.specs.declared.own.Own.{Own}
+use Rattle.proc_model.specs.declared.record.Record.{Record}
+use Rattle.proc_model.specs.declared.turn.Turn.{Turn}
+use Rattle.proc_model.specs.Ends.{is_child, is_ended_child, ended_child, ended_record, orphaned, after_reap, after_exit}
+use Rattle.proc_model.specs.Records.{IsLiving, new_record, record_of, record_at, record_passes, has_ended, is_living, with_record, with_regs, without_record, free_process}
+use Rattle.proc_model.specs.Signals.{is_reached}
+use Rattle.proc_model.specs.Turns.{with_turn, without_turn}
+use Rattle.proc_model.specs.declared.proc_call.ProcCall.TheVariants as Call
+use Rattle.proc_model.specs.Attempts.{goes_on, waiting}
+use Rattle.proc_model.specs.Processes.{Processes, no_own, own_at, with_own}
+use Rattle.proc_model.specs.ModuleLinks.{still_primary}
 use Rattle.machine_model.specs.declared.ends.EventEnd.{EventEnd}
 use Rattle.machine_model.specs.declared.ends.EventEnd.TheVariants.{Ended}
 use Rattle.call_laws.specs.Others.{turns_of_others, AttemptsCall, GetsWake, KeepsRecord, KeepsOwn, Goes, ComesOf}

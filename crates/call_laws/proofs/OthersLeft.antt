@@ -2,12 +2,12 @@
 use Rattle.std.proofs.Common.{ℕ, None, List, length, ap, ◌∙◌}
 use Rattle.std.proofs.lemmas.List.{get_or-set_other}
 use Rattle.os9_outer.specs.TerminalState.{TerminalState}
-use Rattle.proc_rules.specs.CallResult.{CallResult}
-use Rattle.proc_rules.specs.Processes.{Processes}
+use Rattle.proc_model.specs.CallResult.{CallResult}
+use Rattle.proc_model.specs.Processes.{Processes}
 use Rattle.io_model.specs.Path.{numbers_of}
-use Rattle.io_rules.specs.Attempts.{IoAttempts, caller_of, pending_in, step_of}
-use Rattle.io_rules.specs.Io.{Io, pending_at, open_path}
-use Rattle.io_rules.specs.declared.io_call.IoCall.{IoCall}
+use Rattle.io_model.specs.Attempts.{IoAttempts, caller_of, pending_in, step_of}
+use Rattle.io_model.specs.Io.{Io, pending_at, open_path}
+use Rattle.io_model.specs.declared.io_call.IoCall.{IoCall}
 use Rattle.call_laws.specs.PathOthers.{LeavesPaths}
 use Rattle.call_laws.proofs.IoKept.{EffectLeft, does-left, step-left}
 use Rattle.call_laws.proofs.PathsKept.{IoLeft, open-stays}

@@ -18,10 +18,10 @@ use Rattle.io_model.specs.declared.path.SysPath.{SysPath}
 use Rattle.io_model.specs.declared.path.TheConstants.{PROCESS_PATHS}
 use Rattle.io_model.specs.declared.path.Target.{Target}
 use Rattle.io_model.specs.declared.path.Target.TheVariants.{File, Folder, Term, Pipe}
-use Rattle.io_rules.specs.Close.{after_close, without_path, without_target}
-use Rattle.io_rules.specs.Io.{Io, OpenPath, open_path, terminal_at, pending_at, with_call, with_paths, with_pipes, with_terminal}
-use Rattle.io_rules.specs.Processes.{closed_below, closed_if_open, io_ended, without_user}
-use Rattle.io_rules.specs.Waiting.{io_interrupted, pid, wait_target, without_unfinished}
+use Rattle.io_model.specs.Close.{after_close, without_path, without_target}
+use Rattle.io_model.specs.Io.{Io, OpenPath, open_path, terminal_at, pending_at, with_call, with_paths, with_pipes, with_terminal}
+use Rattle.io_model.specs.Processes.{closed_below, closed_if_open, io_ended, without_user}
+use Rattle.io_model.specs.Waiting.{io_interrupted, pid, wait_target, without_unfinished}
 use Rattle.call_laws.specs.Terminals.{KeepsReading}
 
 -- ---- paths

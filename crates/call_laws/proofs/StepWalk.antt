@@ -8,7 +8,7 @@ use Rattle.os9_base.specs.declared.calls.TheConstants.{I_READ, I_READLN, I_WRITE
 use Rattle.os9_base.specs.declared.errors.TheConstants.{E_BPADDR, E_BPNAM, E_BPNUM, E_BMODE, E_PTHFUL, E_NOTRDY, E_UNKSVC}
 use Rattle.os9_base.specs.declared.name_fault.NameFault.{NameFault}
 use Rattle.os9_base.specs.declared.name_fault.NameFault.TheVariants.{Unreadable, NoName}
-use Rattle.proc_rules.specs.UserBytes.{user_bytes}
+use Rattle.proc_model.specs.UserBytes.{user_bytes}
 use Rattle.io_model.specs.Path.{slot_of, free_number, new_number, paths_after_begin, paths_after_dup}
 use Rattle.io_model.specs.Pipe.{free_pipe, pipes_after_begin}
 use Rattle.io_model.specs.declared.pending.PendingCall.{PendingCall}
@@ -18,24 +18,24 @@ use Rattle.io_model.specs.declared.path.Target.{Target}
 use Rattle.io_model.specs.declared.path.Target.TheVariants.{File, Folder, Term, Pipe}
 use Rattle.io_model.specs.declared.terminal.ReadKind.{ReadKind}
 use Rattle.io_model.specs.declared.terminal.ReadKind.TheVariants.{Bytes, WholeLine}
-use Rattle.io_rules.specs.Attempts.{io_step}
-use Rattle.io_rules.specs.Close.{after_close}
-use Rattle.io_rules.specs.Codes.{direction_of_call}
-use Rattle.io_rules.specs.Io.{Io, OpenPath, pending_at, new_desc, open_path, with_paths, with_pipes}
-use Rattle.io_rules.specs.Lead.{Lead, Search, to_terminal, to_pipe, nowhere, what_is_there, a_new_place, lead_by_device, lead_of, makes_dots, on_device, on_drive}
-use Rattle.io_rules.specs.Modes.{can_read, can_write, is_mode}
-use Rattle.io_rules.specs.Open.{begins, opened_regs, opens_lead, reads_list}
-use Rattle.io_rules.specs.PathList.{PathList, has_slash_behind_device, path_list}
-use Rattle.io_rules.specs.Read.{reads_target}
-use Rattle.io_rules.specs.Status.{gets_end, gets_options, gets_ready, gets_status, options, ready_count}
-use Rattle.io_rules.specs.Step.{Caller, IoStep, answers, refused, comes, reads, writes, needs, refuses, done, stores}
-use Rattle.io_rules.specs.Transfer.{call_now, on_path, unless_nothing}
-use Rattle.io_rules.specs.Write.{Sending, f_perr, line_bytes, sends_on, sent_bytes, sent_error, sent_line, writes_target}
-use Rattle.io_rules.specs.declared.io_call.Direction.TheVariants.{Reading, Writing}
-use Rattle.io_rules.specs.declared.io_call.IoCall.{IoCall}
-use Rattle.io_rules.specs.declared.io_call.IoCall.TheVariants as Call
-use Rattle.io_rules.specs.declared.modes.TheConstants.{STANDARD_ERROR}
-use Rattle.io_rules.specs.declared.status.TheConstants.{SS_OPT, SS_READY, SS_EOF, OPTION_BYTES}
+use Rattle.io_model.specs.Attempts.{io_step}
+use Rattle.io_model.specs.Close.{after_close}
+use Rattle.io_model.specs.Codes.{direction_of_call}
+use Rattle.io_model.specs.Io.{Io, OpenPath, pending_at, new_desc, open_path, with_paths, with_pipes}
+use Rattle.io_model.specs.Lead.{Lead, Search, to_terminal, to_pipe, nowhere, what_is_there, a_new_place, lead_by_device, lead_of, makes_dots, on_device, on_drive}
+use Rattle.io_model.specs.Modes.{can_read, can_write, is_mode}
+use Rattle.io_model.specs.Open.{begins, opened_regs, opens_lead, reads_list}
+use Rattle.io_model.specs.PathList.{PathList, has_slash_behind_device, path_list}
+use Rattle.io_model.specs.Read.{reads_target}
+use Rattle.io_model.specs.Status.{gets_end, gets_options, gets_ready, gets_status, options, ready_count}
+use Rattle.io_model.specs.Step.{Caller, IoStep, answers, refused, comes, reads, writes, needs, refuses, done, stores}
+use Rattle.io_model.specs.Transfer.{call_now, on_path, unless_nothing}
+use Rattle.io_model.specs.Write.{Sending, f_perr, line_bytes, sends_on, sent_bytes, sent_error, sent_line, writes_target}
+use Rattle.io_model.specs.declared.io_call.Direction.TheVariants.{Reading, Writing}
+use Rattle.io_model.specs.declared.io_call.IoCall.{IoCall}
+use Rattle.io_model.specs.declared.io_call.IoCall.TheVariants as Call
+use Rattle.io_model.specs.declared.modes.TheConstants.{STANDARD_ERROR}
+use Rattle.io_model.specs.declared.status.TheConstants.{SS_OPT, SS_READY, SS_EOF, OPTION_BYTES}
 
 -- ---- where a path list leads
 

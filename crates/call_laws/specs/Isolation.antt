@@ -1,8 +1,8 @@
 -- What an instruction, a call on processes and modules or the delivery of a signal leaves unchanged of what is not its
 -- own.
 use Rattle.std.specs.Prelude.{◌≡◌, ◌≢◌, ℕ}
-use Rattle.proc_rules.specs.Records.{record_of}
-use Rattle.proc_rules.specs.Processes.{Processes}
+use Rattle.proc_model.specs.Records.{record_of}
+use Rattle.proc_model.specs.Processes.{Processes}
 use Rattle.machine_model.specs.declared.ends.EventEnd.{EventEnd}
 use Rattle.call_laws.specs.NewObjects.{HoldNothingElse}
 use Rattle.call_laws.specs.Objects.{KeepsSizes, KeepsObjects, KeepsToItself}

@@ -7,3 +7,9 @@ pub mod Others
 pub mod Pending
 pub mod PathOthers
 pub mod Terminals
+pub mod Running
+pub mod CallCauses
+pub mod Causes
+pub mod RefusedCodes
+pub mod RefusedEvents
+pub mod Refusals

@@ -1,9 +1,9 @@
 -- The contents of the objects that appear in an event of a process (System Programmer's Manual, F$Fork and F$Chain).
 use Rattle.std.specs.Prelude.{◌≡◌, ◌⊎◌, ℕ, ◌≤◌, Some, List, length, slice_get}
 use Rattle.proc_model.specs.Memory.{MemoryState}
-use Rattle.proc_rules.specs.declared.proc_call.ProcCall.TheVariants as Call
-use Rattle.proc_rules.specs.Processes.{Processes, cells_at, regs_at}
-use Rattle.proc_rules.specs.UserBytes.{user_bytes}
+use Rattle.proc_model.specs.declared.proc_call.ProcCall.TheVariants as Call
+use Rattle.proc_model.specs.Processes.{Processes, cells_at, regs_at}
+use Rattle.proc_model.specs.UserBytes.{user_bytes}
 use Rattle.call_laws.specs.Others.{AttemptsCall}
 
 -- a byte is one of the parameters that a process gives the program that it starts: the Y bytes at U

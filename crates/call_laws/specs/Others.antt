@@ -5,20 +5,20 @@ use Rattle.std.specs.Prelude.{◌==◌, ◌&&◌, not, is_some, ◌≡◌, ◌�
 use Rattle.proc_model.specs.Memory.{MemoryState, map_at}
 use Rattle.proc_model.specs.ModuleList.{module_entry_at}
 use Rattle.proc_model.specs.Slots.{NamesBlock}
-use Rattle.proc_rules.specs.declared.own.Own.{Own}
-use Rattle.proc_rules.specs.declared.record.Life.TheVariants.{Running}
-use Rattle.proc_rules.specs.declared.record.Record.{Record}
-use Rattle.proc_rules.specs.Records.{record_of, record_at, has_ended, free_process}
-use Rattle.proc_rules.specs.Signals.{is_reached, wake_signal}
-use Rattle.proc_rules.specs.declared.turn.Turn.{Turn}
-use Rattle.proc_rules.specs.declared.proc_call.ProcCall.{ProcCall}
-use Rattle.proc_rules.specs.Codes.{call_of}
-use Rattle.proc_rules.specs.Processes.{Processes, own_at, regs_at, user_at}
-use Rattle.proc_rules.specs.Ready.{attempts, act_of}
-use Rattle.proc_rules.specs.Send.{is_asleep}
+use Rattle.proc_model.specs.declared.own.Own.{Own}
+use Rattle.proc_model.specs.declared.record.Life.TheVariants.{Running}
+use Rattle.proc_model.specs.declared.record.Record.{Record}
+use Rattle.proc_model.specs.Records.{record_of, record_at, has_ended, free_process}
+use Rattle.proc_model.specs.Signals.{is_reached, wake_signal}
+use Rattle.proc_model.specs.declared.turn.Turn.{Turn}
+use Rattle.proc_model.specs.declared.proc_call.ProcCall.{ProcCall}
+use Rattle.proc_model.specs.Codes.{call_of}
+use Rattle.proc_model.specs.Processes.{Processes, own_at, regs_at, user_at}
+use Rattle.proc_model.specs.Ready.{attempts, act_of}
+use Rattle.proc_model.specs.Send.{is_asleep}
 use Rattle.machine_model.specs.declared.ends.EventEnd.{EventEnd}
 use Rattle.machine_model.specs.declared.ends.EventEnd.TheVariants.{Ended}
-use Rattle.proc_rules.specs.declared.proc_call.ProcCall.TheVariants as Call
+use Rattle.proc_model.specs.declared.proc_call.ProcCall.TheVariants as Call
 use Rattle.call_laws.specs.Objects.{IsNewOrShared}
 
 -- ---- what the process does

@@ -1,7 +1,7 @@
 -- What an attempt of a call leaves of the input and output of the others (Level Two manual, "I/O system").
 use Rattle.std.specs.Prelude.{◌≡◌, ◌≢◌, ℕ, Some}
 use Rattle.io_model.specs.Path.{numbers_of}
-use Rattle.io_rules.specs.Io.{Io, OpenPath, pending_at, open_path}
+use Rattle.io_model.specs.Io.{Io, OpenPath, pending_at, open_path}
 
 -- every other process keeps its path numbers, the paths that they name, and its pending call
 pub record LeavesPaths (p : ℕ) (old new : Io) : Type 0 where

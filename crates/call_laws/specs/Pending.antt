@@ -2,15 +2,15 @@
 use Rattle.std.specs.Prelude.{◌≡◌, ℕ, true, Some, IsSome, IsSomeAnd}
 use Rattle.os9_base.specs.Cells.{Cells, FitsIn}
 use Rattle.os9_base.specs.declared.registers.Regs.{Regs}
-use Rattle.proc_rules.specs.Records.{IsLiving, record_at, is_waiting}
-use Rattle.proc_rules.specs.Processes.{Processes, own_at, regs_at, cells_at}
+use Rattle.proc_model.specs.Records.{IsLiving, record_at, is_waiting}
+use Rattle.proc_model.specs.Processes.{Processes, own_at, regs_at, cells_at}
 use Rattle.io_model.specs.declared.pending.PendingCall.{PendingCall}
-use Rattle.io_rules.specs.Again.{IsPending}
-use Rattle.io_rules.specs.Codes.{io_call_of, direction_of_call}
-use Rattle.io_rules.specs.Io.{Io, pending_at, open_path}
-use Rattle.io_rules.specs.Modes.{can_read}
-use Rattle.io_rules.specs.declared.io_call.Direction.TheVariants.{Reading}
-use Rattle.io_rules.specs.declared.io_call.IoCall.{IoCall}
+use Rattle.io_model.specs.Again.{IsPending}
+use Rattle.io_model.specs.Codes.{io_call_of, direction_of_call}
+use Rattle.io_model.specs.Io.{Io, pending_at, open_path}
+use Rattle.io_model.specs.Modes.{can_read}
+use Rattle.io_model.specs.declared.io_call.Direction.TheVariants.{Reading}
+use Rattle.io_model.specs.declared.io_call.IoCall.{IoCall}
 
 -- a read is not refused: its buffer is named, and its path may be read
 pub record StaysRead (cells : Cells) (regs : Regs) (io : Io) (p : ℕ) : Type 0 where

@@ -1,12 +1,12 @@
 //! One attempt of a call on terminals, pipes and paths.
 
 ghost use Rattle.std.specs.Prelude.{◌≡◌, ◌≢◌, ℕ, List};
-ghost use Rattle.proc_rules.specs.CallResult.{CallResult};
-ghost use Rattle.proc_rules.specs.Processes.{Processes};
+ghost use Rattle.proc_model.specs.CallResult.{CallResult};
+ghost use Rattle.proc_model.specs.Processes.{Processes};
 ghost use Rattle.call_laws.specs.PathOthers.{LeavesPaths};
-ghost use Rattle.io_rules.specs.Attempts.{IoAttempts};
-ghost use Rattle.io_rules.specs.declared.io_call.IoCall.{IoCall};
-ghost use Rattle.io_rules.specs.Io.{Io};
+ghost use Rattle.io_model.specs.Attempts.{IoAttempts};
+ghost use Rattle.io_model.specs.declared.io_call.IoCall.{IoCall};
+ghost use Rattle.io_model.specs.Io.{Io};
 ghost use Rattle.os9_outer.specs.TerminalState.{TerminalState};
 
 /// An attempt of a call on a terminal or a pipe leaves the path numbers of every other process, the

@@ -3,11 +3,11 @@
 ghost use Rattle.std.specs.Prelude.{ℕ};
 ghost use Rattle.call_laws.specs.Isolation.{LeavesOthers};
 ghost use Rattle.call_laws.specs.Others.{AttemptsCall};
-ghost use Rattle.proc_rules.specs.Attempts.{after_attempt, attempted};
-ghost use Rattle.proc_rules.specs.declared.proc_call.ProcCall.{ProcCall};
-ghost use Rattle.proc_rules.specs.Processes.{Processes};
+ghost use Rattle.proc_model.specs.Attempts.{after_attempt, attempted};
+ghost use Rattle.proc_model.specs.declared.proc_call.ProcCall.{ProcCall};
+ghost use Rattle.proc_model.specs.Processes.{Processes};
 ghost use Rattle.machine_model.specs.ProcessEvent.{call_event_end};
-ghost use Rattle.proc_rules.specs.Records.{IsLiving};
+ghost use Rattle.proc_model.specs.Records.{IsLiving};
 
 /// An attempt of a call on processes and modules leaves unchanged the bytes of each object outside
 /// the map of the process, and every other process except what the call changes of it.

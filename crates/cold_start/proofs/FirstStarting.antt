@@ -13,9 +13,9 @@ use Rattle.proc_model.specs.declared.memory.MemoryFault.TheVariants.{MemFull}
 use Rattle.proc_model.specs.Memory.{MemoryState}
 use Rattle.proc_model.specs.MemoryChanges.{linked, started, started_with, has_most_links}
 use Rattle.proc_model.specs.ModuleList.{ModuleEntry, module_entry_at}
-use Rattle.proc_rules.specs.CallResult.{CallResult, done, refused, refuses, changes}
-use Rattle.proc_rules.specs.Processes.{Processes, with_memory, with_own, with_regs_of}
-use Rattle.proc_rules.specs.Program.{Program, area_pages, blocks_of_pages, most_pages, start_own, start_regs}
+use Rattle.proc_model.specs.CallResult.{CallResult, done, refused, refuses, changes}
+use Rattle.proc_model.specs.Processes.{Processes, with_memory, with_own, with_regs_of}
+use Rattle.proc_model.specs.Program.{Program, area_pages, blocks_of_pages, most_pages, start_own, start_regs}
 use Rattle.fork_calls.specs.declared.starting.Beginning.{Beginning}
 use Rattle.fork_calls.specs.Loading.{loads_program}
 use Rattle.proc_state.specs.declared.state.ProcState.{ProcState}

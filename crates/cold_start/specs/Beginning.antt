@@ -3,7 +3,7 @@ use Rattle.std.specs.Prelude.{◌≡◌, ℕ, Option, Result, Ok, Err, IsErr, Li
 use Rattle.proc_model.specs.declared.memory.MemoryFault.{MemoryFault}
 use Rattle.proc_model.specs.Memory.{MemoryState}
 use Rattle.proc_model.specs.ModuleList.{ModuleEntry}
-use Rattle.proc_rules.specs.Processes.{Processes, with_memory, with_own, with_regs_of}
+use Rattle.proc_model.specs.Processes.{Processes, with_memory, with_own, with_regs_of}
 use Rattle.machine_model.specs.ProcessStart.{HasFirst, boot_memory, first_priority, first_process, first_start, no_parent, only_process, superuser}
 use Rattle.proc_state.specs.declared.state.ProcState.{ProcState}
 use Rattle.proc_state.specs.Beginning.{with_made}

@@ -6,7 +6,7 @@ ghost use Rattle.guest_memory.specs.Tie.{modules_of};
 ghost use Rattle.proc_model.specs.Memory.{MemoryState};
 ghost use Rattle.proc_model.specs.MemoryChanges.{started};
 ghost use Rattle.proc_model.specs.ModuleList.{ModuleEntry, module_entry_at};
-ghost use Rattle.proc_rules.specs.Program.{area_pages as area_pages_model, blocks_of_pages};
+ghost use Rattle.proc_model.specs.Program.{area_pages as area_pages_model, blocks_of_pages};
 ghost use Rattle.machine_model.specs.ProcessStart.{first_process, first_program as first_program_model};
 ghost use Rattle.proc_state.specs.Tie.{Represents};
 ghost use Rattle.cold_start.specs.Beginning.{HasNobody, Begins, nobody_in, with_first};

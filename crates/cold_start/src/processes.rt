@@ -5,7 +5,7 @@ ghost use Rattle.guest_memory.specs.Tie.{modules_of};
 ghost use Rattle.machine_model.specs.declared.ends.BootFault.{BootFault};
 ghost use Rattle.proc_model.specs.ModuleList.{module_entry_at};
 ghost use Rattle.machine_model.specs.ProcessStart.{StartsProcesses, Refuses};
-ghost use Rattle.proc_rules.specs.Processes.{Processes};
+ghost use Rattle.proc_model.specs.Processes.{Processes};
 ghost use Rattle.proc_state.specs.First.{first_processes};
 ghost use Rattle.proc_state.specs.Tie.{Represents};
 ghost use Rattle.cold_start.specs.Beginning.{HasFirstIn};

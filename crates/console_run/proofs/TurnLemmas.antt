@@ -11,7 +11,7 @@ use Rattle.boot_run.specs.Loaded.{keys_for}
 use Rattle.script_text.specs.declared.script.ScriptKey.{ScriptKey}
 use Rattle.device_table.proofs.StreamLemmas.{appended-twice, appended-nothing}
 use Rattle.file_drives.specs.Drives.{DriveView}
-use Rattle.proc_rules.specs.Processes.{Processes}
+use Rattle.proc_model.specs.Processes.{Processes}
 use Rattle.machine_model.specs.Console.{console_bytes, terminals_emptied}
 use Rattle.machine_model.specs.Living.{living_count}
 use Rattle.machine_model.specs.declared.ends.SliceEnd.{SliceEnd}

@@ -6,15 +6,15 @@ use Rattle.os9_base.specs.declared.registers.Pid.{Pid}
 use Rattle.os9_base.specs.declared.registers.TimePacket.{TimePacket}
 use Rattle.os9_outer.specs.Stream.{stream_with}
 use Rattle.os9_outer.specs.TerminalState.{TerminalState, ChangesOneTerminal}
-use Rattle.proc_rules.specs.CallResult.{CallResult}
+use Rattle.proc_model.specs.CallResult.{CallResult}
 use Rattle.io_model.specs.Terminal.{BreaksOff as BreaksOffRead, IsCutShort, Reads, Terminal, Writes}
 use Rattle.io_model.specs.declared.terminal.Progress.TheVariants.{NoMemory}
 use Rattle.io_model.specs.declared.terminal.Reading.{Reading}
-use Rattle.io_rules.specs.Attempts.{caller_of}
-use Rattle.io_rules.specs.Io.{Io, terminal_at}
-use Rattle.io_rules.specs.Memory.{WantsMemory}
-use Rattle.io_rules.specs.Step.{Caller, IoStep, refused, comes, reads, writes}
-use Rattle.io_rules.specs.Terminals.{request_of}
+use Rattle.io_model.specs.Attempts.{caller_of}
+use Rattle.io_model.specs.Io.{Io, terminal_at}
+use Rattle.io_model.specs.Memory.{WantsMemory}
+use Rattle.io_model.specs.Step.{Caller, IoStep, refused, comes, reads, writes}
+use Rattle.io_model.specs.Terminals.{request_of}
 use Rattle.machine_model.specs.Terminals.{OnlyGains, TerminalsOnlyGain}
 use Rattle.machine_model.proofs.TerminalLaws.{gain-attempt, gain-same}
 use Rattle.file_rules.specs.Attempts.{FileAttempts}

@@ -5,16 +5,16 @@ use Rattle.std.proofs.lemmas.Bool.{cases_eq, false≢true}
 use Rattle.std.proofs.lemmas.List.{get_or-set_same, get_or-set_other}
 use Rattle.os9_base.specs.declared.registers.Pid.{Pid}
 use Rattle.os9_base.specs.declared.registers.Regs.{Regs}
-use Rattle.proc_rules.specs.declared.record.Record.{Record}
-use Rattle.proc_rules.specs.Records.{IsLiving, has_ended, is_living, new_record, record_at, record_of, record_passes}
-use Rattle.proc_rules.specs.Signals.{after_send, is_reached, send_fault, wake_signal, with_sent, with_signal}
-use Rattle.proc_rules.specs.Processes.{Processes}
+use Rattle.proc_model.specs.declared.record.Record.{Record}
+use Rattle.proc_model.specs.Records.{IsLiving, has_ended, is_living, new_record, record_at, record_of, record_passes}
+use Rattle.proc_model.specs.Signals.{after_send, is_reached, send_fault, wake_signal, with_sent, with_signal}
+use Rattle.proc_model.specs.Processes.{Processes}
 use Rattle.call_laws.proofs.OthersKept.{living-record, living-within}
-use Rattle.io_rules.specs.Arrivals.{ArrivesFrom, Desk, after_key_signal, every_user}
+use Rattle.io_model.specs.Arrivals.{ArrivesFrom, Desk, after_key_signal, every_user}
 use Rattle.machine_model.specs.Console.{terminals_emptied}
 use Rattle.machine_model.specs.Run.{Choose, Tick, desk_of}
 use Rattle.machine_model.specs.State.{State}
-use Rattle.wait_laws.proofs.RunningLaws.{tick-leaves}
+use Rattle.call_laws.proofs.RunningLaws.{tick-leaves}
 use Rattle.os9_kernel.specs.View.{living_regs}
 use Rattle.debug_run.specs.Position.{LooksAlike}
 

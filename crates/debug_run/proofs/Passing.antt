@@ -1,7 +1,7 @@
 -- Turns of the chosen process are events of the course.
 use Rattle.std.proofs.Common.{◌≡◌, ◌⊎◌, ℕ, zero, suc, ◌+◌, ◌-◌, ◌<◌, ◌≤◌, List, [], ◌∷◌, ◌++◌, length, refl, sym, ap, ◌∙◌, subst, inl, inr, arith}
 use Rattle.machine_model.specs.declared.ends.EventEnd.{EventEnd}
-use Rattle.proc_rules.specs.Ready.{Act, attempts, delivers, executes, act_of}
+use Rattle.proc_model.specs.Ready.{Act, attempts, delivers, executes, act_of}
 use Rattle.machine_model.specs.Devices.{OnlyGain}
 use Rattle.machine_model.specs.Event.{Acts, Event, cost}
 use Rattle.machine_model.specs.State.{State}

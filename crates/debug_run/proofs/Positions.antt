@@ -6,7 +6,7 @@ use Rattle.std.proofs.lemmas.List.{drop_all}
 use Rattle.std.proofs.lemmas.Option.{none-some, same_Some}
 use Rattle.os9_base.specs.declared.call.OutOfMemory.{OutOfMemory}
 use Rattle.os9_base.specs.declared.limits.TheConstants.{LAST_TICK, PROCESS_PLACES}
-use Rattle.proc_rules.specs.Records.{IsLiving}
+use Rattle.proc_model.specs.Records.{IsLiving}
 use Rattle.os9_base.specs.declared.registers.Pid.{Pid}
 use Rattle.machine_model.specs.Console.{terminals_emptied}
 use Rattle.machine_model.specs.Living.{living_count}
@@ -33,7 +33,7 @@ use Rattle.debug_run.specs.Show.{shown, shown_cells, shown_regs}
 use Rattle.os9_base.specs.declared.registers.Regs.{Regs}
 use Rattle.proc_model.specs.Memory.{MemoryState, map_at}
 use Rattle.proc_model.specs.Objects.{object_cells}
-use Rattle.proc_rules.specs.Processes.{cells_at}
+use Rattle.proc_model.specs.Processes.{cells_at}
 use Rattle.os9_base.specs.UserNames.{user_cell}
 use Rattle.os9_kernel.specs.View.{living_regs}
 use Rattle.debug_run.specs.Devices.{DevicesGain, Unfailed}

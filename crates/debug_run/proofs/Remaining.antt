@@ -3,7 +3,7 @@ use Rattle.std.proofs.Common.{◌≡◌, ◌⊎◌, ℕ, ◌+◌, ◌-◌, ◌<�
 use Rattle.std.specs.Prelude.{MatchBool, MatchOption, option_map}
 use Rattle.std.proofs.lemmas.Option.{none-some}
 use Rattle.os9_base.specs.declared.registers.Pid.{Pid}
-use Rattle.proc_rules.specs.Choice.{choice_of, after_choice}
+use Rattle.proc_model.specs.Choice.{choice_of, after_choice}
 use Rattle.file_rules.specs.Locking.{files_may_go}
 use Rattle.machine_model.specs.Console.{console_bytes, terminals_emptied}
 use Rattle.machine_model.specs.declared.ends.EventEnd.{EventEnd}

@@ -4,8 +4,8 @@ use Rattle.std.specs.Prelude.{ℕ, ◌%◌, codes, decimal, Option, Some, None, 
 use Rattle.std.specs.List.{range_with_len}
 use Rattle.os9_base.specs.Cells.{Cells}
 use Rattle.os9_base.specs.declared.registers.Regs.{Regs}
-use Rattle.proc_rules.specs.Records.{is_living}
-use Rattle.proc_rules.specs.Processes.{cells_at, regs_at}
+use Rattle.proc_model.specs.Records.{is_living}
+use Rattle.proc_model.specs.Processes.{cells_at, regs_at}
 use Rattle.machine_model.specs.ProcessStart.{first_process}
 use Rattle.machine_model.specs.State.{State}
 use Rattle.asm_model.specs.Numbers.{two_digits, four_digits}

@@ -3,19 +3,19 @@ use Rattle.std.proofs.Common.{◌≡◌, ◌∙◌, ℕ, Option, Some, List, ap,
 use Rattle.os9_base.specs.declared.call.CallEnd.{CallEnd}
 use Rattle.os9_base.specs.declared.registers.Regs.{Regs}
 use Rattle.os9_outer.specs.TerminalState.{TerminalState, ChangesOneTerminal}
-use Rattle.proc_rules.specs.Processes.{Processes, regs_at}
+use Rattle.proc_model.specs.Processes.{Processes, regs_at}
 use Rattle.io_model.specs.Terminal.{Reads, stored_bytes}
 use Rattle.io_model.specs.declared.pending.PendingCall.{PendingCall}
 use Rattle.io_model.specs.declared.terminal.Progress.{Progress}
 use Rattle.io_model.specs.declared.terminal.Progress.TheVariants.{Done, Wait, End, Fault, NoMemory}
-use Rattle.io_rules.specs.Attempts.{caller_of, pending_in, result_by}
-use Rattle.io_rules.specs.Io.{Io, terminal_at, with_call, with_terminal}
-use Rattle.io_rules.specs.Step.{IoEnd, TerminalRead, reads, stores}
-use Rattle.io_rules.specs.Terminals.{read_ends, read_leaves, request_of}
+use Rattle.io_model.specs.Attempts.{caller_of, pending_in, result_by}
+use Rattle.io_model.specs.Io.{Io, terminal_at, with_call, with_terminal}
+use Rattle.io_model.specs.Step.{IoEnd, TerminalRead, reads, stores}
+use Rattle.io_model.specs.Terminals.{read_ends, read_leaves, request_of}
 use Rattle.io_state.specs.Terminals.{pending_after}
 use Rattle.proc_state.specs.Tie.{Comes}
 use Rattle.proc_state.specs.declared.state.ProcState.{ProcState}
-use Rattle.io_rules.specs.Memory.{WantsMemory}
+use Rattle.io_model.specs.Memory.{WantsMemory}
 use Rattle.device_io.specs.Trying.{EndsBy, Tries}
 use Rattle.device_io.proofs.TryingLemmas.{never-wants, tries-takes}
 

@@ -2,11 +2,11 @@
 use Rattle.std.proofs.Common.{◌≡◌, ◌∙◌, ◌+◌, ℕ, zero, suc, List, length, map, refl, sym, subst, arith}
 use Rattle.std.proofs.lemmas.List.{length-map}
 use Rattle.os9_outer.specs.TerminalState.{TerminalState}
-use Rattle.io_rules.specs.Arrivals.{ArrivesAt, ArrivesFrom, Desk}
-use Rattle.io_rules.specs.Io.{Io}
+use Rattle.io_model.specs.Arrivals.{ArrivesAt, ArrivesFrom, Desk}
+use Rattle.io_model.specs.Io.{Io}
 use Rattle.device_io.specs.Keys.{KeysArrive, KeysArriveAt, KeysBreak, KeysBreakAt, PollBreaks, desk}
 use Rattle.proc_state.specs.declared.state.ProcState.{ProcState}
-use Rattle.proc_rules.specs.Processes.{Processes}
+use Rattle.proc_model.specs.Processes.{Processes}
 use Rattle.proc_state.specs.Tie.{Represents}
 
 -- the keys of `count` terminals from this one on arrived

@@ -4,21 +4,21 @@ use Rattle.os9_base.specs.Cells.{Cells, FitsIn}
 use Rattle.os9_base.specs.declared.call.CallEnd.{CallEnd}
 use Rattle.os9_base.specs.declared.registers.Regs.{Regs}
 use Rattle.proc_model.specs.MemoryChanges.{stored}
-use Rattle.proc_rules.specs.Processes.{Processes, regs_at, with_memory, with_regs_of}
+use Rattle.proc_model.specs.Processes.{Processes, regs_at, with_memory, with_regs_of}
 use Rattle.io_model.specs.Pending.{count_left, moved_on}
 use Rattle.io_model.specs.Path.{PathTable}
 use Rattle.io_model.specs.Pipe.{moved_count, read_answer, read_line_answer, bytes_moved}
 use Rattle.io_model.specs.declared.pending.PendingCall.{PendingCall}
 use Rattle.io_model.specs.declared.pipe.PipeAns.{PipeAns}
 use Rattle.io_model.specs.declared.terminal.ReadKind.TheVariants.{Bytes, WholeLine}
-use Rattle.io_rules.specs.Alone.{is_alone}
-use Rattle.io_rules.specs.Attempts.{caller_of}
-use Rattle.io_rules.specs.Codes.{direction_of}
-use Rattle.io_rules.specs.Io.{Io, pipe_bytes, with_call}
-use Rattle.io_rules.specs.Pipes.{count_regs, after_taking, read_end, read_leaves, reads_pipe, read_line_end, read_line_leaves, reads_pipe_line}
-use Rattle.io_rules.specs.Read.{pipe_read}
-use Rattle.io_rules.specs.Step.{Caller, stores, answers, fails, keeps}
-use Rattle.io_rules.specs.declared.io_call.Direction.TheVariants.{Reading}
+use Rattle.io_model.specs.Alone.{is_alone}
+use Rattle.io_model.specs.Attempts.{caller_of}
+use Rattle.io_model.specs.Codes.{direction_of}
+use Rattle.io_model.specs.Io.{Io, pipe_bytes, with_call}
+use Rattle.io_model.specs.Pipes.{count_regs, after_taking, read_end, read_leaves, reads_pipe, read_line_end, read_line_leaves, reads_pipe_line}
+use Rattle.io_model.specs.Read.{pipe_read}
+use Rattle.io_model.specs.Step.{Caller, stores, answers, fails, keeps}
+use Rattle.io_model.specs.declared.io_call.Direction.TheVariants.{Reading}
 use Rattle.io_state.specs.Sound.{MayWait, SetsStatus}
 use Rattle.proc_state.specs.Tie.{Represents}
 use Rattle.proc_state.specs.declared.state.ProcState.{ProcState}

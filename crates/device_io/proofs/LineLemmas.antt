@@ -10,16 +10,16 @@ use Rattle.os9_base.specs.Cells.{Cells}
 use Rattle.os9_base.specs.declared.registers.Regs.{Regs}
 use Rattle.os9_base.specs.UserLines as User
 use Rattle.os9_base.specs.UserNames.{user_cell}
-use Rattle.proc_rules.specs.UserBytes.{byte_before, user_bytes}
+use Rattle.proc_model.specs.UserBytes.{byte_before, user_bytes}
 use Rattle.io_model.specs.Line.{line_length, return_place}
 use Rattle.io_model.specs.declared.keys.TheConstants.{RETURN}
 use Rattle.io_model.specs.declared.pending.PendingCall.{PendingCall}
-use Rattle.io_rules.specs.Again.{IsPending}
-use Rattle.io_rules.specs.Io.{Io}
-use Rattle.io_rules.specs.Step.{Caller}
-use Rattle.io_rules.specs.Transfer.{line_at, line_with}
-use Rattle.io_rules.specs.Write.{digit, error_line, line_bytes}
-use Rattle.io_rules.specs.declared.io_call.IoCall.TheVariants as Call
+use Rattle.io_model.specs.Again.{IsPending}
+use Rattle.io_model.specs.Io.{Io}
+use Rattle.io_model.specs.Step.{Caller}
+use Rattle.io_model.specs.Transfer.{line_at, line_with}
+use Rattle.io_model.specs.Write.{digit, error_line, line_bytes}
+use Rattle.io_model.specs.declared.io_call.IoCall.TheVariants as Call
 
 pub user-length : (cells : Cells) (at count : ℕ) (bytes : List ℕ) → user_bytes cells at count ≡ Some bytes → length bytes ≡ count
 user-length cells at zero bytes is = ap (length {A = ℕ}) (sym (same_Some [] bytes is))

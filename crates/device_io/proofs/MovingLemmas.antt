@@ -5,7 +5,7 @@ use Rattle.std.proofs.lemmas.Bool.{false≢true}
 use Rattle.os9_base.specs.Cells.{Cells}
 use Rattle.os9_base.specs.declared.registers.Regs.{Regs}
 use Rattle.guest_memory.specs.Tie.{cells_of}
-use Rattle.proc_rules.specs.Processes.{Processes, regs_at}
+use Rattle.proc_model.specs.Processes.{Processes, regs_at}
 use Rattle.io_model.specs.Path.{slot_of, desc_of}
 use Rattle.io_model.specs.declared.pending.PendingCall.{PendingCall}
 use Rattle.io_model.specs.declared.path.Desc.{Desc}
@@ -13,19 +13,19 @@ use Rattle.io_model.specs.declared.path.SysPath.{SysPath}
 use Rattle.io_model.specs.declared.path.Target.{Target}
 use Rattle.io_model.specs.declared.terminal.ReadKind.{ReadKind}
 use Rattle.io_model.specs.declared.terminal.ReadKind.TheVariants.{Bytes, WholeLine}
-use Rattle.io_rules.specs.Codes.{direction_of}
-use Rattle.io_rules.specs.Io.{Io, OpenPath, open_path, pending_at}
-use Rattle.io_rules.specs.Transfer.{first_call}
-use Rattle.io_rules.specs.declared.io_call.Direction.{Direction}
-use Rattle.io_rules.specs.declared.io_call.Direction.TheVariants as Way
-use Rattle.io_rules.specs.declared.io_call.IoCall.{IoCall}
-use Rattle.io_rules.specs.Again.{IsAgain, IsPending, KeepsCount, path_number}
+use Rattle.io_model.specs.Codes.{direction_of}
+use Rattle.io_model.specs.Io.{Io, OpenPath, open_path, pending_at}
+use Rattle.io_model.specs.Transfer.{first_call}
+use Rattle.io_model.specs.declared.io_call.Direction.{Direction}
+use Rattle.io_model.specs.declared.io_call.Direction.TheVariants as Way
+use Rattle.io_model.specs.declared.io_call.IoCall.{IoCall}
+use Rattle.io_model.specs.Again.{IsAgain, IsPending, KeepsCount, path_number}
 use Rattle.io_state.proofs.HeldLemmas.{slot-held}
 use Rattle.io_state.proofs.WaitLemmas.{none-some, some-same}
 use Rattle.io_state.specs.Sound.{IsIo, MayWait, read_kind, read_kind_of, target_at}
 use Rattle.proc_state.specs.Tie.{Represents}
 use Rattle.proc_state.specs.declared.state.ProcState.{ProcState}
-use Rattle.proc_rules.specs.Records.{record_at}
+use Rattle.proc_model.specs.Records.{record_at}
 use Rattle.io_state.specs.Context.{InCall}
 use Rattle.io_state.specs.declared.requester.Requester.{Requester}
 use Rattle.device_io.specs.Moving.{MayAttempt, StaysAllowed, StaysIfPending, read_call, read_code}

@@ -4,17 +4,17 @@ use Rattle.std.specs.Prelude.{if◌then◌else◌}
 use Rattle.std.proofs.lemmas.Bool.{ne_eqb}
 use Rattle.os9_base.specs.declared.errors.TheConstants.{E_BMODE, E_BPADDR, E_BPNUM}
 use Rattle.os9_base.specs.declared.registers.Regs.{Regs}
-use Rattle.proc_rules.specs.UserBytes.{user_bytes}
+use Rattle.proc_model.specs.UserBytes.{user_bytes}
 use Rattle.io_model.specs.declared.path.Target.{Target}
 use Rattle.io_model.specs.declared.pending.PendingCall.{PendingCall}
 use Rattle.io_model.specs.declared.terminal.ReadKind.{ReadKind}
-use Rattle.io_rules.specs.Again.{path_number}
-use Rattle.io_rules.specs.Io.{Io, OpenPath, open_path, pending_at}
-use Rattle.io_rules.specs.Modes.{can_read, can_write}
-use Rattle.io_rules.specs.Read.{reads_target}
-use Rattle.io_rules.specs.Step.{Caller, IoStep, done, needs, refused, refuses}
-use Rattle.io_rules.specs.Transfer.{call_now, first_call}
-use Rattle.io_rules.specs.Write.{writes_target}
+use Rattle.io_model.specs.Again.{path_number}
+use Rattle.io_model.specs.Io.{Io, OpenPath, open_path, pending_at}
+use Rattle.io_model.specs.Modes.{can_read, can_write}
+use Rattle.io_model.specs.Read.{reads_target}
+use Rattle.io_model.specs.Step.{Caller, IoStep, done, needs, refused, refuses}
+use Rattle.io_model.specs.Transfer.{call_now, first_call}
+use Rattle.io_model.specs.Write.{writes_target}
 use Rattle.device_io.proofs.MovingLemmas.{none-of, some-of}
 use Rattle.device_io.proofs.SendingLemmas.{done-regs}
 use Rattle.device_io.specs.Moving.{read_code, read_named, read_on, read_open, read_step}

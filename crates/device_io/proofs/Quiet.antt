@@ -7,7 +7,7 @@ use Rattle.os9_outer.specs.TerminalState.{TerminalState, ChangesOneTerminal}
 use Rattle.io_model.specs.Terminal.{Arrives, Terminal, key_bytes, new_terminal, typed_bytes}
 use Rattle.io_model.specs.declared.terminal.Arrival.{Arrival}
 use Rattle.io_model.specs.declared.terminal.TheConstants.{TYPE_AHEAD}
-use Rattle.io_rules.specs.Io.{Io, terminal_at, with_terminal}
+use Rattle.io_model.specs.Io.{Io, terminal_at, with_terminal}
 use Rattle.proc_state.specs.declared.state.ProcState.{ProcState}
 
 empty : (keys : List ℕ) → length keys ≡ 0 → keys ≡ []

@@ -12,22 +12,22 @@ use Rattle.os9_base.specs.declared.registers.Pid.{Pid}
 use Rattle.os9_base.specs.declared.registers.Regs.{Regs}
 use Rattle.os9_outer.specs.TerminalState.{TerminalState}
 use Rattle.os9_base.specs.UserNames.{user_cell}
-use Rattle.proc_rules.specs.UserBytes.{byte_before, user_bytes}
+use Rattle.proc_model.specs.UserBytes.{byte_before, user_bytes}
 use Rattle.io_model.specs.Pipe.{added_to, answer_unmoved, moved_count, pipe_room, write_answer}
 use Rattle.io_model.specs.declared.pending.PendingCall.{PendingCall}
 use Rattle.io_model.specs.declared.path.Target.{Target}
 use Rattle.io_model.specs.declared.path.Target.TheVariants.{File, Folder, Term, Pipe}
 use Rattle.io_model.specs.declared.pipe.PipeAns.{PipeAns}
 use Rattle.io_model.specs.declared.pipe.PipeAns.TheVariants.{Done, NoReader}
-use Rattle.io_rules.specs.Again.{path_number}
-use Rattle.io_rules.specs.Alone.{is_alone}
-use Rattle.io_rules.specs.Io.{Io, OpenPath, pending_at, open_path, pipe_bytes, with_pipe_bytes}
-use Rattle.io_rules.specs.Modes.{can_write}
-use Rattle.io_rules.specs.Pipes.{write_end, write_leaves, writes_pipe}
-use Rattle.io_rules.specs.Step.{Caller, IoEffect, IoStep, comes, done, leaves, needs, refuses}
-use Rattle.io_rules.specs.Transfer.{call_now, first_call}
-use Rattle.io_rules.specs.Write.{writes_target}
-use Rattle.io_rules.specs.declared.io_call.Direction.TheVariants as Way
+use Rattle.io_model.specs.Again.{path_number}
+use Rattle.io_model.specs.Alone.{is_alone}
+use Rattle.io_model.specs.Io.{Io, OpenPath, pending_at, open_path, pipe_bytes, with_pipe_bytes}
+use Rattle.io_model.specs.Modes.{can_write}
+use Rattle.io_model.specs.Pipes.{write_end, write_leaves, writes_pipe}
+use Rattle.io_model.specs.Step.{Caller, IoEffect, IoStep, comes, done, leaves, needs, refuses}
+use Rattle.io_model.specs.Transfer.{call_now, first_call}
+use Rattle.io_model.specs.Write.{writes_target}
+use Rattle.io_model.specs.declared.io_call.Direction.TheVariants as Way
 use Rattle.proc_state.proofs.UserBytes.{user_bytes-Some}
 use Rattle.device_io.proofs.LineLemmas.{user-length}
 use Rattle.device_io.proofs.SendingLemmas.{done-regs, on-pipe}

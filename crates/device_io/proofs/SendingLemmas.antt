@@ -8,8 +8,8 @@ use Rattle.os9_base.specs.declared.errors.TheConstants.{E_BPADDR, E_WRITE}
 use Rattle.os9_base.specs.declared.registers.Pid.{Pid}
 use Rattle.os9_base.specs.declared.registers.Regs.{Regs}
 use Rattle.os9_outer.specs.TerminalState.{TerminalState, ChangesOneTerminal}
-use Rattle.proc_rules.specs.Processes.{Processes, cells_at, regs_at}
-use Rattle.proc_rules.specs.UserBytes.{user_bytes}
+use Rattle.proc_model.specs.Processes.{Processes, cells_at, regs_at}
+use Rattle.proc_model.specs.UserBytes.{user_bytes}
 use Rattle.io_model.specs.Path.{desc_of, slot_of}
 use Rattle.io_model.specs.Terminal.{Writes}
 use Rattle.io_model.specs.declared.pending.PendingCall.{PendingCall}
@@ -18,19 +18,19 @@ use Rattle.io_model.specs.declared.path.SysPath.{SysPath}
 use Rattle.io_model.specs.declared.path.Target.{Target}
 use Rattle.io_model.specs.declared.path.Target.TheVariants.{Pipe, Term}
 use Rattle.io_model.specs.declared.terminal.Progress.{Progress}
-use Rattle.io_rules.specs.Again.{IsAgain, IsPending, path_number}
-use Rattle.io_rules.specs.Attempts.{caller_of, result_by}
-use Rattle.io_rules.specs.Codes.{io_call_of, direction_of, direction_of_call}
-use Rattle.io_rules.specs.Io.{Io, OpenPath, pending_at, open_path, terminal_at, with_call, with_terminal}
-use Rattle.io_rules.specs.Modes.{can_write}
-use Rattle.io_rules.specs.Step.{Caller, IoEffect, IoEnd, IoStep, TerminalWrite, answers, fails, keeps, comes, done, leaves, refused, writes}
-use Rattle.io_rules.specs.Transfer.{first_call, on_path, unless_nothing}
-use Rattle.io_rules.specs.Alone.{is_alone}
-use Rattle.io_rules.specs.Pipes.{writes_pipe}
-use Rattle.io_rules.specs.Write.{f_perr, i_write, i_writln, line_bytes, error_line, sends_on, sent_bytes, sent_line, writes_target}
-use Rattle.io_rules.specs.declared.io_call.Direction.{Direction}
-use Rattle.io_rules.specs.declared.io_call.Direction.TheVariants as Way
-use Rattle.io_rules.specs.declared.io_call.IoCall.{IoCall}
+use Rattle.io_model.specs.Again.{IsAgain, IsPending, path_number}
+use Rattle.io_model.specs.Attempts.{caller_of, result_by}
+use Rattle.io_model.specs.Codes.{io_call_of, direction_of, direction_of_call}
+use Rattle.io_model.specs.Io.{Io, OpenPath, pending_at, open_path, terminal_at, with_call, with_terminal}
+use Rattle.io_model.specs.Modes.{can_write}
+use Rattle.io_model.specs.Step.{Caller, IoEffect, IoEnd, IoStep, TerminalWrite, answers, fails, keeps, comes, done, leaves, refused, writes}
+use Rattle.io_model.specs.Transfer.{first_call, on_path, unless_nothing}
+use Rattle.io_model.specs.Alone.{is_alone}
+use Rattle.io_model.specs.Pipes.{writes_pipe}
+use Rattle.io_model.specs.Write.{f_perr, i_write, i_writln, line_bytes, error_line, sends_on, sent_bytes, sent_line, writes_target}
+use Rattle.io_model.specs.declared.io_call.Direction.{Direction}
+use Rattle.io_model.specs.declared.io_call.Direction.TheVariants as Way
+use Rattle.io_model.specs.declared.io_call.IoCall.{IoCall}
 use Rattle.os9_base.specs.declared.calls.TheConstants.{I_WRITE, I_WRITLN}
 use Rattle.io_state.proofs.HeldLemmas.{slot-held}
 use Rattle.io_state.proofs.WaitLemmas.{some-same}
@@ -42,7 +42,7 @@ use Rattle.device_io.proofs.LineLemmas.{IsSentLine}
 use Rattle.device_io.proofs.MovingLemmas.{opened-parts}
 use Rattle.device_io.proofs.TryingLemmas.{tries-needs-some, tries-same}
 use Rattle.device_io.specs.Sending.{MayWrite, PutEnds, Sends, Tells, put_of, regs_done, sender, sent, write_call, write_code, write_named, write_on, write_open}
-use Rattle.io_rules.specs.Memory.{WantsMemory}
+use Rattle.io_model.specs.Memory.{WantsMemory}
 use Rattle.device_io.specs.Trying.{Tries}
 use Rattle.device_io.specs.declared.sending.WriteKind.{WriteKind}
 use Rattle.device_io.specs.declared.sending.WriteKind.TheVariants.{Bytes, Line, ErrorLine}

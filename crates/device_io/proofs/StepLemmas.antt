@@ -1,9 +1,9 @@
 -- What the steps of reads are.
 use Rattle.std.proofs.Common.{◌≡◌, refl}
 use Rattle.io_model.specs.declared.terminal.ReadKind.TheVariants.{Bytes, WholeLine}
-use Rattle.io_rules.specs.Io.{Io}
-use Rattle.io_rules.specs.Read.{i_read, i_readln}
-use Rattle.io_rules.specs.Step.{Caller}
+use Rattle.io_model.specs.Io.{Io}
+use Rattle.io_model.specs.Read.{i_read, i_readln}
+use Rattle.io_model.specs.Step.{Caller}
 use Rattle.device_io.specs.Moving.{read_step, read_named, read_open, read_on}
 
 pub read_step-bytes : (caller : Caller) (io : Io) → read_step Bytes caller io ≡ i_read caller io

@@ -1,11 +1,11 @@
 -- Keys that arrive: the part of the kernel's processes and of its state of input and output.
 use Rattle.std.specs.Prelude.{◌≡◌, ℕ, false, List}
 use Rattle.os9_outer.specs.TerminalState.{TerminalState, ChangesOneTerminal}
-use Rattle.proc_rules.specs.Processes.{Processes}
+use Rattle.proc_model.specs.Processes.{Processes}
 use Rattle.io_model.specs.Terminal.{Terminal, Arrives}
 use Rattle.io_model.specs.declared.terminal.Arrival.{Arrival}
-use Rattle.io_rules.specs.Arrivals.{Desk, Arrivals, ArrivesAt, ArrivesFrom}
-use Rattle.io_rules.specs.Io.{Io, terminal_at, with_terminal}
+use Rattle.io_model.specs.Arrivals.{Desk, Arrivals, ArrivesAt, ArrivesFrom}
+use Rattle.io_model.specs.Io.{Io, terminal_at, with_terminal}
 use Rattle.proc_state.specs.Tie.{Represents}
 use Rattle.proc_state.specs.declared.state.ProcState.{ProcState}
 

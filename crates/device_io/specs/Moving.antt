@@ -4,8 +4,8 @@ use Rattle.os9_base.specs.Cells.{Cells, FitsIn}
 use Rattle.os9_base.specs.declared.calls.TheConstants.{I_READ, I_READLN}
 use Rattle.os9_base.specs.declared.errors.TheConstants.{E_BPADDR}
 use Rattle.os9_base.specs.declared.registers.Regs.{Regs}
-use Rattle.proc_rules.specs.Records.{record_at}
-use Rattle.proc_rules.specs.UserBytes.{user_bytes}
+use Rattle.proc_model.specs.Records.{record_at}
+use Rattle.proc_model.specs.UserBytes.{user_bytes}
 use Rattle.guest_memory.specs.Tie.{cells_of}
 use Rattle.io_model.specs.Path.{PathTable}
 use Rattle.io_model.specs.declared.pending.PendingCall.{PendingCall}
@@ -13,14 +13,14 @@ use Rattle.io_model.specs.declared.path.Target.{Target}
 use Rattle.io_model.specs.declared.path.Target.TheVariants.{Term}
 use Rattle.io_model.specs.declared.terminal.ReadKind.{ReadKind}
 use Rattle.io_model.specs.declared.terminal.ReadKind.TheVariants.{Bytes, WholeLine}
-use Rattle.io_rules.specs.Again.{IsAgain}
-use Rattle.io_rules.specs.Io.{Io, OpenPath, open_path, pending_at}
-use Rattle.io_rules.specs.Modes.{can_read}
-use Rattle.io_rules.specs.Read.{reads_target}
-use Rattle.io_rules.specs.Step.{Caller, IoStep, reads, refuses}
-use Rattle.io_rules.specs.Transfer.{on_path, unless_nothing, call_now}
-use Rattle.io_rules.specs.declared.io_call.IoCall.{IoCall}
-use Rattle.io_rules.specs.declared.io_call.IoCall.TheVariants as Call
+use Rattle.io_model.specs.Again.{IsAgain}
+use Rattle.io_model.specs.Io.{Io, OpenPath, open_path, pending_at}
+use Rattle.io_model.specs.Modes.{can_read}
+use Rattle.io_model.specs.Read.{reads_target}
+use Rattle.io_model.specs.Step.{Caller, IoStep, reads, refuses}
+use Rattle.io_model.specs.Transfer.{on_path, unless_nothing, call_now}
+use Rattle.io_model.specs.declared.io_call.IoCall.{IoCall}
+use Rattle.io_model.specs.declared.io_call.IoCall.TheVariants as Call
 use Rattle.io_state.specs.Sound.{target_at}
 use Rattle.proc_state.specs.declared.state.ProcState.{ProcState}
 

@@ -2,12 +2,12 @@
 use Rattle.std.specs.Prelude.{◌≡◌, ℕ, Bool, true, false, ⊤, IfSome, Option, Some, None, List, length, take, drop}
 use Rattle.std.specs.Option.{option_map_or}
 use Rattle.os9_base.specs.Cells.{Cells}
-use Rattle.proc_rules.specs.UserBytes.{user_bytes}
+use Rattle.proc_model.specs.UserBytes.{user_bytes}
 use Rattle.io_model.specs.declared.pending.PendingCall.{PendingCall}
 use Rattle.io_model.specs.declared.path.Target.{Target}
 use Rattle.io_model.specs.declared.path.Target.TheVariants.{File, Folder, Term, Pipe}
 use Rattle.io_model.specs.declared.pipe.TheConstants.{PIPE_BYTES}
-use Rattle.io_rules.specs.Io.{Io, OpenPath, pending_at, open_path}
+use Rattle.io_model.specs.Io.{Io, OpenPath, pending_at, open_path}
 
 -- the target of a path is a pipe
 abbrev pub is_pipe : Target → Bool

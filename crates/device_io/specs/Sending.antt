@@ -14,20 +14,20 @@ use Rattle.io_model.specs.declared.pending.PendingCall.{PendingCall}
 use Rattle.io_model.specs.declared.path.Target.{Target}
 use Rattle.io_model.specs.declared.path.Target.TheVariants.{Pipe}
 use Rattle.io_model.specs.declared.terminal.Progress.{Progress}
-use Rattle.io_rules.specs.Again.{IsAgain, path_number}
-use Rattle.io_rules.specs.Attempts.{Does, pending_in}
-use Rattle.io_rules.specs.Io.{Io, OpenPath, pending_at, terminal_at, with_call, with_terminal}
-use Rattle.io_rules.specs.Modes.{can_write}
-use Rattle.io_rules.specs.Step.{Caller, IoEnd, IoStep, done, leaves, writes}
-use Rattle.io_rules.specs.Transfer.{call_now, on_path}
-use Rattle.io_rules.specs.Write.{Sending, sent_bytes, sent_line, writes_target}
-use Rattle.io_rules.specs.declared.io_call.IoCall.{IoCall}
-use Rattle.io_rules.specs.declared.io_call.IoCall.TheVariants as Call
+use Rattle.io_model.specs.Again.{IsAgain, path_number}
+use Rattle.io_model.specs.Attempts.{Does, pending_in}
+use Rattle.io_model.specs.Io.{Io, OpenPath, pending_at, terminal_at, with_call, with_terminal}
+use Rattle.io_model.specs.Modes.{can_write}
+use Rattle.io_model.specs.Step.{Caller, IoEnd, IoStep, done, leaves, writes}
+use Rattle.io_model.specs.Transfer.{call_now, on_path}
+use Rattle.io_model.specs.Write.{Sending, sent_bytes, sent_line, writes_target}
+use Rattle.io_model.specs.declared.io_call.IoCall.{IoCall}
+use Rattle.io_model.specs.declared.io_call.IoCall.TheVariants as Call
 use Rattle.io_state.specs.Sound.{MayWait, target_at}
 use Rattle.io_state.specs.declared.requester.Requester.{Requester}
 use Rattle.device_io.specs.Leaving.{IsTold}
 use Rattle.device_io.specs.Streams.{Streams}
-use Rattle.io_rules.specs.Memory.{WantsMemory}
+use Rattle.io_model.specs.Memory.{WantsMemory}
 use Rattle.device_io.specs.declared.sending.WriteKind.{WriteKind}
 use Rattle.device_io.specs.declared.sending.WriteKind.TheVariants.{Bytes, Line, ErrorLine}
 

@@ -6,7 +6,7 @@ use Rattle.os9_outer.specs.TerminalState.{TerminalState}
 use Rattle.os9_outer.specs.declared.terminal.CharDriver.{Ghosts}
 use Rattle.device_table.specs.Seen.{terminals_seen}
 use Rattle.device_table.specs.declared.devices.DeviceTable.{DeviceTable}
-use Rattle.io_rules.specs.Io.{Io}
+use Rattle.io_model.specs.Io.{Io}
 
 pub record Streams : Type 0 where
   pub io : Io  -- the kernel's paths, pipes and terminals, and the pending calls

@@ -3,12 +3,12 @@ use Rattle.std.specs.Prelude.{◌≡◌, ◌≢◌, ℕ, Option, Some, None, Lis
 use Rattle.os9_base.specs.declared.call.CallEnd.{CallEnd}
 use Rattle.os9_base.specs.declared.call.CallEnd.TheVariants.{Done, Error, Wait, Ended, NoMemory}
 use Rattle.os9_outer.specs.TerminalState.{TerminalState}
-use Rattle.proc_rules.specs.Processes.{Processes}
-use Rattle.io_rules.specs.Attempts.{Does, caller_of, io_after, result_by, result_of, step_of}
-use Rattle.io_rules.specs.Io.{Io}
-use Rattle.io_rules.specs.Memory.{WantsMemory}
-use Rattle.io_rules.specs.Step.{Caller, IoEffect, IoEnd, IoStep, stores}
-use Rattle.io_rules.specs.declared.io_call.IoCall.{IoCall}
+use Rattle.proc_model.specs.Processes.{Processes}
+use Rattle.io_model.specs.Attempts.{Does, caller_of, io_after, result_by, result_of, step_of}
+use Rattle.io_model.specs.Io.{Io}
+use Rattle.io_model.specs.Memory.{WantsMemory}
+use Rattle.io_model.specs.Step.{Caller, IoEffect, IoEnd, IoStep, stores}
+use Rattle.io_model.specs.declared.io_call.IoCall.{IoCall}
 use Rattle.io_state.specs.Attempt.{Attempts}
 use Rattle.proc_state.specs.Tie.{Comes, Represents}
 use Rattle.proc_state.specs.declared.state.ProcState.{ProcState}

@@ -2,12 +2,12 @@
 
 ghost use Rattle.std.specs.Prelude.{◌≡◌, ◌<◌, ◌+◌, ◌≤◌, None, Some, unwrap_or};
 ghost use Rattle.io_model.specs.Pending as model;
-ghost use Rattle.io_rules.specs.Attempts.{result_by};
-ghost use Rattle.io_rules.specs.Io.{Io, pending_at, with_call};
-ghost use Rattle.io_rules.specs.Step.{IoEnd, leaves};
+ghost use Rattle.io_model.specs.Attempts.{result_by};
+ghost use Rattle.io_model.specs.Io.{Io, pending_at, with_call};
+ghost use Rattle.io_model.specs.Step.{IoEnd, leaves};
 ghost use Rattle.io_state.specs.Sound.{IsIo, MayWait, ReadsNoTerminal};
-ghost use Rattle.proc_rules.specs.Records.{IsLiving};
-ghost use Rattle.proc_rules.specs.Processes.{Processes, with_regs_of};
+ghost use Rattle.proc_model.specs.Records.{IsLiving};
+ghost use Rattle.proc_model.specs.Processes.{Processes, with_regs_of};
 ghost use Rattle.device_io.specs.Leaving.{IsTold};
 ghost use Rattle.proc_state.specs.Tie.{Comes, Represents};
 

@@ -2,8 +2,8 @@
 
 ghost use Rattle.std.specs.Prelude.{◌≡◌, ◌<◌, ◌≤◌, ◌||◌, false, None, Ok, IsErr, IsOk, vec_len};
 ghost use Rattle.device_table.specs.Seen.{terminals_seen};
-ghost use Rattle.proc_rules.specs.Processes.{Processes};
-ghost use Rattle.io_rules.specs.Arrivals.{after_key_signal, after_signal_to};
+ghost use Rattle.proc_model.specs.Processes.{Processes};
+ghost use Rattle.io_model.specs.Arrivals.{after_key_signal, after_signal_to};
 ghost use Rattle.device_io.specs.Keys.{KeysArrive, KeysArriveAt, KeysBreak, KeysBreakAt};
 ghost use Rattle.proc_state.specs.Tie.{Represents};
 

@@ -1,9 +1,9 @@
 //! What a path's mode allows.
 
 ghost use Rattle.std.specs.Prelude.{◌≡◌};
-ghost use Rattle.io_rules.specs.Modes as model;
+ghost use Rattle.io_model.specs.Modes as model;
 
-use io_rules::modes::{MODE_EXECUTE, MODE_READ, MODE_WRITE};
+use io_model::modes::{MODE_EXECUTE, MODE_READ, MODE_WRITE};
 
 /// May a path of this mode be read?
 pub(crate) fn can_read(mode: u8) -> bool

@@ -2,10 +2,10 @@
 
 ghost use Rattle.std.specs.Prelude.{◌≡◌, ◌<◌, ◌≤◌, IfSome, length, option_map, take};
 ghost use Rattle.os9_base.specs.Cells.{FitsIn};
-ghost use Rattle.proc_rules.specs.Processes.{Processes, cells_at};
-ghost use Rattle.proc_rules.specs.UserBytes.{user_bytes};
+ghost use Rattle.proc_model.specs.Processes.{Processes, cells_at};
+ghost use Rattle.proc_model.specs.UserBytes.{user_bytes};
 ghost use Rattle.guest_memory.specs.Tie.{IsSame as IsSameMemory, cells_of};
-ghost use Rattle.io_rules.specs.Io.{pending_at, open_path};
+ghost use Rattle.io_model.specs.Io.{pending_at, open_path};
 ghost use Rattle.proc_state.specs.Tie.{IsSame, Represents};
 ghost use Rattle.device_io.specs.Reading as model;
 ghost use Rattle.device_io.specs.Reading.{HasWindow, IsRead};

@@ -2,16 +2,16 @@
 
 ghost use Rattle.std.specs.Prelude.{◌≡◌, ◌≢◌, ℕ, ◌||◌, false, []};
 ghost use Rattle.os9_base.specs.Cells.{FitsIn};
-ghost use Rattle.proc_rules.specs.Records.{IsLiving};
-ghost use Rattle.proc_rules.specs.Processes.{Processes};
+ghost use Rattle.proc_model.specs.Records.{IsLiving};
+ghost use Rattle.proc_model.specs.Processes.{Processes};
 ghost use Rattle.guest_memory.specs.Tie.{cells_of};
 ghost use Rattle.io_model.specs.Pending.{is_complete};
 ghost use Rattle.io_model.specs.Line as model;
 ghost use Rattle.io_model.specs.Pipe.{IsPipe};
-ghost use Rattle.io_rules.specs.Attempts.{caller_of};
-ghost use Rattle.io_rules.specs.Pipes.{line_ended};
-ghost use Rattle.io_rules.specs.Read.{pipe_read};
-ghost use Rattle.io_rules.specs.Step.{stores};
+ghost use Rattle.io_model.specs.Attempts.{caller_of};
+ghost use Rattle.io_model.specs.Pipes.{line_ended};
+ghost use Rattle.io_model.specs.Read.{pipe_read};
+ghost use Rattle.io_model.specs.Step.{stores};
 ghost use Rattle.io_state.specs.Sound.{MayWait, ReadsNoTerminal};
 ghost use Rattle.io_model.specs.declared.terminal.ReadKind.TheVariants as Kind;
 ghost use Rattle.proc_state.specs.Tie.{Represents};
@@ -20,9 +20,9 @@ ghost use Rattle.device_io.specs.Leaving.{Leaves};
 
 use crate::ends::{answer, keep, moved_on, refuse};
 use crate::lines::has_return;
+use io_model::io_call::Direction;
 use io_model::pending::PendingCall;
 use io_model::pipe::{PIPE_BYTES, PipeAns};
-use io_rules::io_call::Direction;
 use io_state::requester::Requester;
 use io_state::state::IoState;
 use os9_base::call::CallEnd;

@@ -3,17 +3,17 @@
 ghost use Rattle.std.specs.Prelude.{◌≡◌, ◌≢◌, ◌<◌, ◌≤◌, ◌+◌, length};
 ghost use Rattle.os9_base.specs.declared.registers.Regs.{Regs};
 ghost use Rattle.io_model.specs.Pipe.{IsPipe, moved_count};
-ghost use Rattle.io_rules.specs.Alone.{is_alone};
-ghost use Rattle.io_rules.specs.Pipes.{writes_pipe, write_end, moved_end};
-ghost use Rattle.io_rules.specs.Step.{leaves};
+ghost use Rattle.io_model.specs.Alone.{is_alone};
+ghost use Rattle.io_model.specs.Pipes.{writes_pipe, write_end, moved_end};
+ghost use Rattle.io_model.specs.Step.{leaves};
 ghost use Rattle.io_state.specs.Sound.{MayWait, ReadsNoTerminal};
-ghost use Rattle.io_rules.specs.declared.io_call.Direction.TheVariants as Direction;
+ghost use Rattle.io_model.specs.declared.io_call.Direction.TheVariants as Direction;
 ghost use Rattle.device_io.specs.Leaving.{Settles};
 
 use crate::ends::{finish, keep, moved_on, refuse};
+use io_model::io_call::Direction;
 use io_model::pending::PendingCall;
 use io_model::pipe::PipeAns;
-use io_rules::io_call::Direction;
 use io_state::state::IoState;
 use os9_base::call::CallEnd;
 use os9_base::errors::{E_EOF, E_WRITE};

@@ -1,7 +1,7 @@
 //! I$Read and I$ReadLn (System Programmer's Manual, I$Read and I$ReadLn).
 
 ghost use Rattle.std.specs.Prelude.{◌≡◌, ℕ, vec_len};
-ghost use Rattle.io_rules.specs.declared.io_call.IoCall.TheVariants as Call;
+ghost use Rattle.io_model.specs.declared.io_call.IoCall.TheVariants as Call;
 ghost use Rattle.io_state.specs.Context.{InCall, SameDrives};
 ghost use Rattle.device_io.specs.Moving as model;
 ghost use Rattle.device_io.specs.Moving.{MayAttempt, read_call, read_step};

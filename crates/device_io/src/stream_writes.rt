@@ -1,12 +1,12 @@
 //! I$Write, I$WritLn and F$PErr (System Programmer's Manual, I$Write, I$WritLn and F$PErr).
 
 ghost use Rattle.std.specs.Prelude.{◌≡◌, ℕ, IfSome, None, option_map, take, vec_len};
-ghost use Rattle.proc_rules.specs.Processes.{Processes};
-ghost use Rattle.io_rules.specs.Attempts.{caller_of};
-ghost use Rattle.io_rules.specs.Io.{pending_at};
-ghost use Rattle.io_rules.specs.Write as model;
-ghost use Rattle.io_rules.specs.Write.{line_bytes};
-ghost use Rattle.io_rules.specs.declared.io_call.IoCall.TheVariants as Call;
+ghost use Rattle.proc_model.specs.Processes.{Processes};
+ghost use Rattle.io_model.specs.Attempts.{caller_of};
+ghost use Rattle.io_model.specs.Io.{pending_at};
+ghost use Rattle.io_model.specs.Write as model;
+ghost use Rattle.io_model.specs.Write.{line_bytes};
+ghost use Rattle.io_model.specs.declared.io_call.IoCall.TheVariants as Call;
 ghost use Rattle.proc_state.specs.Tie.{IsSame, Represents};
 ghost use Rattle.io_state.specs.Context.{InCall, SameDrives};
 ghost use Rattle.device_io.specs.Moving.{MayAttempt};

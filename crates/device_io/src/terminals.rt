@@ -2,12 +2,12 @@
 
 ghost use Rattle.std.specs.Prelude.{◌≡◌, ◌<◌, ◌≤◌, take, vec_len};
 ghost use Rattle.os9_base.specs.Cells.{FitsIn};
-ghost use Rattle.proc_rules.specs.Records.{IsLiving};
-ghost use Rattle.proc_rules.specs.Processes.{Processes};
+ghost use Rattle.proc_model.specs.Records.{IsLiving};
+ghost use Rattle.proc_model.specs.Processes.{Processes};
 ghost use Rattle.guest_memory.specs.Tie.{cells_of};
-ghost use Rattle.io_rules.specs.Attempts.{caller_of};
-ghost use Rattle.io_rules.specs.Step.{TerminalRead};
-ghost use Rattle.io_rules.specs.Terminals.{read_ends};
+ghost use Rattle.io_model.specs.Attempts.{caller_of};
+ghost use Rattle.io_model.specs.Step.{TerminalRead};
+ghost use Rattle.io_model.specs.Terminals.{read_ends};
 ghost use Rattle.io_state.specs.Terminals.{MayRead, count_of};
 ghost use Rattle.proc_state.specs.Tie.{Represents};
 ghost use Rattle.io_state.specs.Context.{InCall, SameDrives};

@@ -8,7 +8,7 @@ use Rattle.os9_base.specs.Cells.{Cells}
 use Rattle.os9_base.specs.UserNames.{user_cell, name_at}
 use Rattle.os9_base.specs.declared.name_fault.NameFault.{NameFault}
 use Rattle.os9_base.specs.declared.name_fault.NameFault.TheVariants.{Unreadable}
-use Rattle.io_rules.specs.PathList.{Names, Behind, another, a_slash, nothing, unreadable, behind, behind_name, behind_slash, is_dots, is_marked, name_before, names_with, names_behind, names_at, names_from, device_list, relative_list, list_with, path_list}
+use Rattle.io_model.specs.PathList.{Names, Behind, another, a_slash, nothing, unreadable, behind, behind_name, behind_slash, is_dots, is_marked, name_before, names_with, names_behind, names_at, names_from, device_list, relative_list, list_with, path_list}
 use Rattle.guest_memory.specs.Tie.{IsSame}
 use Rattle.guest_memory.specs.declared.memory.Memory.{Memory}
 use Rattle.device_paths.specs.declared.names.Step.{Step}

@@ -8,11 +8,11 @@ use Rattle.io_model.specs.Path.{new_number, paths_after_begin}
 use Rattle.io_model.specs.Pipe.{free_pipe, pipes_after_begin}
 use Rattle.io_model.specs.declared.path.Desc.{Desc}
 use Rattle.io_model.specs.declared.path.Target.TheVariants.{Term, Pipe}
-use Rattle.io_rules.specs.Io.{Io, new_desc, with_paths, with_pipes}
-use Rattle.io_rules.specs.Lead.{Lead, Search, to_terminal, to_pipe, nowhere, lead_of}
-use Rattle.io_rules.specs.Open.{begins, opened_regs, opens, opens_lead, reads_list}
-use Rattle.io_rules.specs.PathList.{PathList, path_list}
-use Rattle.io_rules.specs.Step.{Caller, IoStep, refused, refuses, needs, done}
+use Rattle.io_model.specs.Io.{Io, new_desc, with_paths, with_pipes}
+use Rattle.io_model.specs.Lead.{Lead, Search, to_terminal, to_pipe, nowhere, lead_of}
+use Rattle.io_model.specs.Open.{begins, opened_regs, opens, opens_lead, reads_list}
+use Rattle.io_model.specs.PathList.{PathList, path_list}
+use Rattle.io_model.specs.Step.{Caller, IoStep, refused, refuses, needs, done}
 use Rattle.device_paths.proofs.QuietLemmas.{IsQuiet}
 use Rattle.device_paths.specs.Places.{allows}
 use Rattle.device_paths.specs.declared.places.Search as Place

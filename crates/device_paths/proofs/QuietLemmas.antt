@@ -4,20 +4,20 @@ use Rattle.os9_base.specs.declared.call.CallEnd.{CallEnd}
 use Rattle.os9_base.specs.declared.registers.Regs.{Regs}
 use Rattle.proc_model.specs.MemoryChanges.{stored}
 use Rattle.os9_outer.specs.TerminalState.{TerminalState}
-use Rattle.proc_rules.specs.Processes.{Processes, regs_at, cells_at, with_memory, with_regs_of}
-use Rattle.io_rules.specs.Attempts.{Does, step_of, caller_of, result_of}
+use Rattle.proc_model.specs.Processes.{Processes, regs_at, cells_at, with_memory, with_regs_of}
+use Rattle.io_model.specs.Attempts.{Does, step_of, caller_of, result_of}
 use Rattle.os9_base.specs.declared.errors.TheConstants.{E_BPNUM, E_PTHFUL, E_UNKSVC, E_BPADDR, E_NOTRDY}
-use Rattle.proc_rules.specs.UserBytes.{user_bytes}
+use Rattle.proc_model.specs.UserBytes.{user_bytes}
 use Rattle.io_model.specs.Path.{slot_of, free_number, paths_after_dup}
 use Rattle.io_model.specs.declared.path.SysPath.{SysPath}
 use Rattle.io_model.specs.declared.path.Target.{Target}
-use Rattle.io_rules.specs.Close.{i_close, after_close}
-use Rattle.io_rules.specs.Dup.{i_dup}
-use Rattle.io_rules.specs.Io.{Io, OpenPath, open_path, with_paths, with_call}
-use Rattle.io_rules.specs.Status.{i_getstt, i_setstt, gets_status, gets_options, gets_ready, gets_end, options, ready_count}
-use Rattle.io_rules.specs.declared.status.TheConstants.{SS_OPT, SS_READY, SS_EOF, OPTION_BYTES}
-use Rattle.io_rules.specs.Step.{Caller, IoStep, refused, comes, reads, writes, needs, refuses, done, stores, answers}
-use Rattle.io_rules.specs.declared.io_call.IoCall.{IoCall}
+use Rattle.io_model.specs.Close.{i_close, after_close}
+use Rattle.io_model.specs.Dup.{i_dup}
+use Rattle.io_model.specs.Io.{Io, OpenPath, open_path, with_paths, with_call}
+use Rattle.io_model.specs.Status.{i_getstt, i_setstt, gets_status, gets_options, gets_ready, gets_end, options, ready_count}
+use Rattle.io_model.specs.declared.status.TheConstants.{SS_OPT, SS_READY, SS_EOF, OPTION_BYTES}
+use Rattle.io_model.specs.Step.{Caller, IoStep, refused, comes, reads, writes, needs, refuses, done, stores, answers}
+use Rattle.io_model.specs.declared.io_call.IoCall.{IoCall}
 use Rattle.io_state.specs.Attempt.{Attempts}
 use Rattle.device_paths.specs.Quiet.{effect_of, Ends}
 use Rattle.proc_state.specs.Tie.{Represents}

@@ -6,7 +6,7 @@ use Rattle.os9_base.specs.Cells.{Cells}
 use Rattle.os9_base.specs.UserNames.{user_cell, name_at, name_in, run_bytes, run_with}
 use Rattle.os9_base.specs.declared.name_fault.NameFault.{NameFault}
 use Rattle.os9_base.specs.declared.name_fault.NameFault.TheVariants.{Unreadable, NoName}
-use Rattle.io_rules.specs.PathList.{Names, PathList, Behind, another, a_slash, nothing, unreadable, behind, name_before, names_with, names_behind, names_at, names_from, from_device, device_list, relative_list, list_with, path_list}
+use Rattle.io_model.specs.PathList.{Names, PathList, Behind, another, a_slash, nothing, unreadable, behind, name_before, names_with, names_behind, names_at, names_from, from_device, device_list, relative_list, list_with, path_list}
 use Rattle.device_paths.specs.Standing.{IsFirstOf, IsFirstRead, NamesFrom, NamesStand, NextIsBehind, name_first, name_list, named_by, names_after, names_on}
 use Rattle.device_paths.specs.Tail.{GoesUp, step_by}
 use Rattle.device_paths.specs.declared.named.Named.{Named}

@@ -2,7 +2,7 @@
 use Rattle.std.specs.Prelude.{ℕ, ◌==◌, not, true, false, Option, Some, Result, Ok, Err, List, length}
 use Rattle.os9_base.specs.Cells.{Cells}
 use Rattle.os9_base.specs.declared.name_fault.NameFault.{NameFault}
-use Rattle.io_rules.specs.PathList.{PathList, ends_in_dots, names_at}
+use Rattle.io_model.specs.PathList.{PathList, ends_in_dots, names_at}
 use Rattle.device_paths.specs.Tail.{tail_of}
 use Rattle.device_paths.specs.declared.list.Listed.{Listed}
 use Rattle.device_paths.specs.declared.names.Step.{Step}

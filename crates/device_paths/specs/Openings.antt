@@ -2,10 +2,10 @@
 use Rattle.std.specs.Prelude.{ℕ, false, None, Result, Ok, Err, []}
 use Rattle.os9_base.specs.declared.errors.TheConstants.{E_PTHFUL}
 use Rattle.io_model.specs.declared.path.PathsFull.{PathsFull}
-use Rattle.io_rules.specs.Io.{Io}
-use Rattle.io_rules.specs.Open.{opened_regs, opens_lead}
-use Rattle.io_rules.specs.PathList.{PathList}
-use Rattle.io_rules.specs.Step.{Caller, IoStep, refused, done}
+use Rattle.io_model.specs.Io.{Io}
+use Rattle.io_model.specs.Open.{opened_regs, opens_lead}
+use Rattle.io_model.specs.PathList.{PathList}
+use Rattle.io_model.specs.Step.{Caller, IoStep, refused, done}
 use Rattle.device_paths.specs.Places.{lead_to}
 use Rattle.device_paths.specs.declared.open.Found.{Found}
 

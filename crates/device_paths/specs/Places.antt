@@ -2,9 +2,9 @@
 use Rattle.std.specs.Prelude.{ℕ, ◌<◌, ⊤, Bool, Result, Ok, Err}
 use Rattle.device_table.specs.declared.devices.Dev.{Dev}
 use Rattle.device_table.specs.declared.devices.Dev.TheVariants as Dev
-use Rattle.io_rules.specs.Lead.{Lead, to_terminal, to_pipe, nowhere}
-use Rattle.io_rules.specs.Lead as Lead
-use Rattle.io_rules.specs.Modes.{is_mode, can_write}
+use Rattle.io_model.specs.Lead.{Lead, to_terminal, to_pipe, nowhere}
+use Rattle.io_model.specs.Lead as Lead
+use Rattle.io_model.specs.Modes.{is_mode, can_write}
 use Rattle.device_paths.specs.declared.places.Place.{Place}
 use Rattle.device_paths.specs.declared.places.Place.TheVariants.{Terminal, Pipe}
 use Rattle.device_paths.specs.declared.places.Search.{Search}

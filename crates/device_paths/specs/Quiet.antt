@@ -1,10 +1,10 @@
 -- Attempts that reach no device.
 use Rattle.std.specs.Prelude.{◌≡◌, ℕ}
 use Rattle.os9_base.specs.declared.call.CallEnd.{CallEnd}
-use Rattle.proc_rules.specs.Processes.{Processes}
-use Rattle.io_rules.specs.Attempts.{io_after, result_of}
-use Rattle.io_rules.specs.Io.{Io}
-use Rattle.io_rules.specs.Step.{IoEffect, IoStep, refused, comes, reads, writes, leaves, fails}
+use Rattle.proc_model.specs.Processes.{Processes}
+use Rattle.io_model.specs.Attempts.{io_after, result_of}
+use Rattle.io_model.specs.Io.{Io}
+use Rattle.io_model.specs.Step.{IoEffect, IoStep, refused, comes, reads, writes, leaves, fails}
 use Rattle.proc_state.specs.Tie.{Comes}
 use Rattle.proc_state.specs.declared.state.ProcState.{ProcState}
 

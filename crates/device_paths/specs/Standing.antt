@@ -2,7 +2,7 @@
 use Rattle.std.specs.Prelude.{◌≡◌, ℕ, ◌<◌, ⊤, IfSome, Option, Some, None, Result, Ok, Err, List, [], ◌∷◌}
 use Rattle.os9_base.specs.Cells.{Cells}
 use Rattle.os9_base.specs.declared.name_fault.NameFault.{NameFault}
-use Rattle.io_rules.specs.PathList.{Names, names_at}
+use Rattle.io_model.specs.PathList.{Names, names_at}
 use Rattle.device_paths.specs.declared.named.Named.{Named}
 use Rattle.device_paths.specs.declared.names.Step.{Step}
 use Rattle.device_paths.specs.declared.names.Step.TheVariants.{Another, Last}

@@ -3,8 +3,8 @@ use Rattle.std.specs.Prelude.{ℕ, ◌-◌, ◌<◌, ⊤, ◌+◌, Bool, true, f
 use Rattle.std.specs.Option.{option_map_or}
 use Rattle.os9_base.specs.declared.name_fault.NameFault.{NameFault}
 use Rattle.os9_base.specs.declared.name_fault.NameFault.TheVariants.{Unreadable}
-use Rattle.io_rules.specs.PathList.{Names, is_dots}
-use Rattle.io_rules.specs.PathList as PathList
+use Rattle.io_model.specs.PathList.{Names, is_dots}
+use Rattle.io_model.specs.PathList as PathList
 use Rattle.device_paths.specs.declared.names.Behind.{Behind}
 use Rattle.device_paths.specs.declared.names.Step.{Step}
 use Rattle.device_paths.specs.declared.names.Step.TheVariants.{Another, Last}

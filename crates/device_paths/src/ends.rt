@@ -1,9 +1,9 @@
 //! How calls end.
 
 ghost use Rattle.std.specs.Prelude.{◌≡◌, ◌<◌, None};
-ghost use Rattle.io_rules.specs.Io.{pending_at, with_call};
-ghost use Rattle.proc_rules.specs.Records.{IsLiving};
-ghost use Rattle.proc_rules.specs.Processes.{Processes, with_regs_of};
+ghost use Rattle.io_model.specs.Io.{pending_at, with_call};
+ghost use Rattle.proc_model.specs.Records.{IsLiving};
+ghost use Rattle.proc_model.specs.Processes.{Processes, with_regs_of};
 ghost use Rattle.proc_state.specs.Tie.{Represents};
 
 use io_state::state::IoState;

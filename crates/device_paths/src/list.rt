@@ -3,7 +3,7 @@
 ghost use Rattle.std.specs.Prelude.{◌≡◌, ◌+◌, ◌<◌, ◌≤◌, Ok, MatchOption, length};
 ghost use Rattle.os9_base.specs.Cells.{Cells};
 ghost use Rattle.guest_memory.specs.Tie.{IsSame, cells_of};
-ghost use Rattle.io_rules.specs.PathList.{PathList, path_list, device_list, relative_list, names_from, behind};
+ghost use Rattle.io_model.specs.PathList.{PathList, path_list, device_list, relative_list, names_from, behind};
 ghost use Rattle.device_paths.specs.Listed.{listed, listed_of, listed_by, listed_with, tails};
 ghost use Rattle.device_paths.specs.Standing.{NamesFrom};
 ghost use Rattle.device_paths.specs.Tail.{step_by};

@@ -1,8 +1,8 @@
 //! The path lists of calls.
 
 ghost use Rattle.std.specs.Prelude.{◌≡◌, ◌<◌};
-ghost use Rattle.proc_rules.specs.Processes.{Processes, cells_at};
-ghost use Rattle.io_rules.specs.PathList.{path_list};
+ghost use Rattle.proc_model.specs.Processes.{Processes, cells_at};
+ghost use Rattle.io_model.specs.PathList.{path_list};
 ghost use Rattle.device_paths.specs.Listed.{listed_of};
 ghost use Rattle.proc_state.specs.Tie.{Represents, IsSame};
 

@@ -2,7 +2,7 @@
 
 ghost use Rattle.std.specs.Prelude.{◌≡◌, ◌<◌, ℕ, suc, List};
 ghost use Rattle.guest_memory.specs.Tie.{IsSame, cells_of};
-ghost use Rattle.io_rules.specs.PathList.{names_at};
+ghost use Rattle.io_model.specs.PathList.{names_at};
 ghost use Rattle.device_paths.specs.Standing.{IsFirstRead, NamesStand, NextIsBehind, name_list, named_by, names_after};
 
 use crate::names::{Step, step_over};

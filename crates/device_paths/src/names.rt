@@ -2,7 +2,7 @@
 
 ghost use Rattle.std.specs.Prelude.{◌≡◌, ◌+◌, ◌<◌, ◌≤◌, ℕ, suc, Ok, length};
 ghost use Rattle.guest_memory.specs.Tie.{IsSame, cells_of};
-ghost use Rattle.io_rules.specs.PathList.{behind as behind_model, behind_slash as behind_slash_model, names_behind, is_dots as is_dots_model, is_marked as is_marked_model, names_at};
+ghost use Rattle.io_model.specs.PathList.{behind as behind_model, behind_slash as behind_slash_model, names_behind, is_dots as is_dots_model, is_marked as is_marked_model, names_at};
 ghost use Rattle.os9_base.specs.Name.{is_name_character as is_name_character_model, low_bits};
 ghost use Rattle.device_paths.specs.Tail.{behind_of, tail_of, tail_after, GoesUp, step_by};
 

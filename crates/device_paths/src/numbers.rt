@@ -2,13 +2,13 @@
 
 ghost use Rattle.std.specs.Prelude.{◌≡◌, ℕ, None, List};
 ghost use Rattle.os9_outer.specs.TerminalState.{TerminalState};
-ghost use Rattle.proc_rules.specs.Records.{IsLiving};
-ghost use Rattle.proc_rules.specs.Processes.{Processes};
-ghost use Rattle.io_rules.specs.Attempts.{caller_of};
-ghost use Rattle.io_rules.specs.Close.{i_close as i_close_model};
-ghost use Rattle.io_rules.specs.Dup.{i_dup as i_dup_model};
-ghost use Rattle.io_rules.specs.Io.{pending_at};
-ghost use Rattle.io_rules.specs.declared.io_call.IoCall.TheVariants as Call;
+ghost use Rattle.proc_model.specs.Records.{IsLiving};
+ghost use Rattle.proc_model.specs.Processes.{Processes};
+ghost use Rattle.io_model.specs.Attempts.{caller_of};
+ghost use Rattle.io_model.specs.Close.{i_close as i_close_model};
+ghost use Rattle.io_model.specs.Dup.{i_dup as i_dup_model};
+ghost use Rattle.io_model.specs.Io.{pending_at};
+ghost use Rattle.io_model.specs.declared.io_call.IoCall.TheVariants as Call;
 ghost use Rattle.io_state.specs.Attempt.{Attempts};
 ghost use Rattle.device_paths.specs.Quiet.{Ends};
 ghost use Rattle.proc_state.specs.Tie.{Represents};

@@ -2,15 +2,15 @@
 
 ghost use Rattle.std.specs.Prelude.{◌≡◌, ◌<◌, not, None, Ok, IfOk, IsErr, List, length, vec_len};
 ghost use Rattle.os9_outer.specs.TerminalState.{TerminalState};
-ghost use Rattle.proc_rules.specs.Records.{IsLiving};
-ghost use Rattle.proc_rules.specs.Processes.{Processes};
-ghost use Rattle.io_rules.specs.Attempts.{caller_of};
-ghost use Rattle.io_rules.specs.Io.{Io, pending_at};
-ghost use Rattle.io_rules.specs.Lead.{lead_of};
-ghost use Rattle.io_rules.specs.Open.{opens, opens_lead};
-ghost use Rattle.io_rules.specs.PathList.{PathList};
-ghost use Rattle.io_rules.specs.Step.{Caller, refuses};
-ghost use Rattle.io_rules.specs.declared.io_call.IoCall.TheVariants as Call;
+ghost use Rattle.proc_model.specs.Records.{IsLiving};
+ghost use Rattle.proc_model.specs.Processes.{Processes};
+ghost use Rattle.io_model.specs.Attempts.{caller_of};
+ghost use Rattle.io_model.specs.Io.{Io, pending_at};
+ghost use Rattle.io_model.specs.Lead.{lead_of};
+ghost use Rattle.io_model.specs.Open.{opens, opens_lead};
+ghost use Rattle.io_model.specs.PathList.{PathList};
+ghost use Rattle.io_model.specs.Step.{Caller, refuses};
+ghost use Rattle.io_model.specs.declared.io_call.IoCall.TheVariants as Call;
 ghost use Rattle.io_state.specs.Attempt.{Attempts};
 ghost use Rattle.device_paths.specs.Openings.{begun, opens_found, opens_at};
 ghost use Rattle.device_paths.specs.Places.{search_of, lead_to, allows, IsPlace};

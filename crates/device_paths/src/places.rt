@@ -1,14 +1,14 @@
 //! The places to which path lists lead.
 
 ghost use Rattle.std.specs.Prelude.{◌≡◌, Some, Ok, IfOk, vec_len};
-ghost use Rattle.io_rules.specs.Lead.{lead_of, nowhere, on_device, on_drive, makes_dots as makes_dots_model, unless_slash as unless_slash_model};
-ghost use Rattle.io_rules.specs.PathList.{PathList};
+ghost use Rattle.io_model.specs.Lead.{lead_of, nowhere, on_device, on_drive, makes_dots as makes_dots_model, unless_slash as unless_slash_model};
+ghost use Rattle.io_model.specs.PathList.{PathList};
 ghost use Rattle.device_paths.specs.Places.{search_of, lead_to, allows as allows_model, IsDevice, IsPlace};
 ghost use Rattle.device_paths.specs.Listed.{listed};
 
 use crate::list::Listed;
 use device_table::devices::{Dev, Devices};
-use io_rules::modes::{MODE_EXECUTE, MODE_READ, MODE_WRITE};
+use io_model::modes::{MODE_EXECUTE, MODE_READ, MODE_WRITE};
 use os9_base::errors::{E_BPNAM, E_MNF, E_PNNF};
 
 /// What a call looks for.

@@ -2,12 +2,12 @@
 
 ghost use Rattle.std.specs.Prelude.{◌≡◌, ◌<◌, ℕ, None, List, length};
 ghost use Rattle.os9_outer.specs.TerminalState.{TerminalState};
-ghost use Rattle.proc_rules.specs.Records.{IsLiving};
-ghost use Rattle.proc_rules.specs.Processes.{Processes};
-ghost use Rattle.io_rules.specs.Attempts.{caller_of};
-ghost use Rattle.io_rules.specs.Status as model;
-ghost use Rattle.io_rules.specs.Io.{pending_at};
-ghost use Rattle.io_rules.specs.declared.io_call.IoCall.TheVariants as Call;
+ghost use Rattle.proc_model.specs.Records.{IsLiving};
+ghost use Rattle.proc_model.specs.Processes.{Processes};
+ghost use Rattle.io_model.specs.Attempts.{caller_of};
+ghost use Rattle.io_model.specs.Status as model;
+ghost use Rattle.io_model.specs.Io.{pending_at};
+ghost use Rattle.io_model.specs.declared.io_call.IoCall.TheVariants as Call;
 ghost use Rattle.io_state.specs.Attempt.{Attempts};
 ghost use Rattle.io_state.specs.Sound.{IsThere};
 ghost use Rattle.device_paths.specs.Quiet.{Ends};
@@ -15,7 +15,7 @@ ghost use Rattle.proc_state.specs.Tie.{Represents};
 
 use crate::ends::{answer, refuse};
 use io_model::path::Target;
-use io_rules::status::{OPTION_BYTES, SS_EOF, SS_OPT, SS_READY};
+use io_model::status::{OPTION_BYTES, SS_EOF, SS_OPT, SS_READY};
 use io_state::state::IoState;
 use os9_base::call::CallEnd;
 use os9_base::errors::{E_BPADDR, E_BPNUM, E_NOTRDY, E_UNKSVC};

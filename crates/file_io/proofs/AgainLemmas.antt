@@ -2,9 +2,9 @@
 use Rattle.std.proofs.Common.{◌≡◌, ℕ, Option, Some, None, IfSome, List, subst}
 use Rattle.os9_base.specs.declared.registers.Regs.{Regs}
 use Rattle.io_model.specs.declared.pending.PendingCall.{PendingCall}
-use Rattle.io_rules.specs.Again.{IsAgain, IsPending, KeepsCount, path_number}
-use Rattle.io_rules.specs.Io.{Io}
-use Rattle.io_rules.specs.declared.io_call.IoCall.{IoCall}
+use Rattle.io_model.specs.Again.{IsAgain, IsPending, KeepsCount, path_number}
+use Rattle.io_model.specs.Io.{Io}
+use Rattle.io_model.specs.declared.io_call.IoCall.{IoCall}
 use Rattle.lock_model.specs.Locks.{request_of}
 use Rattle.lock_model.specs.declared.lock.Request.{Request}
 use Rattle.file_state.proofs.AskingLemmas.{may-ask as may-ask-on, no-read-again}

@@ -2,16 +2,16 @@
 use Rattle.std.proofs.Common.{◌≡◌, ◌≢◌, ◌<◌, ◌∙◌, ℕ, not, Option, Some, None, is_none, List, ap, refl, subst, arith}
 use Rattle.os9_base.specs.declared.calls.TheConstants.{F_PERR, I_WRITE, I_WRITLN}
 use Rattle.os9_base.specs.declared.errors.TheConstants.{E_BMODE, E_BPADDR}
-use Rattle.proc_rules.specs.Processes.{Processes, regs_at}
-use Rattle.proc_rules.specs.UserBytes.{user_bytes}
+use Rattle.proc_model.specs.Processes.{Processes, regs_at}
+use Rattle.proc_model.specs.UserBytes.{user_bytes}
 use Rattle.io_model.specs.declared.terminal.ReadKind.TheVariants.{Bytes, WholeLine}
-use Rattle.io_rules.specs.Io.{Io, open_path}
-use Rattle.io_rules.specs.Modes.{can_read, can_write}
-use Rattle.io_rules.specs.Read.{i_read as reads_device, i_readln as reads_device_line}
-use Rattle.io_rules.specs.Write.{i_write as writes_device, i_writln as writes_device_line, f_perr as tells_device, error_line}
-use Rattle.io_rules.specs.declared.modes.TheConstants.{STANDARD_ERROR}
+use Rattle.io_model.specs.Io.{Io, open_path}
+use Rattle.io_model.specs.Modes.{can_read, can_write}
+use Rattle.io_model.specs.Read.{i_read as reads_device, i_readln as reads_device_line}
+use Rattle.io_model.specs.Write.{i_write as writes_device, i_writln as writes_device_line, f_perr as tells_device, error_line}
+use Rattle.io_model.specs.declared.modes.TheConstants.{STANDARD_ERROR}
 use Rattle.os9_base.specs.declared.registers.Regs.{Regs}
-use Rattle.proc_rules.specs.Records.{record_at}
+use Rattle.proc_model.specs.Records.{record_at}
 use Rattle.proc_state.proofs.Entered.{represented}
 use Rattle.proc_state.specs.Tie.{Represents, processes_of}
 use Rattle.proc_state.specs.declared.state.ProcState.{ProcState}

@@ -3,10 +3,10 @@ use Rattle.std.proofs.Common.{◌≡◌, ℕ, ◌+◌, false, Option, Some, None
 use Rattle.std.proofs.lemmas.Bool.{false≢true}
 use Rattle.os9_base.specs.declared.call.CallEnd.{CallEnd}
 use Rattle.os9_base.specs.declared.registers.Regs.{Regs}
-use Rattle.proc_rules.specs.Processes.{Processes}
+use Rattle.proc_model.specs.Processes.{Processes}
 use Rattle.io_model.specs.Path.{desc_of, with_desc}
 use Rattle.io_model.specs.declared.path.Desc.{Desc}
-use Rattle.io_rules.specs.Io.{Io, with_call, with_paths}
+use Rattle.io_model.specs.Io.{Io, with_call, with_paths}
 use Rattle.proc_state.specs.declared.state.ProcState.{ProcState}
 use Rattle.file_state.specs.declared.state.OpenFile.{OpenFile}
 use Rattle.file_io.specs.Ending.{IsDone, with_bytes}

@@ -7,7 +7,7 @@ use Rattle.rbf_access.specs.Mounted.{Represents}
 use Rattle.rbf_access.specs.declared.volume.Volume.{Volume}
 use Rattle.rbf_model.specs.File.{DiskFile}
 use Rattle.rbf_model.specs.Volume.{DiskVolume}
-use Rattle.io_rules.specs.Io.{Io, OpenPath, open_path}
+use Rattle.io_model.specs.Io.{Io, OpenPath, open_path}
 use Rattle.file_drives.proofs.MountedLemmas.{mounted-below}
 use Rattle.file_drives.specs.Drives.{DriveView}
 use Rattle.file_drives.specs.Mounted.{AgreesOnDrive, AreMounted, HasDataFileAt, HasFileAt, kept_at, mounted_at}

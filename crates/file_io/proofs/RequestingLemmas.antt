@@ -9,9 +9,9 @@ use Rattle.os9_base.specs.declared.call.CallEnd.{CallEnd}
 use Rattle.os9_base.specs.declared.errors.TheConstants.{E_EOF}
 use Rattle.os9_base.specs.declared.registers.TimePacket.{TimePacket}
 use Rattle.os9_outer.specs.TerminalState.{TerminalState}
-use Rattle.proc_rules.specs.Processes.{Processes, regs_at}
+use Rattle.proc_model.specs.Processes.{Processes, regs_at}
 use Rattle.io_model.specs.declared.terminal.ReadKind.{ReadKind}
-use Rattle.io_rules.specs.Io.{with_call}
+use Rattle.io_model.specs.Io.{with_call}
 use Rattle.lock_model.specs.Records.{with_waiting}
 use Rattle.lock_model.specs.declared.lock.Grant.{Grant}
 use Rattle.lock_model.specs.declared.lock.Grant.TheVariants.{Granted, Locked, Deadlock, Wait}

@@ -10,9 +10,9 @@ use Rattle.os9_base.specs.declared.errors.TheConstants.{E_FULL}
 use Rattle.os9_base.specs.declared.registers.Regs.{Regs}
 use Rattle.os9_base.specs.declared.registers.TimePacket.{TimePacket}
 use Rattle.os9_outer.specs.TerminalState.{TerminalState}
-use Rattle.proc_rules.specs.Processes.{Processes}
-use Rattle.io_rules.specs.Io.{with_call}
-use Rattle.io_rules.specs.Step.{answers}
+use Rattle.proc_model.specs.Processes.{Processes}
+use Rattle.io_model.specs.Io.{with_call}
+use Rattle.io_model.specs.Step.{answers}
 use Rattle.lock_model.specs.Records.{with_waiting}
 use Rattle.lock_model.specs.declared.lock.Grant.{Grant}
 use Rattle.lock_model.specs.declared.lock.Grant.TheVariants.{Granted, Locked, Deadlock, Wait}

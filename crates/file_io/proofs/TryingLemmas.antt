@@ -6,10 +6,10 @@ use Rattle.os9_base.specs.declared.call.CallEnd.{CallEnd}
 use Rattle.os9_base.specs.declared.registers.Regs.{Regs}
 use Rattle.os9_base.specs.declared.registers.TimePacket.{TimePacket}
 use Rattle.os9_outer.specs.TerminalState.{TerminalState}
-use Rattle.proc_rules.specs.Processes.{Processes, regs_at}
-use Rattle.io_rules.specs.Io.{Io, with_call}
-use Rattle.io_rules.specs.Step.{answers}
-use Rattle.proc_rules.specs.Records.{record_at}
+use Rattle.proc_model.specs.Processes.{Processes, regs_at}
+use Rattle.io_model.specs.Io.{Io, with_call}
+use Rattle.io_model.specs.Step.{answers}
+use Rattle.proc_model.specs.Records.{record_at}
 use Rattle.proc_state.specs.Tie.{Represents}
 use Rattle.proc_state.specs.declared.state.ProcState.{ProcState}
 use Rattle.file_drives.specs.Drives.{DriveView}

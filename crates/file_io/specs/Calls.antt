@@ -1,9 +1,9 @@
 -- The greatest number of drive calls in an attempt to read or write the file of a path (this project's own).
 use Rattle.std.specs.Prelude.{ℕ, ◌+◌, List, length, if◌then◌else◌}
 use Rattle.std.specs.Option.{option_map_or}
-use Rattle.io_rules.specs.Write.{error_line}
+use Rattle.io_model.specs.Write.{error_line}
 use Rattle.lock_model.specs.declared.lock.Held.{Held}
-use Rattle.io_rules.specs.declared.modes.TheConstants.{STANDARD_ERROR}
+use Rattle.io_model.specs.declared.modes.TheConstants.{STANDARD_ERROR}
 use Rattle.rbf_access.specs.Reading.{read_calls}
 use Rattle.rbf_change.specs.Calls.{cluster_size}
 use Rattle.rbf_change.specs.Growth.{clusters_needed}

@@ -4,10 +4,10 @@ use Rattle.os9_base.specs.declared.call.CallEnd.{CallEnd}
 use Rattle.os9_base.specs.declared.call.CallEnd.TheVariants.{Done, Error, NoMemory}
 use Rattle.os9_base.specs.declared.errors.TheConstants.{E_EOF}
 use Rattle.os9_base.specs.declared.registers.Regs.{Regs}
-use Rattle.proc_rules.specs.Processes.{Processes, with_memory, with_regs_of}
+use Rattle.proc_model.specs.Processes.{Processes, with_memory, with_regs_of}
 use Rattle.proc_model.specs.MemoryChanges.{stored}
 use Rattle.io_model.specs.declared.terminal.ReadKind.{ReadKind}
-use Rattle.io_rules.specs.Io.{Io, with_call}
+use Rattle.io_model.specs.Io.{Io, with_call}
 use Rattle.lock_model.specs.Records.{Records, holding, written_by}
 use Rattle.lock_model.specs.declared.lock.Held.{Held}
 use Rattle.proc_state.specs.Tie.{Represents}

@@ -3,8 +3,8 @@ use Rattle.std.specs.Prelude.{◌≡◌, ℕ, true, Option, Some, List}
 use Rattle.rbf_model.specs.File.{DiskFile}
 use Rattle.rbf_model.specs.Volume.{DiskVolume}
 use Rattle.io_model.specs.Path.{with_desc}
-use Rattle.io_rules.specs.Io.{Io, with_paths}
-use Rattle.io_rules.specs.Modes.{can_write}
+use Rattle.io_model.specs.Io.{Io, with_paths}
+use Rattle.io_model.specs.Modes.{can_write}
 use Rattle.rbf_access.specs.declared.volume.Volume.{Volume}
 use Rattle.file_drives.specs.Drives.{DriveView}
 use Rattle.file_drives.specs.Mounted.{HasDataFileAt, HasFileAt}

@@ -3,14 +3,14 @@ use Rattle.std.specs.Prelude.{◌≡◌, ◌≢◌, ℕ, true, IfSome, is_none, 
 use Rattle.os9_base.specs.Cells.{Cells, FitsIn}
 use Rattle.os9_base.specs.declared.errors.TheConstants.{E_BPADDR}
 use Rattle.os9_base.specs.declared.registers.Regs.{Regs}
-use Rattle.proc_rules.specs.UserBytes.{user_bytes}
+use Rattle.proc_model.specs.UserBytes.{user_bytes}
 use Rattle.io_model.specs.declared.terminal.ReadKind.{ReadKind}
-use Rattle.io_rules.specs.Io.{Io}
+use Rattle.io_model.specs.Io.{Io}
 use Rattle.lock_model.specs.Laws.{Covers}
 use Rattle.lock_model.specs.Locks.{Locks, request_of}
 use Rattle.lock_model.specs.Records.{holding}
 use Rattle.lock_model.specs.declared.lock.Held.{Held}
-use Rattle.io_rules.specs.Modes.{can_read}
+use Rattle.io_model.specs.Modes.{can_read}
 use Rattle.rbf_change.specs.Contents.{bytes_from}
 use Rattle.rbf_model.specs.File.{DiskFile}
 use Rattle.file_rules.specs.Locking.{is_for_update}

@@ -1,8 +1,8 @@
 -- What a write of bytes asks for.
 use Rattle.std.specs.Prelude.{◌≡◌, ◌≢◌, ℕ, ◌<◌, IsSome}
 use Rattle.os9_base.specs.declared.registers.Regs.{Regs}
-use Rattle.io_rules.specs.Codes.{direction_of}
-use Rattle.io_rules.specs.Io.{Io}
+use Rattle.io_model.specs.Codes.{direction_of}
+use Rattle.io_model.specs.Io.{Io}
 use Rattle.lock_model.specs.Locks.{Locks}
 use Rattle.file_state.specs.Asking.{MayAsk}
 use Rattle.file_state.specs.declared.state.OpenFile.{OpenFile}

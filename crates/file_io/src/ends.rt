@@ -2,10 +2,10 @@
 
 ghost use Rattle.std.specs.Prelude.{◌≡◌, ◌<◌, None};
 ghost use Rattle.file_state.specs.Context.{InFileCall};
-ghost use Rattle.proc_rules.specs.Processes.{Processes, with_regs_of};
+ghost use Rattle.proc_model.specs.Processes.{Processes, with_regs_of};
 ghost use Rattle.file_io.specs.Opened.{IsPathOf, moved_to};
-ghost use Rattle.io_rules.specs.Io.{with_call};
-ghost use Rattle.proc_rules.specs.Records.{IsLiving};
+ghost use Rattle.io_model.specs.Io.{with_call};
+ghost use Rattle.proc_model.specs.Records.{IsLiving};
 ghost use Rattle.proc_state.specs.Tie.{Represents};
 ghost use Rattle.io_state.specs.Sound.{ReadsNoTerminal};
 

@@ -1,7 +1,7 @@
 //! Bytes of files in the buffer, on their way to the memory of a process.
 
 ghost use Rattle.std.specs.Prelude.{◌≡◌, ◌+◌, ◌<◌, ◌≤◌, ◌^◌, IfOk, IfSome, IsSome, OnErr, length, take};
-ghost use Rattle.proc_rules.specs.Processes.{Processes, with_memory};
+ghost use Rattle.proc_model.specs.Processes.{Processes, with_memory};
 ghost use Rattle.file_io.specs.Reading.{IsLoaded, part_of};
 ghost use Rattle.file_drives.specs.Drives.{drives_seen};
 ghost use Rattle.file_drives.specs.Mounted.{HasFileAt, OnDisks, ReadsFile};

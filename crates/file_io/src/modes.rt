@@ -1,10 +1,10 @@
 //! What a path's mode allows.
 
 ghost use Rattle.std.specs.Prelude.{◌≡◌};
-ghost use Rattle.io_rules.specs.Modes.{can_read as can_read_model, can_write as can_write_model};
+ghost use Rattle.io_model.specs.Modes.{can_read as can_read_model, can_write as can_write_model};
 ghost use Rattle.file_rules.specs.Locking.{is_for_update as is_for_update_model};
 
-use io_rules::modes::{MODE_EXECUTE, MODE_READ, MODE_WRITE};
+use io_model::modes::{MODE_EXECUTE, MODE_READ, MODE_WRITE};
 
 /// May a path of this mode be read?
 pub(crate) fn can_read(mode: u8) -> bool

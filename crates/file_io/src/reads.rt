@@ -3,7 +3,7 @@
 ghost use Rattle.io_state.specs.Context.{InCall, SameTerminals};
 ghost use Rattle.file_state.specs.Context.{InFileCall, machine_seen};
 ghost use Rattle.std.specs.Prelude.{◌≡◌, ◌+◌, ◌<◌, ◌≤◌, ◌^◌, List, length, take};
-ghost use Rattle.proc_rules.specs.Processes.{Processes};
+ghost use Rattle.proc_model.specs.Processes.{Processes};
 ghost use Rattle.file_io.specs.Calls.{granted_read_calls, i_read_calls, reading_attempt_calls};
 ghost use Rattle.file_io.specs.Ending.{EndsFound, GivesLocked};
 ghost use Rattle.file_io.specs.Opened.{IsOnFile, IsOpened, IsPathOf};
@@ -16,11 +16,11 @@ ghost use Rattle.file_state.specs.Asking.{IsGranted, TriesAgain};
 ghost use Rattle.file_state.specs.Lacks.{TriesWithin};
 ghost use Rattle.file_state.specs.Tie.{IsSound};
 ghost use Rattle.guest_memory.specs.Tie.{cells_of};
-ghost use Rattle.io_rules.specs.declared.io_call.IoCall.TheVariants as Device;
+ghost use Rattle.io_model.specs.declared.io_call.IoCall.TheVariants as Device;
 ghost use Rattle.os9_base.specs.Cells.{FitsIn};
 ghost use Rattle.os9_base.specs.declared.registers.TimePacket.{TimePacket};
 ghost use Rattle.os9_outer.specs.TerminalState.{TerminalState};
-ghost use Rattle.proc_rules.specs.Records.{IsLiving};
+ghost use Rattle.proc_model.specs.Records.{IsLiving};
 ghost use Rattle.file_drives.specs.Drives.{drives_seen};
 ghost use Rattle.proc_state.specs.Tie.{Represents};
 

@@ -2,7 +2,7 @@
 
 ghost use Rattle.file_state.specs.Context.{InFileCall, beside};
 ghost use Rattle.std.specs.Prelude.{◌≡◌, List};
-ghost use Rattle.proc_rules.specs.Processes.{Processes};
+ghost use Rattle.proc_model.specs.Processes.{Processes};
 ghost use Rattle.file_io.specs.Calls.{i_seek_calls};
 ghost use Rattle.file_io.specs.Opened.{IsOpened};
 ghost use Rattle.file_drives.specs.Drives.{DriveView};
@@ -10,11 +10,11 @@ ghost use Rattle.file_rules.specs.Seek as model;
 ghost use Rattle.file_rules.specs.Seek.{seeks_nothing};
 ghost use Rattle.file_rules.specs.declared.path_call.PathCall.TheVariants as Call;
 ghost use Rattle.file_state.specs.Counted.{AttemptsWithin};
-ghost use Rattle.io_rules.specs.Attempts.{caller_of};
+ghost use Rattle.io_model.specs.Attempts.{caller_of};
 ghost use Rattle.os9_base.specs.declared.registers.TimePacket.{TimePacket};
 ghost use Rattle.os9_outer.specs.TerminalState.{TerminalState};
 ghost use Rattle.device_paths.specs.Quiet.{Ends};
-ghost use Rattle.proc_rules.specs.Records.{IsLiving};
+ghost use Rattle.proc_model.specs.Records.{IsLiving};
 ghost use Rattle.proc_state.specs.Tie.{Represents};
 ghost use Rattle.io_state.specs.Sound.{ReadsNoTerminal};
 

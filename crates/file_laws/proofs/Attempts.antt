@@ -7,15 +7,15 @@ use Rattle.os9_base.specs.declared.call.CallEnd.{CallEnd}
 use Rattle.os9_base.specs.declared.registers.Regs.{Regs}
 use Rattle.os9_base.specs.declared.registers.TimePacket.{TimePacket}
 use Rattle.os9_outer.specs.TerminalState.{TerminalState}
-use Rattle.proc_rules.specs.CallResult.{CallResult}
-use Rattle.proc_rules.specs.Processes.{Processes}
-use Rattle.proc_rules.specs.ModuleLinks.{Entered}
-use Rattle.proc_rules.specs.Chain.{f_chain}
-use Rattle.proc_rules.specs.Fork.{f_fork}
-use Rattle.proc_rules.specs.Program.{Program}
-use Rattle.io_rules.specs.Attempts.{pending_in}
-use Rattle.io_rules.specs.Dup.{i_dup}
-use Rattle.io_rules.specs.Io.{with_call}
+use Rattle.proc_model.specs.CallResult.{CallResult}
+use Rattle.proc_model.specs.Processes.{Processes}
+use Rattle.proc_model.specs.ModuleLinks.{Entered}
+use Rattle.proc_model.specs.Chain.{f_chain}
+use Rattle.proc_model.specs.Fork.{f_fork}
+use Rattle.proc_model.specs.Program.{Program}
+use Rattle.io_model.specs.Attempts.{pending_in}
+use Rattle.io_model.specs.Dup.{i_dup}
+use Rattle.io_model.specs.Io.{with_call}
 use Rattle.file_rules.specs.Attempts.{AskerAttempts, FileAttempts, asker_of, file_step, files_after}
 use Rattle.file_rules.specs.Files.{Files, Asker, NoneFailed, with_io}
 use Rattle.file_rules.specs.Load.{LoadAttempts}

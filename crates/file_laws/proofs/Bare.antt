@@ -9,8 +9,8 @@ use Rattle.os9_base.specs.declared.registers.TimePacket.{TimePacket}
 use Rattle.os9_outer.specs.TerminalState.{TerminalState}
 use Rattle.os9_base.specs.declared.name_fault.NameFault.{NameFault}
 use Rattle.os9_base.specs.declared.name_fault.NameFault.TheVariants.{Unreadable, NoName}
-use Rattle.proc_rules.specs.CallResult.{CallResult}
-use Rattle.proc_rules.specs.Processes.{Processes}
+use Rattle.proc_model.specs.CallResult.{CallResult}
+use Rattle.proc_model.specs.Processes.{Processes}
 use Rattle.device_table.specs.Names.{device_of}
 use Rattle.device_table.specs.declared.devices.Dev.{Dev}
 use Rattle.device_table.specs.declared.devices.Dev.TheVariants.{Drive, Term, Pipe}
@@ -18,16 +18,16 @@ use Rattle.lock_model.specs.Locks.{request_of}
 use Rattle.lock_model.specs.Records.{Records, with_waiting}
 use Rattle.lock_model.specs.declared.lock.Request.{Request}
 use Rattle.rbf_model.specs.Volume.{DiskVolume}
-use Rattle.io_rules.specs.Again.{path_number}
-use Rattle.io_rules.specs.Attempts.{Does, IoAttempts, io_after, io_step, result_of}
-use Rattle.io_rules.specs.Io.{Io, OpenPath, open_path}
-use Rattle.io_rules.specs.Lead.{Lead, a_new_place, lead_by_device, lead_of, on_device, what_is_there, nowhere as leads_nowhere}
-use Rattle.io_rules.specs.Modes.{can_write, is_mode}
-use Rattle.io_rules.specs.Open.{i_create as creates_device, i_open as opens_device, opens_lead, reads_list as reads_device_list}
-use Rattle.io_rules.specs.PathList.{PathList, ends_in_dots, has_slash_behind_device}
-use Rattle.io_rules.specs.Step.{IoEnd, IoStep, answers, fails, keeps, refused as io_refused}
-use Rattle.io_rules.specs.declared.io_call.IoCall.{IoCall}
-use Rattle.io_rules.specs.declared.io_call.IoCall.TheVariants as Device
+use Rattle.io_model.specs.Again.{path_number}
+use Rattle.io_model.specs.Attempts.{Does, IoAttempts, io_after, io_step, result_of}
+use Rattle.io_model.specs.Io.{Io, OpenPath, open_path}
+use Rattle.io_model.specs.Lead.{Lead, a_new_place, lead_by_device, lead_of, on_device, what_is_there, nowhere as leads_nowhere}
+use Rattle.io_model.specs.Modes.{can_write, is_mode}
+use Rattle.io_model.specs.Open.{i_create as creates_device, i_open as opens_device, opens_lead, reads_list as reads_device_list}
+use Rattle.io_model.specs.PathList.{PathList, ends_in_dots, has_slash_behind_device}
+use Rattle.io_model.specs.Step.{IoEnd, IoStep, answers, fails, keeps, refused as io_refused}
+use Rattle.io_model.specs.declared.io_call.IoCall.{IoCall}
+use Rattle.io_model.specs.declared.io_call.IoCall.TheVariants as Device
 use Rattle.file_rules.specs.Attempts.{FileAttempts, asker_of, file_step, files_after, io_effect}
 use Rattle.file_rules.specs.Create.{creates_on_route}
 use Rattle.file_rules.specs.Files.{Files, Asker, directory_of, open_file, open_file_at, place_of_target, volume_at, with_io, with_records}

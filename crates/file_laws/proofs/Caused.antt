@@ -8,9 +8,9 @@ use Rattle.os9_base.specs.declared.name_fault.NameFault.{NameFault}
 use Rattle.os9_base.specs.declared.name_fault.NameFault.TheVariants.{Unreadable, NoName}
 use Rattle.rbf_model.specs.Volume.{DiskVolume}
 use Rattle.rbf_model.specs.Walk.{WalkEnd, arrives, not_allowed, not_found, walk}
-use Rattle.io_rules.specs.Attempts.{Does}
-use Rattle.io_rules.specs.PathList.{PathList}
-use Rattle.io_rules.specs.Step.{IoEffect, answers, fails}
+use Rattle.io_model.specs.Attempts.{Does}
+use Rattle.io_model.specs.PathList.{PathList}
+use Rattle.io_model.specs.Step.{IoEffect, answers, fails}
 use Rattle.file_rules.specs.Files.{Files, volume_at}
 use Rattle.file_rules.specs.Step.{refused, reaches, needs, refuses, FileStep, Deed, leaves_so, as_io, changes, deed_of, done}
 use Rattle.file_rules.specs.Route.{Found, along, list_of, reads_list as reads_list_of, walk_ends, walks}

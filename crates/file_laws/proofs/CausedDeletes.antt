@@ -10,9 +10,9 @@ use Rattle.device_table.specs.declared.devices.Dev.TheVariants.{Drive, Term, Pip
 use Rattle.rbf_model.specs.Volume.{DiskVolume}
 use Rattle.rbf_model.specs.Walk.{WalkEnd, look_up, walk}
 use Rattle.rbf_change.specs.Names.{may_change, may_delete}
-use Rattle.io_rules.specs.Modes.{is_mode}
-use Rattle.io_rules.specs.PathList.{PathList, has_slash_behind_device}
-use Rattle.io_rules.specs.Step.{answers}
+use Rattle.io_model.specs.Modes.{is_mode}
+use Rattle.io_model.specs.PathList.{PathList, has_slash_behind_device}
+use Rattle.io_model.specs.Step.{answers}
 use Rattle.file_rules.specs.Change.{deletes}
 use Rattle.file_rules.specs.Delete.{deletes_file, deletes_in, deletes_named, i_delete, i_deletx}
 use Rattle.file_rules.specs.Files.{Files, Asker, directory_of, volume_at}

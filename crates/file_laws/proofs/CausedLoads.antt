@@ -14,18 +14,18 @@ use Rattle.proc_model.specs.ModuleList.{ModuleEntry, free_number, module_entry_a
 use Rattle.proc_model.specs.Objects.{file_blocks}
 use Rattle.proc_model.specs.declared.memory.MemoryFault.TheVariants.{MemFull, NoRam}
 use Rattle.proc_model.specs.declared.memory.TheConstants.{MOST_LINKS}
-use Rattle.proc_rules.specs.Records.{free_process}
-use Rattle.proc_rules.specs.CallResult.{CallResult, changes, done, needs as call_needs, refuses as call_refuses, refused as call_refused}
-use Rattle.proc_rules.specs.Chain.{f_chain}
-use Rattle.proc_rules.specs.Fork.{f_fork}
-use Rattle.proc_rules.specs.Processes.{Processes, own_at, regs_at, with_memory}
-use Rattle.proc_rules.specs.Link.{links_at, mapped_group}
-use Rattle.proc_rules.specs.ModuleLinks.{Entered, entered_at}
-use Rattle.proc_rules.specs.Program.{Program, asks_for_program, most_pages, program_kind}
+use Rattle.proc_model.specs.Records.{free_process}
+use Rattle.proc_model.specs.CallResult.{CallResult, changes, done, needs as call_needs, refuses as call_refuses, refused as call_refused}
+use Rattle.proc_model.specs.Chain.{f_chain}
+use Rattle.proc_model.specs.Fork.{f_fork}
+use Rattle.proc_model.specs.Processes.{Processes, own_at, regs_at, with_memory}
+use Rattle.proc_model.specs.Link.{links_at, mapped_group}
+use Rattle.proc_model.specs.ModuleLinks.{Entered, entered_at}
+use Rattle.proc_model.specs.Program.{Program, asks_for_program, most_pages, program_kind}
 use Rattle.rbf_model.specs.Volume.{DiskVolume}
 use Rattle.rbf_model.specs.Walk.{WalkEnd, arrives, not_allowed, not_found, walk}
-use Rattle.io_rules.specs.PathList.{PathList}
-use Rattle.io_rules.specs.declared.modes.TheConstants.{MODE_EXECUTE}
+use Rattle.io_model.specs.PathList.{PathList}
+use Rattle.io_model.specs.declared.modes.TheConstants.{MODE_EXECUTE}
 use Rattle.file_rules.specs.Files.{Asker, Files, NoneFailed, volume_at}
 use Rattle.file_rules.specs.Load.{GoesOnLoaded, LoadAttempts, Loaded, Loads, first_entered, links_first, loaded_by, with_file_entered}
 use Rattle.file_rules.specs.Open.{may_open}

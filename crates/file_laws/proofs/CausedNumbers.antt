@@ -7,7 +7,7 @@ use Rattle.os9_base.specs.declared.calls.TheConstants.{F_PERR, I_WRITE, I_WRITLN
 use Rattle.os9_base.specs.declared.errors.TheConstants.{E_BPADDR, E_BPNUM, E_BMODE, E_DEADLK, E_EOF, E_FNA, E_FULL, E_LOCK, E_UNKSVC}
 use Rattle.os9_base.specs.declared.registers.Regs.{Regs}
 use Rattle.os9_outer.specs.TerminalState.{TerminalState}
-use Rattle.proc_rules.specs.UserBytes.{user_bytes}
+use Rattle.proc_model.specs.UserBytes.{user_bytes}
 use Rattle.io_model.specs.declared.terminal.ReadKind.{ReadKind}
 use Rattle.io_model.specs.declared.terminal.ReadKind.TheVariants.{Bytes, WholeLine}
 use Rattle.lock_model.specs.Records.{without_lock}
@@ -19,19 +19,19 @@ use Rattle.rbf_change.specs.Contents.{written}
 use Rattle.rbf_change.specs.Growth.{clusters_needed}
 use Rattle.rbf_change.specs.NewFiles.{owns_file}
 use Rattle.io_model.specs.declared.pending.PendingCall.{PendingCall}
-use Rattle.io_rules.specs.Attempts.{Does, io_step}
-use Rattle.io_rules.specs.Close.{i_close as closes_device}
-use Rattle.io_rules.specs.Io.{OpenPath, open_path}
-use Rattle.io_rules.specs.Modes.{can_read, can_write}
-use Rattle.io_rules.specs.Pipes.{count_regs}
-use Rattle.io_rules.specs.Read.{i_read as reads_device, i_readln as reads_device_line}
-use Rattle.io_rules.specs.Status.{i_getstt as gets_of_device, i_setstt as sets_of_device, options}
-use Rattle.io_rules.specs.Step.{IoEffect, IoStep, answers, fails, keeps, needs as io_needs, done as io_done}
-use Rattle.io_rules.specs.Write.{i_write as writes_device, i_writln as writes_device_line, f_perr as tells_device, error_line}
-use Rattle.io_rules.specs.declared.modes.TheConstants.{STANDARD_ERROR}
-use Rattle.io_rules.specs.declared.status.TheConstants.{SS_OPT, SS_READY, SS_EOF, OPTION_BYTES}
-use Rattle.io_rules.specs.declared.io_call.IoCall.{IoCall}
-use Rattle.io_rules.specs.declared.io_call.IoCall.TheVariants as Device
+use Rattle.io_model.specs.Attempts.{Does, io_step}
+use Rattle.io_model.specs.Close.{i_close as closes_device}
+use Rattle.io_model.specs.Io.{OpenPath, open_path}
+use Rattle.io_model.specs.Modes.{can_read, can_write}
+use Rattle.io_model.specs.Pipes.{count_regs}
+use Rattle.io_model.specs.Read.{i_read as reads_device, i_readln as reads_device_line}
+use Rattle.io_model.specs.Status.{i_getstt as gets_of_device, i_setstt as sets_of_device, options}
+use Rattle.io_model.specs.Step.{IoEffect, IoStep, answers, fails, keeps, needs as io_needs, done as io_done}
+use Rattle.io_model.specs.Write.{i_write as writes_device, i_writln as writes_device_line, f_perr as tells_device, error_line}
+use Rattle.io_model.specs.declared.modes.TheConstants.{STANDARD_ERROR}
+use Rattle.io_model.specs.declared.status.TheConstants.{SS_OPT, SS_READY, SS_EOF, OPTION_BYTES}
+use Rattle.io_model.specs.declared.io_call.IoCall.{IoCall}
+use Rattle.io_model.specs.declared.io_call.IoCall.TheVariants as Device
 use Rattle.file_rules.specs.Change.{Change, writes, sizes, sets_attributes}
 use Rattle.file_rules.specs.Files.{Files, Asker, OpenFile, open_file, with_position, with_records, with_ticks}
 use Rattle.file_rules.specs.Close.{files_after_close, i_close}

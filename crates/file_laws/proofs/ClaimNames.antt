@@ -15,12 +15,12 @@ use Rattle.file_laws.proofs.Steps.{IsFound}
 use Rattle.rbf_change.specs.Names.{may_change, may_delete}
 use Rattle.rbf_change.specs.NewFiles.{entry_clusters}
 use Rattle.io_model.specs.Path.{new_number, paths_after_begin}
-use Rattle.io_rules.specs.Io.{new_desc}
-use Rattle.io_rules.specs.Modes.{can_write, is_mode}
-use Rattle.io_rules.specs.Open.{opened_regs}
-use Rattle.io_rules.specs.PathList.{PathList, ends_in_dots, has_slash_behind_device}
-use Rattle.io_rules.specs.Step.{answers}
-use Rattle.io_rules.specs.declared.io_call.IoCall.TheVariants as Served
+use Rattle.io_model.specs.Io.{new_desc}
+use Rattle.io_model.specs.Modes.{can_write, is_mode}
+use Rattle.io_model.specs.Open.{opened_regs}
+use Rattle.io_model.specs.PathList.{PathList, ends_in_dots, has_slash_behind_device}
+use Rattle.io_model.specs.Step.{answers}
+use Rattle.io_model.specs.declared.io_call.IoCall.TheVariants as Served
 use Rattle.file_rules.specs.Change.{creates, deletes, makes_directory}
 use Rattle.file_rules.specs.ChgDir.{goes_on_route, goes_to, i_chgdir, may_go_to}
 use Rattle.file_rules.specs.Create.{clusters_for, creates_in, creates_on_route, creates_with_path, has_room_for, i_create, opens_new}

@@ -14,9 +14,9 @@ use Rattle.rbf_model.specs.File.{DiskFile, is_directory}
 use Rattle.rbf_model.specs.Volume.{DiskVolume}
 use Rattle.rbf_model.specs.Walk.{WalkEnd, arrives, not_allowed, not_found, walk}
 use Rattle.io_model.specs.declared.terminal.ReadKind.{ReadKind}
-use Rattle.io_rules.specs.Attempts.{pending_in}
-use Rattle.io_rules.specs.PathList.{PathList}
-use Rattle.io_rules.specs.Step.{IoStep, answers, fails, keeps}
+use Rattle.io_model.specs.Attempts.{pending_in}
+use Rattle.io_model.specs.PathList.{PathList}
+use Rattle.io_model.specs.Step.{IoStep, answers, fails, keeps}
 use Rattle.file_rules.specs.Change.{Change, creates, deletes, makes_directory, sets_attributes, sizes, writes}
 use Rattle.file_rules.specs.Files.{Asker, Files, OpenFile, open_file, volume_at}
 use Rattle.file_rules.specs.Locking.{answer_to, asks, asks_by, call_of, waiting_in}

@@ -6,9 +6,9 @@ use Rattle.os9_base.specs.declared.registers.Regs.{Regs}
 use Rattle.os9_outer.specs.TerminalState.{TerminalState}
 use Rattle.lock_model.specs.Records.{Records, with_waiting, without_lock, written_by}
 use Rattle.lock_model.specs.declared.lock.Request.{Request}
-use Rattle.io_rules.specs.Attempts.{pending_in}
-use Rattle.io_rules.specs.Step.{IoEnd, answers, fails, keeps}
-use Rattle.io_rules.specs.declared.io_call.IoCall.TheVariants as Device
+use Rattle.io_model.specs.Attempts.{pending_in}
+use Rattle.io_model.specs.Step.{IoEnd, answers, fails, keeps}
+use Rattle.io_model.specs.declared.io_call.IoCall.TheVariants as Device
 use Rattle.file_rules.specs.Attempts.{file_step}
 use Rattle.file_rules.specs.Change.{Change}
 use Rattle.file_rules.specs.Files.{Asker, Files}

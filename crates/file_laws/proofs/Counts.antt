@@ -3,7 +3,7 @@ use Rattle.std.proofs.Common.{◌≡◌, ℕ, Bool, true, Some, is_some, List, l
 use Rattle.std.proofs.lemmas.Bool.{cases_eq}
 use Rattle.std.proofs.lemmas.List.{length-set}
 use Rattle.rbf_model.specs.Volume.{DiskVolume}
-use Rattle.io_rules.specs.Io.{Io}
+use Rattle.io_model.specs.Io.{Io}
 use Rattle.file_rules.specs.Files.{Files, DriveState, NoneFailed, volume_at, with_directories_of, with_drives, with_io, with_volume, with_records}
 use Rattle.lock_model.specs.Records.{Records}
 use Rattle.file_rules.specs.declared.places.Directories.{Directories}

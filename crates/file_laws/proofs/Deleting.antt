@@ -12,9 +12,9 @@ use Rattle.rbf_model.specs.File.{DiskFile, is_directory}
 use Rattle.rbf_model.specs.Volume.{DiskVolume}
 use Rattle.rbf_model.specs.Walk.{file_permits, look_up}
 use Rattle.rbf_change.specs.Names.{may_change, may_delete}
-use Rattle.io_rules.specs.Modes.{is_mode}
-use Rattle.io_rules.specs.PathList.{PathList}
-use Rattle.io_rules.specs.Step.{answers}
+use Rattle.io_model.specs.Modes.{is_mode}
+use Rattle.io_model.specs.PathList.{PathList}
+use Rattle.io_model.specs.Step.{answers}
 use Rattle.file_rules.specs.Change.{deletes}
 use Rattle.file_rules.specs.Delete.{deletes_by, deletes_file, deletes_in, deletes_named, i_delete, i_deletx}
 use Rattle.file_rules.specs.Files.{Files, Asker, directory_of, place_of_target, volume_at, with_volume}

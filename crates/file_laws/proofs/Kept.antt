@@ -12,7 +12,7 @@ use Rattle.rbf_model.specs.Geometry.{geometry}
 use Rattle.rbf_model.specs.File.{DiskFile, is_directory}
 use Rattle.rbf_model.specs.Volume.{DiskVolume}
 use Rattle.rbf_change.specs.Calls.{cluster_size}
-use Rattle.io_rules.specs.Io.{Io}
+use Rattle.io_model.specs.Io.{Io}
 use Rattle.file_rules.specs.Files.{Files, DriveState, no_directories, directories_at, directory_of, volume_at, place_of_target, with_io, with_directories_of, with_volume, with_drives, with_records}
 use Rattle.lock_model.specs.Records.{Records}
 use Rattle.file_rules.specs.declared.places.Directories.{Directories}

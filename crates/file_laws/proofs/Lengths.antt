@@ -5,9 +5,9 @@ use Rattle.std.proofs.lemmas.Bool.{ltb-true}
 use Rattle.std.proofs.lemmas.Option.{none-some, same_Some}
 use Rattle.os9_base.specs.Cells.{Cells, FitsIn}
 use Rattle.os9_base.specs.UserNames.{user_cell}
-use Rattle.proc_rules.specs.UserBytes.{byte_before, user_bytes}
+use Rattle.proc_model.specs.UserBytes.{byte_before, user_bytes}
 use Rattle.io_model.specs.declared.keys.TheConstants.{RETURN}
-use Rattle.io_rules.specs.Transfer.{line_at, line_with}
+use Rattle.io_model.specs.Transfer.{line_at, line_with}
 
 pub user-length : (cells : Cells) (at count : ℕ) (bytes : List ℕ) → user_bytes cells at count ≡ Some bytes → length bytes ≡ count
 user-length cells at zero bytes is = ap (length {A = ℕ}) (sym (same_Some [] bytes is))

@@ -2,11 +2,11 @@
 use Rattle.std.proofs.Common.{◌≡◌, ℕ, Bool, true, false, Result, Ok, length, refl, sym, ap, ◌∙◌, inl, inr}
 use Rattle.os9_base.specs.declared.errors.TheConstants.{E_BMODE}
 use Rattle.os9_base.specs.declared.name_fault.NameFault.{NameFault}
-use Rattle.io_rules.specs.Lead.{Lead, a_new_place, lead_of, what_is_there}
-use Rattle.io_rules.specs.Modes.{can_write, is_mode}
-use Rattle.io_rules.specs.Open.{i_create as creates_device, i_open as opens_device, opens_lead, reads_list as reads_device_list}
-use Rattle.io_rules.specs.PathList.{PathList}
-use Rattle.io_rules.specs.Step.{IoStep}
+use Rattle.io_model.specs.Lead.{Lead, a_new_place, lead_of, what_is_there}
+use Rattle.io_model.specs.Modes.{can_write, is_mode}
+use Rattle.io_model.specs.Open.{i_create as creates_device, i_open as opens_device, opens_lead, reads_list as reads_device_list}
+use Rattle.io_model.specs.PathList.{PathList}
+use Rattle.io_model.specs.Step.{IoStep}
 use Rattle.file_rules.specs.Create.{creates_on_route, i_create}
 use Rattle.file_rules.specs.Files.{Files, Asker}
 use Rattle.file_rules.specs.Open.{i_open, is_for_execution, opens_on_route, tests_mode}

@@ -1,12 +1,12 @@
 -- Loads, and starts of programs in files, change only what the drives counted.
 use Rattle.std.proofs.Common.{◌≡◌, ◌⊎◌, ℕ, Option, Some, None, Result, Err, refl, sym, subst, inl, inr}
 use Rattle.std.specs.Prelude.{MatchOption}
-use Rattle.proc_rules.specs.CallResult.{CallResult}
-use Rattle.proc_rules.specs.Chain.{f_chain}
-use Rattle.proc_rules.specs.Fork.{f_fork}
-use Rattle.proc_rules.specs.Processes.{Processes}
-use Rattle.proc_rules.specs.ModuleLinks.{Entered}
-use Rattle.proc_rules.specs.Program.{Program}
+use Rattle.proc_model.specs.CallResult.{CallResult}
+use Rattle.proc_model.specs.Chain.{f_chain}
+use Rattle.proc_model.specs.Fork.{f_fork}
+use Rattle.proc_model.specs.Processes.{Processes}
+use Rattle.proc_model.specs.ModuleLinks.{Entered}
+use Rattle.proc_model.specs.Program.{Program}
 use Rattle.file_rules.specs.Files.{Asker, Files, NoneFailed, with_drives}
 use Rattle.file_rules.specs.Load.{GoesOnLoaded, LoadAttempts, Loaded, links_first}
 use Rattle.file_rules.specs.Program.{ChainAttempts, ForkAttempts, StartsFile, chains, forks, named_program, starts_first, tests_program}

@@ -13,12 +13,12 @@ use Rattle.rbf_model.specs.Walk.{look_up}
 use Rattle.rbf_change.specs.Calls.{cluster_size, free_total}
 use Rattle.rbf_change.specs.Names.{may_change}
 use Rattle.rbf_change.specs.NewFiles.{Creates, directory_plan, entry_clusters, file_plan}
-use Rattle.io_rules.specs.Io.{new_desc, with_paths}
-use Rattle.io_rules.specs.Lead.{a_new_place}
-use Rattle.io_rules.specs.Modes.{can_write}
-use Rattle.io_rules.specs.Open.{i_create as opens_for_create}
-use Rattle.io_rules.specs.PathList.{PathList}
-use Rattle.io_rules.specs.Step.{answers}
+use Rattle.io_model.specs.Io.{new_desc, with_paths}
+use Rattle.io_model.specs.Lead.{a_new_place}
+use Rattle.io_model.specs.Modes.{can_write}
+use Rattle.io_model.specs.Open.{i_create as opens_for_create}
+use Rattle.io_model.specs.PathList.{PathList}
+use Rattle.io_model.specs.Step.{answers}
 use Rattle.file_rules.specs.Change.{creates, makes_directory}
 use Rattle.file_rules.specs.Create.{clusters_for, creates_in, creates_on_route, creates_with_path, has_room_for, i_create, opens_new}
 use Rattle.file_rules.specs.Files.{Files, Asker, volume_at, with_volume}

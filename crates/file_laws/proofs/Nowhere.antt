@@ -6,7 +6,7 @@ use Rattle.device_table.specs.Names.{device_of}
 use Rattle.device_table.specs.declared.devices.Dev.{Dev}
 use Rattle.device_table.specs.declared.devices.Dev.TheVariants.{Drive, Term, Pipe}
 use Rattle.rbf_model.specs.Volume.{DiskVolume}
-use Rattle.io_rules.specs.PathList.{PathList, ends_in_dots, has_slash_behind_device}
+use Rattle.io_model.specs.PathList.{PathList, ends_in_dots, has_slash_behind_device}
 use Rattle.file_rules.specs.Files.{directory_of, volume_at}
 use Rattle.file_rules.specs.Route.{along, is_root, nowhere, to_device, route_by, route_from, route_of, route_of_device, route_on_drive, route_to_new}
 use Rattle.lock_model.specs.declared.place.FilePlace.{FilePlace}

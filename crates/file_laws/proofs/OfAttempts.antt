@@ -2,10 +2,10 @@
 use Rattle.std.proofs.Common.{◌≡◌, ◌⊎◌, ℕ, Option, Some, None, length, sym, ap, ◌∙◌, subst, refl}
 use Rattle.std.specs.Prelude.{IsSome}
 use Rattle.std.proofs.lemmas.Bool.{false≢true}
-use Rattle.io_rules.specs.Again.{path_number}
-use Rattle.io_rules.specs.Io.{OpenPath, pending_at, open_path}
-use Rattle.io_rules.specs.PathList.{PathList}
-use Rattle.io_rules.specs.declared.io_call.IoCall.TheVariants as Device
+use Rattle.io_model.specs.Again.{path_number}
+use Rattle.io_model.specs.Io.{OpenPath, pending_at, open_path}
+use Rattle.io_model.specs.PathList.{PathList}
+use Rattle.io_model.specs.declared.io_call.IoCall.TheVariants as Device
 use Rattle.file_rules.specs.Attempts.{FileAttempts}
 use Rattle.file_rules.specs.Files.{open_file}
 use Rattle.file_rules.specs.Route.{to_device}

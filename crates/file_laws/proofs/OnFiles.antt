@@ -7,7 +7,7 @@ use Rattle.os9_base.specs.declared.calls.TheConstants.{I_READ, I_READLN, I_WRITE
 use Rattle.io_model.specs.declared.terminal.ReadKind.{ReadKind}
 use Rattle.os9_base.specs.declared.errors.TheConstants.{E_BPADDR, E_BMODE, E_EOF, E_FNA, E_FULL, E_UNKSVC}
 use Rattle.os9_base.specs.declared.registers.Regs.{Regs}
-use Rattle.proc_rules.specs.UserBytes.{user_bytes}
+use Rattle.proc_model.specs.UserBytes.{user_bytes}
 use Rattle.io_model.specs.Line.{first_line}
 use Rattle.io_model.specs.Path.{desc_of, with_desc}
 use Rattle.io_model.specs.declared.path.Desc.{Desc}
@@ -18,16 +18,16 @@ use Rattle.rbf_change.specs.Calls.{cluster_size, free_total, is_free_in, SizesFi
 use Rattle.rbf_change.specs.Contents.{written}
 use Rattle.rbf_change.specs.Growth.{clusters_needed}
 use Rattle.rbf_change.specs.NewFiles.{owns_file}
-use Rattle.io_rules.specs.Io.{Io, with_paths}
-use Rattle.io_rules.specs.Modes.{can_read, can_write}
-use Rattle.io_rules.specs.Pipes.{count_regs}
-use Rattle.io_rules.specs.Read.{i_read as reads_device, i_readln as reads_device_line}
-use Rattle.io_rules.specs.Status.{i_getstt as gets_of_device, i_setstt as sets_of_device, options}
-use Rattle.io_rules.specs.Step.{IoStep, answers}
-use Rattle.io_rules.specs.Transfer.{line_at}
-use Rattle.io_rules.specs.Write.{i_write as writes_device, i_writln as writes_device_line, f_perr as tells_device, error_line}
-use Rattle.io_rules.specs.declared.modes.TheConstants.{STANDARD_ERROR}
-use Rattle.io_rules.specs.declared.status.TheConstants.{SS_OPT, SS_READY, SS_EOF, OPTION_BYTES}
+use Rattle.io_model.specs.Io.{Io, with_paths}
+use Rattle.io_model.specs.Modes.{can_read, can_write}
+use Rattle.io_model.specs.Pipes.{count_regs}
+use Rattle.io_model.specs.Read.{i_read as reads_device, i_readln as reads_device_line}
+use Rattle.io_model.specs.Status.{i_getstt as gets_of_device, i_setstt as sets_of_device, options}
+use Rattle.io_model.specs.Step.{IoStep, answers}
+use Rattle.io_model.specs.Transfer.{line_at}
+use Rattle.io_model.specs.Write.{i_write as writes_device, i_writln as writes_device_line, f_perr as tells_device, error_line}
+use Rattle.io_model.specs.declared.modes.TheConstants.{STANDARD_ERROR}
+use Rattle.io_model.specs.declared.status.TheConstants.{SS_OPT, SS_READY, SS_EOF, OPTION_BYTES}
 use Rattle.file_rules.specs.Change.{Change, Makes, MayLeave, writes, sizes, sets_attributes}
 use Rattle.file_rules.specs.Files.{Files, Asker, OpenFile, open_file, with_io, with_position, with_records, with_ticks}
 use Rattle.file_rules.specs.OnFile.{by_kind, moves_bytes, on_file}
@@ -35,7 +35,7 @@ use Rattle.file_rules.specs.Read.{answers_bytes, bytes_at, i_read, i_readln, loc
 use Rattle.file_rules.specs.Close.{files_after_close, i_close}
 use Rattle.file_rules.specs.Locking.{is_for_update, lock_ends, pending_request, request_now}
 use Rattle.lock_model.specs.Records.{Records, ends_lock, holding, without_lock, written_by}
-use Rattle.io_rules.specs.Close.{i_close as closes_device, after_close}
+use Rattle.io_model.specs.Close.{i_close as closes_device, after_close}
 use Rattle.file_rules.specs.Seek.{i_seek, long_of, seeks_nothing}
 use Rattle.file_rules.specs.Status.{asked_bytes, descriptor_front, gets_bytes, gets_descriptor, gets_end, gets_size, gets_status, i_getstt, i_setstt, after_size, lock_claim, locks_bytes, locks_range, long_regs, sets_attributes_of, sets_lock, sets_size, sets_status, sets_ticks, size_claim, sizes_locked}
 use Rattle.file_rules.specs.Step.{FileStep, refused, comes, reaches, changes, leaves_so, done, leaves, needs, refuses, stores}

@@ -8,12 +8,12 @@ use Rattle.io_model.specs.Path.{new_number, paths_after_begin}
 use Rattle.io_model.specs.declared.path.Target.TheVariants.{File, Folder}
 use Rattle.rbf_model.specs.File.{is_directory}
 use Rattle.rbf_model.specs.Walk.{file_permits}
-use Rattle.io_rules.specs.Io.{new_desc, with_paths}
-use Rattle.io_rules.specs.Lead.{what_is_there}
-use Rattle.io_rules.specs.Modes.{can_write, is_mode}
-use Rattle.io_rules.specs.Open.{i_open as opens, opened_regs}
-use Rattle.io_rules.specs.PathList.{PathList}
-use Rattle.io_rules.specs.Step.{answers}
+use Rattle.io_model.specs.Io.{new_desc, with_paths}
+use Rattle.io_model.specs.Lead.{what_is_there}
+use Rattle.io_model.specs.Modes.{can_write, is_mode}
+use Rattle.io_model.specs.Open.{i_open as opens, opened_regs}
+use Rattle.io_model.specs.PathList.{PathList}
+use Rattle.io_model.specs.Step.{answers}
 use Rattle.file_rules.specs.ChgDir.{goes_on_route, goes_to, i_chgdir, may_go_to}
 use Rattle.file_rules.specs.Files.{Files, Asker, directories_at, target_on, with_directories_of, with_directory, with_path_table}
 use Rattle.file_rules.specs.MakDir.{past_list}

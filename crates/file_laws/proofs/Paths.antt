@@ -11,7 +11,7 @@ use Rattle.os9_base.specs.declared.errors.TheConstants.{E_BPADDR, E_BPNUM, E_BMO
 use Rattle.os9_outer.specs.TerminalState.{TerminalState}
 use Rattle.os9_base.specs.declared.name_fault.NameFault.{NameFault}
 use Rattle.os9_base.specs.declared.name_fault.NameFault.TheVariants.{Unreadable, NoName}
-use Rattle.proc_rules.specs.UserBytes.{user_bytes}
+use Rattle.proc_model.specs.UserBytes.{user_bytes}
 use Rattle.io_model.specs.Path.{PathTable, closed_desc, desc_of, free_number, free_path, is_held, new_number, path_at, paths_after_begin, paths_after_close, paths_after_dup, slot_of, with_desc, with_path, with_slot}
 use Rattle.io_model.specs.Pipe.{free_pipe, pipes_after_begin}
 use Rattle.io_model.specs.declared.pending.PendingCall.{PendingCall}
@@ -22,22 +22,22 @@ use Rattle.io_model.specs.declared.path.Target.TheVariants.{File, Folder, Term, 
 use Rattle.io_model.specs.declared.path.TheConstants.{PROCESS_PATHS}
 use Rattle.io_model.specs.declared.terminal.ReadKind.{ReadKind}
 use Rattle.io_model.specs.declared.terminal.ReadKind.TheVariants.{Bytes, WholeLine}
-use Rattle.io_rules.specs.Attempts.{Does}
-use Rattle.io_rules.specs.Close.{after_close, i_close, without_path, without_target}
-use Rattle.io_rules.specs.Dup.{i_dup}
-use Rattle.io_rules.specs.Io.{Io, OpenPath, pending_at, new_desc, open_path, with_paths, with_pipes}
-use Rattle.io_rules.specs.Lead.{Lead, Search, to_terminal, to_pipe, nowhere, lead_of}
-use Rattle.io_rules.specs.Modes.{can_read, can_write}
-use Rattle.io_rules.specs.Open.{begins, opened_regs, opens_lead, opens, reads_list}
-use Rattle.io_rules.specs.PathList.{PathList, path_list}
-use Rattle.io_rules.specs.Processes.{closed_below, closed_if_open, io_ended}
-use Rattle.io_rules.specs.Read.{reads_path, reads_target}
-use Rattle.io_rules.specs.Status.{gets_end, gets_options, gets_ready, gets_status, i_getstt, i_setstt, options, ready_count}
-use Rattle.io_rules.specs.Step.{Caller, IoEffect, IoStep, answers, refused, comes, reads, writes, needs, refuses, done, stores}
-use Rattle.io_rules.specs.Transfer.{call_now, on_path, unless_nothing}
-use Rattle.io_rules.specs.Write.{Sending, f_perr, i_write, i_writln, line_bytes, sends_on, sent_bytes, sent_error, sent_line, writes_target}
-use Rattle.io_rules.specs.declared.modes.TheConstants.{STANDARD_ERROR}
-use Rattle.io_rules.specs.declared.status.TheConstants.{SS_OPT, SS_READY, SS_EOF, OPTION_BYTES}
+use Rattle.io_model.specs.Attempts.{Does}
+use Rattle.io_model.specs.Close.{after_close, i_close, without_path, without_target}
+use Rattle.io_model.specs.Dup.{i_dup}
+use Rattle.io_model.specs.Io.{Io, OpenPath, pending_at, new_desc, open_path, with_paths, with_pipes}
+use Rattle.io_model.specs.Lead.{Lead, Search, to_terminal, to_pipe, nowhere, lead_of}
+use Rattle.io_model.specs.Modes.{can_read, can_write}
+use Rattle.io_model.specs.Open.{begins, opened_regs, opens_lead, opens, reads_list}
+use Rattle.io_model.specs.PathList.{PathList, path_list}
+use Rattle.io_model.specs.Processes.{closed_below, closed_if_open, io_ended}
+use Rattle.io_model.specs.Read.{reads_path, reads_target}
+use Rattle.io_model.specs.Status.{gets_end, gets_options, gets_ready, gets_status, i_getstt, i_setstt, options, ready_count}
+use Rattle.io_model.specs.Step.{Caller, IoEffect, IoStep, answers, refused, comes, reads, writes, needs, refuses, done, stores}
+use Rattle.io_model.specs.Transfer.{call_now, on_path, unless_nothing}
+use Rattle.io_model.specs.Write.{Sending, f_perr, i_write, i_writln, line_bytes, sends_on, sent_bytes, sent_error, sent_line, writes_target}
+use Rattle.io_model.specs.declared.modes.TheConstants.{STANDARD_ERROR}
+use Rattle.io_model.specs.declared.status.TheConstants.{SS_OPT, SS_READY, SS_EOF, OPTION_BYTES}
 use Rattle.file_rules.specs.Files.{Files}
 use Rattle.file_laws.specs.Kinds.{IsOnItsKind}
 use Rattle.file_laws.proofs.Kept.{AreOn}

@@ -10,8 +10,8 @@ use Rattle.lock_model.specs.Locks.{lock_of, request_of}
 use Rattle.lock_model.specs.Records.{Records, ends_lock, ends_locks_below, entered, with_waiting, without_lock, written_by}
 use Rattle.lock_model.specs.declared.lock.Held.{Held}
 use Rattle.lock_model.specs.declared.lock.Request.{Request}
-use Rattle.io_rules.specs.Attempts.{pending_in}
-use Rattle.io_rules.specs.Step.{IoEnd, answers, fails, keeps}
+use Rattle.io_model.specs.Attempts.{pending_in}
+use Rattle.io_model.specs.Step.{IoEnd, answers, fails, keeps}
 use Rattle.file_rules.specs.Files.{Files}
 use Rattle.file_rules.specs.Locking.{records_after}
 use Rattle.file_laws.specs.Devices.{NoneRequested}

@@ -12,11 +12,11 @@ use Rattle.lock_model.specs.declared.lock.Grant.{Grant}
 use Rattle.lock_model.specs.declared.lock.Grant.TheVariants.{Granted, Locked, Deadlock, Wait}
 use Rattle.rbf_model.specs.Volume.{DiskVolume}
 use Rattle.rbf_model.specs.Walk.{WalkEnd, arrives, not_allowed, not_found, walk}
-use Rattle.io_rules.specs.Attempts.{Does, io_step, pending_in}
-use Rattle.io_rules.specs.Io.{OpenPath, open_path, with_paths}
-use Rattle.io_rules.specs.PathList.{PathList}
-use Rattle.io_rules.specs.Step.{IoEffect, IoStep, answers, comes as io_comes, fails, keeps}
-use Rattle.io_rules.specs.declared.io_call.IoCall.{IoCall}
+use Rattle.io_model.specs.Attempts.{Does, io_step, pending_in}
+use Rattle.io_model.specs.Io.{OpenPath, open_path, with_paths}
+use Rattle.io_model.specs.PathList.{PathList}
+use Rattle.io_model.specs.Step.{IoEffect, IoStep, answers, comes as io_comes, fails, keeps}
+use Rattle.io_model.specs.declared.io_call.IoCall.{IoCall}
 use Rattle.file_rules.specs.Change.{Change, writes, sizes, sets_attributes, creates, makes_directory, deletes}
 use Rattle.file_rules.specs.Files.{Files, Asker, OpenFile, directories_at, no_directories, open_file, volume_at, with_position, with_records, with_ticks}
 use Rattle.file_rules.specs.Locking.{answer_to, asks, asks_by, call_of, request_now, waiting_in}

@@ -18,9 +18,9 @@ use Rattle.rbf_model.specs.Walk.{look_up}
 use Rattle.rbf_model.proofs.Owners.{cluster_positive, root_file}
 use Rattle.rbf_change.specs.Calls.{cluster_size, shape}
 use Rattle.rbf_change.proofs.LawfulWrites.{shape-image}
-use Rattle.io_rules.specs.Io.{Io, first_paths, new_desc}
-use Rattle.io_rules.specs.Waiting.{io_interrupted, wait_target, without_unfinished}
-use Rattle.io_rules.specs.Processes.{io_ended, io_started}
+use Rattle.io_model.specs.Io.{Io, first_paths, new_desc}
+use Rattle.io_model.specs.Waiting.{io_interrupted, wait_target, without_unfinished}
+use Rattle.io_model.specs.Processes.{io_ended, io_started}
 use Rattle.file_rules.specs.Files.{Files, DriveState, directories_at, directory_of, no_directories, volume_at, with_io, with_volume}
 use Rattle.file_rules.specs.Processes.{StartsOn, directory_in_root, files_ended, files_started, first_directories, first_files, io_left, without_locks_of}
 use Rattle.file_rules.specs.Locking.{files_interrupted}

@@ -9,8 +9,8 @@ use Rattle.os9_base.specs.declared.name_fault.NameFault.{NameFault}
 use Rattle.os9_base.specs.declared.name_fault.NameFault.TheVariants.{Unreadable, NoName}
 use Rattle.rbf_model.specs.Volume.{DiskVolume}
 use Rattle.rbf_model.specs.Walk.{WalkEnd, arrives, not_allowed, not_found, walk}
-use Rattle.io_rules.specs.PathList.{PathList}
-use Rattle.io_rules.specs.Step.{IoStep}
+use Rattle.io_model.specs.PathList.{PathList}
+use Rattle.io_model.specs.Step.{IoStep}
 use Rattle.file_rules.specs.Change.{Makes, MayLeave}
 use Rattle.file_rules.specs.Files.{Files, Asker, DriveState, volume_at, with_drives, with_io, with_volume}
 use Rattle.file_rules.specs.Step.{Step, refused, comes, reaches, needs, refuses, drive_of, FileEffect, FileStep, VolumeChange, Deed, leaves_so, as_io, changes, deed_of, refuses_so, DoesDeed, MayBeLeft, FileDoes}
@@ -18,7 +18,7 @@ use Rattle.file_rules.specs.Route.{Found, reads_list, walk_ends, walks}
 use Rattle.lock_model.specs.declared.place.FilePlace.{FilePlace}
 use Rattle.file_laws.specs.Kinds.{AreKinds}
 use Rattle.file_laws.specs.Mounted.{AreAsMany}
-use Rattle.io_rules.specs.Step.{keeps}
+use Rattle.io_model.specs.Step.{keeps}
 use Rattle.file_rules.specs.Step.{leaves}
 use Rattle.file_rules.specs.Locking.{answer_to, asks, asks_by, call_of, waiting_in}
 use Rattle.lock_model.specs.Records.{with_waiting}

@@ -8,20 +8,20 @@ use Rattle.std.proofs.lemmas.Option.{none-some}
 use Rattle.os9_base.specs.declared.registers.Regs.{Regs}
 use Rattle.os9_base.specs.declared.registers.TimePacket.{TimePacket}
 use Rattle.os9_outer.specs.TerminalState.{TerminalState}
-use Rattle.proc_rules.specs.CallResult.{CallResult}
-use Rattle.proc_rules.specs.Processes.{Processes}
+use Rattle.proc_model.specs.CallResult.{CallResult}
+use Rattle.proc_model.specs.Processes.{Processes}
 use Rattle.lock_model.specs.Records.{Records, with_waiting}
 use Rattle.rbf_model.specs.Volume.{DiskVolume}
-use Rattle.io_rules.specs.Attempts.{Does, pending_in, result_by, result_of}
-use Rattle.io_rules.specs.Io.{Io, with_call, with_paths}
-use Rattle.io_rules.specs.Step.{IoEffect, IoEnd, IoStep, answers, fails, keeps}
+use Rattle.io_model.specs.Attempts.{Does, pending_in, result_by, result_of}
+use Rattle.io_model.specs.Io.{Io, with_call, with_paths}
+use Rattle.io_model.specs.Step.{IoEffect, IoEnd, IoStep, answers, fails, keeps}
 use Rattle.file_rules.specs.Locking.{records_after}
 use Rattle.file_rules.specs.Attempts.{FileAttempts, asker_of, file_step, files_after, io_effect}
 use Rattle.file_rules.specs.Files.{Files, Asker, DriveState, NoneFailed, OneFailed, directories_at, volume_at, with_drives, with_volume}
 use Rattle.file_rules.specs.Step.{FileEffect, FileStep, Deed, leaves_so, as_io, changes, deed_of, drive_of, refuses_so, on_files, with_drives_after, with_volume_after, DoesDeed, IsBroken, FileDoes, MayBeLeft}
 use Rattle.file_rules.specs.declared.path_call.PathCall.{PathCall}
 use Rattle.file_rules.specs.declared.path_call.PathCall.TheVariants as Call
-use Rattle.io_rules.specs.declared.io_call.IoCall.TheVariants as Device
+use Rattle.io_model.specs.declared.io_call.IoCall.TheVariants as Device
 use Rattle.file_laws.specs.Devices.{IsOnDevice, IsOnNoFile, LocksStay}
 use Rattle.file_laws.specs.Recorded.{RecordsCome}
 use Rattle.file_laws.specs.Touch.{IsOver, LeavesDevices, NoVolumeChanges, OneDriveFails, OneVolumeChanges, PathsMove, RefusalLeaves, WaitsForRecord, made_by, may_change_volume}

@@ -2,17 +2,17 @@
 use Rattle.std.proofs.Common.{◌≡◌, ℕ, ◌<◌, ne_eqb, Some, None, List, length, refl, sym, ap, ◌∙◌, subst, arith}
 use Rattle.std.specs.Prelude.{⊤}
 use Rattle.os9_base.specs.declared.calls.TheConstants.{F_PERR, I_WRITE, I_WRITLN}
-use Rattle.proc_rules.specs.UserBytes.{user_bytes}
+use Rattle.proc_model.specs.UserBytes.{user_bytes}
 use Rattle.io_model.specs.declared.terminal.ReadKind.{ReadKind}
 use Rattle.io_model.specs.declared.terminal.ReadKind.TheVariants.{Bytes, WholeLine}
 use Rattle.lock_model.specs.Laws.{Covers}
 use Rattle.lock_model.specs.declared.lock.Range.{Range}
-use Rattle.io_rules.specs.Again.{KeepsCount}
-use Rattle.io_rules.specs.Codes.{io_call_of}
-use Rattle.io_rules.specs.Transfer.{line_at}
-use Rattle.io_rules.specs.Write.{error_line}
-use Rattle.io_rules.specs.declared.io_call.IoCall.{IoCall}
-use Rattle.io_rules.specs.declared.io_call.IoCall.TheVariants as Device
+use Rattle.io_model.specs.Again.{KeepsCount}
+use Rattle.io_model.specs.Codes.{io_call_of}
+use Rattle.io_model.specs.Transfer.{line_at}
+use Rattle.io_model.specs.Write.{error_line}
+use Rattle.io_model.specs.declared.io_call.IoCall.{IoCall}
+use Rattle.io_model.specs.declared.io_call.IoCall.TheVariants as Device
 use Rattle.file_rules.proofs.Ranges.{locked-covers, range-covers, resized-covers}
 use Rattle.file_rules.specs.Files.{Files, Asker, OpenFile}
 use Rattle.file_rules.specs.Locking.{pending_request}

@@ -7,18 +7,18 @@ use Rattle.std.proofs.lemmas.Option.{none-some}
 use Rattle.os9_base.specs.declared.errors.TheConstants.{E_BPNAM}
 use Rattle.os9_base.specs.declared.registers.TimePacket.{TimePacket}
 use Rattle.os9_outer.specs.TerminalState.{TerminalState}
-use Rattle.proc_rules.specs.CallResult.{CallResult}
-use Rattle.proc_rules.specs.Processes.{Processes, regs_at}
+use Rattle.proc_model.specs.CallResult.{CallResult}
+use Rattle.proc_model.specs.Processes.{Processes, regs_at}
 use Rattle.device_table.specs.Names.{device_of}
 use Rattle.device_table.specs.declared.devices.Dev.{Dev}
 use Rattle.device_table.specs.declared.devices.Dev.TheVariants.{Drive, Term, Pipe}
-use Rattle.io_rules.specs.Again.{path_number}
-use Rattle.io_rules.specs.Attempts.{io_step, result_of}
-use Rattle.io_rules.specs.Io.{OpenPath, open_path}
-use Rattle.io_rules.specs.Lead.{Lead, Search, a_new_place, lead_by_device, lead_of, on_device, what_is_there, to_terminal, to_pipe, nowhere as leads_nowhere}
-use Rattle.io_rules.specs.PathList.{PathList, ends_in_dots, has_slash_behind_device}
-use Rattle.io_rules.specs.Step.{IoStep}
-use Rattle.io_rules.specs.declared.io_call.IoCall.{IoCall}
+use Rattle.io_model.specs.Again.{path_number}
+use Rattle.io_model.specs.Attempts.{io_step, result_of}
+use Rattle.io_model.specs.Io.{OpenPath, open_path}
+use Rattle.io_model.specs.Lead.{Lead, Search, a_new_place, lead_by_device, lead_of, on_device, what_is_there, to_terminal, to_pipe, nowhere as leads_nowhere}
+use Rattle.io_model.specs.PathList.{PathList, ends_in_dots, has_slash_behind_device}
+use Rattle.io_model.specs.Step.{IoStep}
+use Rattle.io_model.specs.declared.io_call.IoCall.{IoCall}
 use Rattle.rbf_model.specs.Volume.{DiskVolume}
 use Rattle.file_rules.specs.Attempts.{FileAttempts, asker_of, file_step, files_after, io_effect}
 use Rattle.file_rules.specs.Files.{Files, Asker, OpenFile, directory_of, open_file, open_file_at, place_of_target, volume_at}

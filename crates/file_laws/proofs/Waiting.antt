@@ -11,9 +11,9 @@ use Rattle.os9_base.specs.declared.registers.TimePacket.{TimePacket}
 use Rattle.os9_outer.specs.TerminalState.{TerminalState}
 use Rattle.os9_base.specs.declared.name_fault.NameFault.{NameFault}
 use Rattle.os9_base.specs.declared.name_fault.NameFault.TheVariants.{Unreadable, NoName}
-use Rattle.proc_rules.specs.CallResult.{CallResult}
-use Rattle.proc_rules.specs.Processes.{Processes, regs_at}
-use Rattle.proc_rules.specs.UserBytes.{user_bytes}
+use Rattle.proc_model.specs.CallResult.{CallResult}
+use Rattle.proc_model.specs.Processes.{Processes, regs_at}
+use Rattle.proc_model.specs.UserBytes.{user_bytes}
 use Rattle.io_model.specs.Path.{free_number, new_number, slot_of}
 use Rattle.io_model.specs.Pipe.{free_pipe, pipes_after_begin}
 use Rattle.io_model.specs.declared.pending.PendingCall.{PendingCall}
@@ -24,23 +24,23 @@ use Rattle.io_model.specs.declared.terminal.Progress.{Progress}
 use Rattle.io_model.specs.declared.terminal.Progress.TheVariants.{Done, Wait, End, Fault, NoMemory}
 use Rattle.io_model.specs.declared.terminal.ReadKind.{ReadKind}
 use Rattle.io_model.specs.declared.terminal.ReadKind.TheVariants.{Bytes, WholeLine}
-use Rattle.io_rules.specs.Again.{path_number}
-use Rattle.io_rules.specs.Attempts.{Does, IoAttempts, caller_of, io_step, pending_in}
-use Rattle.io_rules.specs.Io.{Io, OpenPath, pending_at, new_desc, open_path, with_call, with_pipes}
-use Rattle.io_rules.specs.Lead.{Lead, a_new_place, lead_of, nowhere, to_pipe, to_terminal, what_is_there}
-use Rattle.io_rules.specs.Modes.{can_read, can_write, is_mode}
-use Rattle.io_rules.specs.Open.{begins, opens_lead, reads_list}
-use Rattle.io_rules.specs.PathList.{PathList, path_list}
-use Rattle.io_rules.specs.Read.{reads_path, reads_target}
-use Rattle.io_rules.specs.Status.{gets_end, gets_options, gets_ready, options, ready_count}
-use Rattle.io_rules.specs.Step.{Caller, IoEffect, IoEnd, IoStep, TerminalWrite, answers, comes, done, fails, needs, reads, refused, refuses, stores, writes}
-use Rattle.io_rules.specs.Terminals.{write_ends}
-use Rattle.io_rules.specs.Transfer.{call_now, on_path, unless_nothing}
-use Rattle.io_rules.specs.Write.{Sending, line_bytes, sends_on, sent_bytes, sent_error, sent_line, writes_target}
-use Rattle.io_rules.specs.declared.io_call.IoCall.{IoCall}
-use Rattle.io_rules.specs.declared.io_call.IoCall.TheVariants as Call
-use Rattle.io_rules.specs.declared.modes.TheConstants.{STANDARD_ERROR}
-use Rattle.io_rules.specs.declared.status.TheConstants.{SS_OPT, SS_READY, SS_EOF, OPTION_BYTES}
+use Rattle.io_model.specs.Again.{path_number}
+use Rattle.io_model.specs.Attempts.{Does, IoAttempts, caller_of, io_step, pending_in}
+use Rattle.io_model.specs.Io.{Io, OpenPath, pending_at, new_desc, open_path, with_call, with_pipes}
+use Rattle.io_model.specs.Lead.{Lead, a_new_place, lead_of, nowhere, to_pipe, to_terminal, what_is_there}
+use Rattle.io_model.specs.Modes.{can_read, can_write, is_mode}
+use Rattle.io_model.specs.Open.{begins, opens_lead, reads_list}
+use Rattle.io_model.specs.PathList.{PathList, path_list}
+use Rattle.io_model.specs.Read.{reads_path, reads_target}
+use Rattle.io_model.specs.Status.{gets_end, gets_options, gets_ready, options, ready_count}
+use Rattle.io_model.specs.Step.{Caller, IoEffect, IoEnd, IoStep, TerminalWrite, answers, comes, done, fails, needs, reads, refused, refuses, stores, writes}
+use Rattle.io_model.specs.Terminals.{write_ends}
+use Rattle.io_model.specs.Transfer.{call_now, on_path, unless_nothing}
+use Rattle.io_model.specs.Write.{Sending, line_bytes, sends_on, sent_bytes, sent_error, sent_line, writes_target}
+use Rattle.io_model.specs.declared.io_call.IoCall.{IoCall}
+use Rattle.io_model.specs.declared.io_call.IoCall.TheVariants as Call
+use Rattle.io_model.specs.declared.modes.TheConstants.{STANDARD_ERROR}
+use Rattle.io_model.specs.declared.status.TheConstants.{SS_OPT, SS_READY, SS_EOF, OPTION_BYTES}
 use Rattle.file_rules.specs.Attempts.{FileAttempts}
 use Rattle.file_rules.specs.Files.{Files}
 use Rattle.file_rules.specs.declared.path_call.PathCall.{PathCall}

@@ -4,11 +4,11 @@ use Rattle.std.specs.Prelude.{◌≡◌, ℕ, true, Some, Ok, List, length}
 use Rattle.os9_base.specs.declared.registers.Regs.{Regs}
 use Rattle.os9_base.specs.declared.registers.TimePacket.{TimePacket}
 use Rattle.os9_outer.specs.TerminalState.{TerminalState}
-use Rattle.proc_rules.specs.CallResult.{CallResult}
-use Rattle.proc_rules.specs.Processes.{Processes, regs_at}
-use Rattle.io_rules.specs.Again.{path_number}
-use Rattle.io_rules.specs.PathList.{PathList}
-use Rattle.io_rules.specs.declared.io_call.IoCall.{IoCall}
+use Rattle.proc_model.specs.CallResult.{CallResult}
+use Rattle.proc_model.specs.Processes.{Processes, regs_at}
+use Rattle.io_model.specs.Again.{path_number}
+use Rattle.io_model.specs.PathList.{PathList}
+use Rattle.io_model.specs.declared.io_call.IoCall.{IoCall}
 use Rattle.file_rules.specs.Attempts.{FileAttempts, asker_of}
 use Rattle.file_rules.specs.Files.{Files, Asker}
 use Rattle.file_rules.specs.Open.{is_for_execution}

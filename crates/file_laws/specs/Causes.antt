@@ -7,7 +7,7 @@ use Rattle.device_table.specs.Names.{device_of}
 use Rattle.device_table.specs.declared.devices.Dev.{Dev}
 use Rattle.device_table.specs.declared.devices.Dev.TheVariants as Device
 use Rattle.os9_base.specs.declared.name_fault.NameFault.TheVariants.{Unreadable, NoName}
-use Rattle.proc_rules.specs.UserBytes.{user_bytes}
+use Rattle.proc_model.specs.UserBytes.{user_bytes}
 use Rattle.io_model.specs.Path.{new_number}
 use Rattle.rbf_model.specs.Volume.{DiskVolume}
 use Rattle.rbf_model.specs.Walk.{WalkEnd, arrives, look_up, walk}
@@ -16,11 +16,11 @@ use Rattle.rbf_change.specs.Contents.{written}
 use Rattle.rbf_change.specs.Growth.{clusters_needed}
 use Rattle.rbf_change.specs.Names.{may_change, may_delete}
 use Rattle.rbf_change.specs.NewFiles.{entry_clusters, owns_file}
-use Rattle.io_rules.specs.Io.{open_path}
-use Rattle.io_rules.specs.Modes.{can_read, can_write, is_mode}
-use Rattle.io_rules.specs.PathList.{PathList, ends_in_dots, has_slash_behind_device}
-use Rattle.io_rules.specs.Write.{error_line}
-use Rattle.io_rules.specs.declared.status.TheConstants.{SS_EOF, SS_OPT, SS_READY, OPTION_BYTES}
+use Rattle.io_model.specs.Io.{open_path}
+use Rattle.io_model.specs.Modes.{can_read, can_write, is_mode}
+use Rattle.io_model.specs.PathList.{PathList, ends_in_dots, has_slash_behind_device}
+use Rattle.io_model.specs.Write.{error_line}
+use Rattle.io_model.specs.declared.status.TheConstants.{SS_EOF, SS_OPT, SS_READY, OPTION_BYTES}
 use Rattle.file_rules.specs.Attempts.{file_step}
 use Rattle.file_rules.specs.Change.{MayBeTooLong}
 use Rattle.file_rules.specs.ChgDir.{may_go_to}

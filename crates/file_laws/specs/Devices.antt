@@ -2,19 +2,19 @@
 -- system"; System Programmer's Manual, "I/O service requests").
 use Rattle.std.specs.Prelude.{◌≡◌, ◌≢◌, ℕ, ⊤, Bool, true, false, Option, Some, None, Ok, List, length}
 use Rattle.os9_outer.specs.TerminalState.{TerminalState}
-use Rattle.proc_rules.specs.CallResult.{CallResult}
-use Rattle.proc_rules.specs.Processes.{Processes, regs_at}
+use Rattle.proc_model.specs.CallResult.{CallResult}
+use Rattle.proc_model.specs.Processes.{Processes, regs_at}
 use Rattle.io_model.specs.declared.path.Target.{Target}
 use Rattle.lock_model.specs.Locks.{request_of}
 use Rattle.lock_model.specs.Records.{Records, with_waiting, without_lock}
-use Rattle.io_rules.specs.Again.{path_number}
-use Rattle.io_rules.specs.Attempts.{IoAttempts}
-use Rattle.io_rules.specs.Io.{Io, OpenPath, open_path}
-use Rattle.io_rules.specs.Lead.{Lead, to_terminal, to_pipe, nowhere}
-use Rattle.io_rules.specs.PathList.{PathList}
-use Rattle.io_rules.specs.declared.io_call.IoCall.{IoCall}
-use Rattle.io_rules.specs.declared.io_call.IoCall.TheVariants as Device
-use Rattle.io_rules.specs.declared.modes.TheConstants.{STANDARD_ERROR}
+use Rattle.io_model.specs.Again.{path_number}
+use Rattle.io_model.specs.Attempts.{IoAttempts}
+use Rattle.io_model.specs.Io.{Io, OpenPath, open_path}
+use Rattle.io_model.specs.Lead.{Lead, to_terminal, to_pipe, nowhere}
+use Rattle.io_model.specs.PathList.{PathList}
+use Rattle.io_model.specs.declared.io_call.IoCall.{IoCall}
+use Rattle.io_model.specs.declared.io_call.IoCall.TheVariants as Device
+use Rattle.io_model.specs.declared.modes.TheConstants.{STANDARD_ERROR}
 use Rattle.file_rules.specs.Files.{Asker, Files, NoneFailed, directory_of, open_file, place_of_target, volume_at}
 use Rattle.file_rules.specs.Open.{is_for_execution}
 use Rattle.file_rules.specs.Route.{list_of, to_device, route_of, route_to_new}

@@ -9,7 +9,7 @@ use Rattle.io_model.specs.declared.path.Target.TheVariants.{File, Folder, Term, 
 use Rattle.rbf_model.specs.File.{DiskFile, is_directory}
 use Rattle.rbf_model.specs.Volume.{DiskVolume}
 use Rattle.rbf_change.specs.Calls.{cluster_size}
-use Rattle.io_rules.specs.Modes.{can_write}
+use Rattle.io_model.specs.Modes.{can_write}
 use Rattle.file_rules.specs.Files.{Files, directory_of, file_in, volume_at}
 use Rattle.lock_model.specs.declared.place.FilePlace.{FilePlace}
 

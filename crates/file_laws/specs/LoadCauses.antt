@@ -9,11 +9,11 @@ use Rattle.proc_model.specs.MemoryChanges.{has_most_links, new_numbers}
 use Rattle.proc_model.specs.ModuleList.{ModuleEntry}
 use Rattle.proc_model.specs.Objects.{file_blocks}
 use Rattle.proc_model.specs.declared.memory.TheConstants.{MOST_LINKS}
-use Rattle.proc_rules.specs.Records.{free_process}
-use Rattle.proc_rules.specs.Processes.{Processes, own_at, regs_at}
-use Rattle.proc_rules.specs.Link.{Mapped, links_at, mapped_group}
-use Rattle.proc_rules.specs.Program.{asks_for_program, blocks_of_pages, most_pages, program_kind}
-use Rattle.io_rules.specs.declared.modes.TheConstants.{MODE_EXECUTE}
+use Rattle.proc_model.specs.Records.{free_process}
+use Rattle.proc_model.specs.Processes.{Processes, own_at, regs_at}
+use Rattle.proc_model.specs.Link.{Mapped, links_at, mapped_group}
+use Rattle.proc_model.specs.Program.{asks_for_program, blocks_of_pages, most_pages, program_kind}
+use Rattle.io_model.specs.declared.modes.TheConstants.{MODE_EXECUTE}
 use Rattle.file_rules.specs.Files.{Asker, Files}
 use Rattle.file_rules.specs.Load.{Loaded, Loads, first_entered}
 use Rattle.file_rules.specs.Open.{may_open}

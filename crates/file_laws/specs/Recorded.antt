@@ -1,11 +1,11 @@
 -- What an attempt makes of locks, of requests that wait and of their history (Level Two manual, RBF record locking).
 use Rattle.std.specs.Prelude.{◌≡◌, ◌≢◌, ℕ, ◌==◌, ◌||◌, Bool, true, false, Some, None, List, [], length}
-use Rattle.proc_rules.specs.UserBytes.{user_bytes}
+use Rattle.proc_model.specs.UserBytes.{user_bytes}
 use Rattle.io_model.specs.Path.{desc_of}
 use Rattle.io_model.specs.declared.terminal.ReadKind.{ReadKind}
 use Rattle.io_model.specs.declared.terminal.ReadKind.TheVariants.{Bytes}
-use Rattle.io_rules.specs.Close.{after_close}
-use Rattle.io_rules.specs.Write.{error_line}
+use Rattle.io_model.specs.Close.{after_close}
+use Rattle.io_model.specs.Write.{error_line}
 use Rattle.lock_model.specs.Records.{Records, holding, with_waiting, without_lock, written_by}
 use Rattle.lock_model.specs.declared.lock.Grant.TheVariants.{Granted, Wait}
 use Rattle.lock_model.specs.declared.lock.Request.{Request}

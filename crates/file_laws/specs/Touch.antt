@@ -6,8 +6,8 @@ use Rattle.os9_base.specs.declared.registers.Regs.{Regs}
 use Rattle.os9_base.specs.declared.registers.TimePacket.{TimePacket}
 use Rattle.os9_outer.specs.TerminalState.{TerminalState}
 use Rattle.proc_model.specs.MemoryChanges.{stored}
-use Rattle.proc_rules.specs.CallResult.{CallResult, done, refused, waits}
-use Rattle.proc_rules.specs.Processes.{Processes, with_memory, with_regs_of}
+use Rattle.proc_model.specs.CallResult.{CallResult, done, refused, waits}
+use Rattle.proc_model.specs.Processes.{Processes, with_memory, with_regs_of}
 use Rattle.lock_model.specs.declared.lock.Grant.TheVariants.{Wait}
 use Rattle.lock_model.specs.declared.lock.Request.{Request}
 use Rattle.lock_model.specs.Records.{with_waiting}
@@ -15,7 +15,7 @@ use Rattle.rbf_model.specs.Volume.{DiskVolume}
 use Rattle.io_model.specs.Path.{ArePaths, PathTable, desc_of, is_held, new_number, numbers_of, paths_after_begin, with_desc}
 use Rattle.io_model.specs.declared.path.Desc.{Desc}
 use Rattle.io_model.specs.declared.path.Target.{Target}
-use Rattle.io_rules.specs.Io.{Io, OpenPath, pending_at, new_desc, open_path, with_call, with_paths}
+use Rattle.io_model.specs.Io.{Io, OpenPath, pending_at, new_desc, open_path, with_call, with_paths}
 use Rattle.file_rules.specs.Attempts.{asker_of, file_step}
 use Rattle.file_rules.specs.Files.{Asker, Files, NoneFailed, OneFailed, OpenFile, directories_at, open_file, place_of_target, volume_at}
 use Rattle.file_rules.specs.Locking.{answer_to, call_of, waiting_in}

@@ -6,7 +6,7 @@ use Rattle.os9_base.specs.declared.errors.TheConstants.{E_BMODE}
 use Rattle.device_table.specs.Names.{device_of}
 use Rattle.device_table.specs.declared.devices.Dev.{Dev}
 use Rattle.device_table.specs.declared.devices.Dev.TheVariants.{Drive, Term, Pipe}
-use Rattle.io_rules.specs.PathList.{PathList}
+use Rattle.io_model.specs.PathList.{PathList}
 use Rattle.rbf_access.specs.declared.volume.Volume.{Volume}
 use Rattle.file_rules.specs.Files.{Asker, Files, directory_of}
 use Rattle.file_rules.specs.Step.{Step, refused, comes, reaches}

@@ -1,7 +1,7 @@
 //! The path lists of calls of processes.
 
 ghost use Rattle.std.specs.Prelude.{◌≡◌, ◌<◌, ℕ, Bool, IfSome, Option, List, vec_len};
-ghost use Rattle.proc_rules.specs.Processes.{Processes, cells_at};
+ghost use Rattle.proc_model.specs.Processes.{Processes, cells_at};
 ghost use Rattle.guest_memory.specs.Tie.{cells_of};
 ghost use Rattle.os9_base.specs.declared.registers.TimePacket.{TimePacket};
 ghost use Rattle.proc_state.specs.Tie.{IsSame, Represents};

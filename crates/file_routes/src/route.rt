@@ -3,7 +3,7 @@
 ghost use Rattle.std.specs.Prelude.{◌≡◌, ◌||◌, ◌<◌, ℕ, Bool, Option, Some, Ok, Err, IfOk, IfSome, List, vec_len, if◌then◌else◌};
 ghost use Rattle.guest_memory.specs.Tie.{IsSame, cells_of};
 ghost use Rattle.os9_base.specs.Cells.{Cells};
-ghost use Rattle.io_rules.specs.PathList.{PathList, path_list};
+ghost use Rattle.io_model.specs.PathList.{PathList, path_list};
 ghost use Rattle.rbf_model.specs.Volume.{DiskVolume};
 ghost use Rattle.file_rules.specs.Files.{Asker, Files};
 ghost use Rattle.file_rules.specs.Route.{route_of_device};

@@ -6,12 +6,12 @@ use Rattle.os9_base.specs.declared.call.CallEnd.{CallEnd}
 use Rattle.os9_base.specs.declared.registers.Regs.{Regs}
 use Rattle.os9_base.specs.declared.registers.TimePacket.{TimePacket}
 use Rattle.os9_outer.specs.TerminalState.{TerminalState}
-use Rattle.proc_rules.specs.CallResult.{CallResult}
-use Rattle.proc_rules.specs.Processes.{Processes, user_at}
-use Rattle.io_rules.specs.Attempts.{caller_of, end_of, pending_in, regs_after, result_of}
-use Rattle.io_rules.specs.Dup.{i_dup}
-use Rattle.io_rules.specs.Io.{with_call}
-use Rattle.io_rules.specs.Step.{IoEffect}
+use Rattle.proc_model.specs.CallResult.{CallResult}
+use Rattle.proc_model.specs.Processes.{Processes, user_at}
+use Rattle.io_model.specs.Attempts.{caller_of, end_of, pending_in, regs_after, result_of}
+use Rattle.io_model.specs.Dup.{i_dup}
+use Rattle.io_model.specs.Io.{with_call}
+use Rattle.io_model.specs.Step.{IoEffect}
 use Rattle.file_rules.specs.ChgDir.{i_chgdir}
 use Rattle.file_rules.specs.Close.{i_close}
 use Rattle.file_rules.specs.Create.{i_create}

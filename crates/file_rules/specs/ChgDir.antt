@@ -7,8 +7,8 @@ use Rattle.std.specs.Prelude.{ℕ, ◌&&◌, not, Bool}
 use Rattle.os9_base.specs.declared.errors.TheConstants.{E_FNA}
 use Rattle.rbf_model.specs.File.{DiskFile, is_directory}
 use Rattle.rbf_model.specs.Walk.{file_permits}
-use Rattle.io_rules.specs.Modes.{is_mode}
-use Rattle.io_rules.specs.PathList.{PathList}
+use Rattle.io_model.specs.Modes.{is_mode}
+use Rattle.io_model.specs.PathList.{PathList}
 use Rattle.file_rules.specs.Files.{Files, Asker, directories_at, with_directory, with_directories_of}
 use Rattle.file_rules.specs.MakDir.{past_list}
 use Rattle.file_rules.specs.Open.{is_for_execution, tests_mode}

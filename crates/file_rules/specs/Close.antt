@@ -3,7 +3,7 @@
 -- with it.
 -- Errors: E$BPNum.
 use Rattle.std.specs.Prelude.{ℕ, false}
-use Rattle.io_rules.specs.Close.{i_close as closes_device, after_close}
+use Rattle.io_model.specs.Close.{i_close as closes_device, after_close}
 use Rattle.lock_model.specs.Records.{ends_lock}
 use Rattle.file_rules.specs.Files.{Files, Asker, with_io, with_records}
 use Rattle.file_rules.specs.Locking.{lock_ends}

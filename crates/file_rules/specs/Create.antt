@@ -12,11 +12,11 @@ use Rattle.rbf_model.specs.Walk.{look_up}
 use Rattle.rbf_change.specs.Calls.{cluster_size, free_total}
 use Rattle.rbf_change.specs.Names.{may_change}
 use Rattle.rbf_change.specs.NewFiles.{entry_clusters, file_clusters}
-use Rattle.io_rules.specs.Io.{new_desc}
-use Rattle.io_rules.specs.Modes.{can_write}
-use Rattle.io_rules.specs.Open.{i_create as opens_for_create, opened_regs}
-use Rattle.io_rules.specs.PathList.{PathList}
-use Rattle.io_rules.specs.Step.{answers}
+use Rattle.io_model.specs.Io.{new_desc}
+use Rattle.io_model.specs.Modes.{can_write}
+use Rattle.io_model.specs.Open.{i_create as opens_for_create, opened_regs}
+use Rattle.io_model.specs.PathList.{PathList}
+use Rattle.io_model.specs.Step.{answers}
 use Rattle.file_rules.specs.Change.{creates}
 use Rattle.file_rules.specs.Files.{Files, Asker, with_path_table}
 use Rattle.file_rules.specs.Open.{is_for_execution, says_directory, tests_mode}

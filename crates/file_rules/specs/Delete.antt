@@ -7,9 +7,9 @@ use Rattle.std.specs.Prelude.{ℕ, not, Bool, false, Option, Some, None, List}
 use Rattle.os9_base.specs.declared.errors.TheConstants.{E_FNA, E_PNNF, E_SHARE}
 use Rattle.rbf_model.specs.Walk.{look_up}
 use Rattle.rbf_change.specs.Names.{may_change, may_delete}
-use Rattle.io_rules.specs.Modes.{is_mode}
-use Rattle.io_rules.specs.PathList.{PathList}
-use Rattle.io_rules.specs.Step.{answers}
+use Rattle.io_model.specs.Modes.{is_mode}
+use Rattle.io_model.specs.PathList.{PathList}
+use Rattle.io_model.specs.Step.{answers}
 use Rattle.file_rules.specs.Change.{deletes}
 use Rattle.file_rules.specs.Files.{Files, Asker}
 use Rattle.file_rules.specs.MakDir.{past_list}

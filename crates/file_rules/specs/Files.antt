@@ -11,8 +11,8 @@ use Rattle.io_model.specs.declared.path.Target.TheVariants.{File, Folder, Term, 
 use Rattle.lock_model.specs.Records.{Records}
 use Rattle.rbf_model.specs.File.{DiskFile, is_directory}
 use Rattle.rbf_model.specs.Volume.{DiskVolume}
-use Rattle.io_rules.specs.Io.{Io, OpenPath, open_path, with_paths}
-use Rattle.io_rules.specs.Step.{Caller}
+use Rattle.io_model.specs.Io.{Io, OpenPath, open_path, with_paths}
+use Rattle.io_model.specs.Step.{Caller}
 use Rattle.file_rules.specs.declared.places.Directories.{Directories}
 use Rattle.lock_model.specs.declared.place.FilePlace.{FilePlace}
 

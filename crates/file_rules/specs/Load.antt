@@ -12,10 +12,10 @@ use Rattle.proc_model.specs.MemoryChanges.{new_numbers}
 use Rattle.proc_model.specs.ModuleList.{ModuleEntry, free_number}
 use Rattle.proc_model.specs.declared.memory.TheConstants.{MOST_LINKS}
 use Rattle.proc_model.specs.Objects.{file_blocks, file_objects}
-use Rattle.proc_rules.specs.CallResult.{CallResult, done, refused, needs, refuses}
-use Rattle.proc_rules.specs.Processes.{Processes, own_at, regs_at}
-use Rattle.proc_rules.specs.Link.{mapped_group, after_link, links_at}
-use Rattle.proc_rules.specs.ModuleLinks.{Entered, entered_at}
+use Rattle.proc_model.specs.CallResult.{CallResult, done, refused, needs, refuses}
+use Rattle.proc_model.specs.Processes.{Processes, own_at, regs_at}
+use Rattle.proc_model.specs.Link.{mapped_group, after_link, links_at}
+use Rattle.proc_model.specs.ModuleLinks.{Entered, entered_at}
 use Rattle.file_rules.specs.Files.{Files, Asker}
 use Rattle.file_rules.specs.ProgramFile.{ProgramFile, program_file, ReadsProgram}
 

@@ -6,12 +6,12 @@ use Rattle.proc_model.specs.Memory.{MemoryState}
 use Rattle.proc_model.specs.Module.{info_at}
 use Rattle.proc_model.specs.MemoryChanges.{new_numbers}
 use Rattle.proc_model.specs.ModuleList.{ModuleEntry}
-use Rattle.proc_rules.specs.Records.{zero_regs}
-use Rattle.proc_rules.specs.Attempts.{after_attempt}
-use Rattle.proc_rules.specs.Processes.{Processes, with_regs_of}
-use Rattle.proc_rules.specs.ModuleLinks.{Entered}
-use Rattle.proc_rules.specs.Rows.{after_call, both_linked}
-use Rattle.proc_rules.specs.declared.proc_call.ProcCall.TheVariants as Call
+use Rattle.proc_model.specs.Records.{zero_regs}
+use Rattle.proc_model.specs.Attempts.{after_attempt}
+use Rattle.proc_model.specs.Processes.{Processes, with_regs_of}
+use Rattle.proc_model.specs.ModuleLinks.{Entered}
+use Rattle.proc_model.specs.Rows.{after_call, both_linked}
+use Rattle.proc_model.specs.declared.proc_call.ProcCall.TheVariants as Call
 use Rattle.file_rules.specs.Load.{Loaded, with_file_entered, links_first}
 
 -- a data module with the name `S`, of revision 1 and of revision 2

@@ -1,13 +1,13 @@
 -- Records of a file of twelve bytes that are read for update, worked out by hand.
 use Rattle.std.specs.Prelude.{ℕ, None, ◌+◌, ◌/◌, ◌%◌, Some, List, [], codes, slice_get, replicate}
 use Rattle.os9_base.specs.declared.registers.Regs.{Regs}
-use Rattle.proc_rules.specs.Records.{zero_regs}
+use Rattle.proc_model.specs.Records.{zero_regs}
 use Rattle.lock_model.specs.declared.lock.Held.{Held}
 use Rattle.lock_model.specs.declared.lock.Range.{Range}
 use Rattle.io_model.specs.Path.{with_slot, slot_of}
-use Rattle.io_rules.specs.Io.{with_paths}
-use Rattle.io_rules.specs.Rows.{calling}
-use Rattle.io_rules.specs.Step.{IoEnd}
+use Rattle.io_model.specs.Io.{with_paths}
+use Rattle.io_model.specs.Rows.{calling}
+use Rattle.io_model.specs.Step.{IoEnd}
 use Rattle.file_rules.specs.Attempts.{file_step, files_after}
 use Rattle.file_rules.specs.Files.{Files, Asker, with_io}
 use Rattle.file_rules.specs.Rows.{noon, on, volume_a, blanks}

@@ -16,13 +16,13 @@ use Rattle.lock_model.specs.declared.lock.Range.{Range}
 use Rattle.lock_model.specs.declared.lock.Request.{Request}
 use Rattle.os9_sched.specs.declared.member.Cause.{Cause}
 use Rattle.os9_sched.specs.declared.member.Wait.{Wait as Waiting}
-use Rattle.io_rules.specs.Io.{Io}
-use Rattle.io_rules.specs.Modes.{has_bit_of}
+use Rattle.io_model.specs.Io.{Io}
+use Rattle.io_model.specs.Modes.{has_bit_of}
 use Rattle.io_model.specs.declared.pending.PendingCall.{PendingCall}
 use Rattle.lock_model.specs.Records.{Records, with_waiting}
-use Rattle.io_rules.specs.Step.{IoEnd, answers, fails, keeps}
-use Rattle.io_rules.specs.Waiting.{io_interrupted, io_may_go, io_waits_for}
-use Rattle.io_rules.specs.declared.modes.TheConstants.{MODE_READ, MODE_WRITE}
+use Rattle.io_model.specs.Step.{IoEnd, answers, fails, keeps}
+use Rattle.io_model.specs.Waiting.{io_interrupted, io_may_go, io_waits_for}
+use Rattle.io_model.specs.declared.modes.TheConstants.{MODE_READ, MODE_WRITE}
 use Rattle.file_rules.specs.Files.{Files, Asker, OpenFile, with_io, with_records}
 use Rattle.file_rules.specs.Step.{FileStep, refused, comes, leaves_so, leaves}
 use Rattle.file_rules.specs.declared.claim.Claim.{Claim}

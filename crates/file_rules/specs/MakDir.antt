@@ -7,8 +7,8 @@ use Rattle.os9_base.specs.declared.errors.TheConstants.{E_BPNAM, E_FNA, E_CEF}
 use Rattle.os9_base.specs.declared.registers.Regs.{Regs}
 use Rattle.rbf_model.specs.Walk.{look_up}
 use Rattle.rbf_change.specs.Names.{may_change}
-use Rattle.io_rules.specs.PathList.{PathList}
-use Rattle.io_rules.specs.Step.{answers}
+use Rattle.io_model.specs.PathList.{PathList}
+use Rattle.io_model.specs.Step.{answers}
 use Rattle.file_rules.specs.Change.{makes_directory}
 use Rattle.file_rules.specs.Create.{has_room_for}
 use Rattle.file_rules.specs.Files.{Files, Asker}

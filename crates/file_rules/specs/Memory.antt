@@ -2,14 +2,14 @@
 use Rattle.std.specs.Prelude.{◌≡◌, ◌≢◌, ℕ, List, [], ◌∷◌, ◌++◌, length}
 use Rattle.os9_base.specs.declared.registers.TimePacket.{TimePacket}
 use Rattle.os9_outer.specs.TerminalState.{TerminalState}
-use Rattle.proc_rules.specs.CallResult.{CallResult}
-use Rattle.proc_rules.specs.Processes.{Processes}
+use Rattle.proc_model.specs.CallResult.{CallResult}
+use Rattle.proc_model.specs.Processes.{Processes}
 use Rattle.lock_model.specs.Records.{Records}
 use Rattle.lock_model.specs.declared.history.Entry.{Entry}
 use Rattle.lock_model.specs.declared.lock.EntryKind.TheVariants.{Drop}
-use Rattle.io_rules.specs.Attempts.{caller_of}
-use Rattle.io_rules.specs.Memory.{WantsMemory}
-use Rattle.io_rules.specs.Step.{IoStep}
+use Rattle.io_model.specs.Attempts.{caller_of}
+use Rattle.io_model.specs.Memory.{WantsMemory}
+use Rattle.io_model.specs.Step.{IoStep}
 use Rattle.file_rules.specs.Attempts.{FileAttempts, asker_of, file_step}
 use Rattle.file_rules.specs.Files.{Files}
 use Rattle.file_rules.specs.Step.{as_io, deed_of}

@@ -2,7 +2,7 @@
 -- names nothing, they are those of terminals and pipes.
 use Rattle.std.specs.Prelude.{ℕ, ◌==◌, not, Bool, Option, Some, None, if◌then◌else◌}
 use Rattle.os9_base.specs.declared.errors.TheConstants.{E_BMODE}
-use Rattle.io_rules.specs.Step.{IoStep}
+use Rattle.io_model.specs.Step.{IoStep}
 use Rattle.file_rules.specs.Files.{Files, Asker, OpenFile, open_file}
 use Rattle.file_rules.specs.Step.{FileStep, comes, as_io, refuses, done}
 

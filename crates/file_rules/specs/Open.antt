@@ -7,11 +7,11 @@ use Rattle.os9_base.specs.declared.errors.TheConstants.{E_BMODE, E_FNA, E_SHARE,
 use Rattle.io_model.specs.Path.{new_number, paths_after_begin}
 use Rattle.rbf_model.specs.File.{DiskFile, is_directory}
 use Rattle.rbf_model.specs.Walk.{file_permits}
-use Rattle.io_rules.specs.Io.{new_desc}
-use Rattle.io_rules.specs.Modes.{has_bit_of, is_mode, can_write}
-use Rattle.io_rules.specs.Open.{i_open as opens, opened_regs}
-use Rattle.io_rules.specs.PathList.{PathList}
-use Rattle.io_rules.specs.declared.modes.TheConstants.{MODE_EXECUTE}
+use Rattle.io_model.specs.Io.{new_desc}
+use Rattle.io_model.specs.Modes.{has_bit_of, is_mode, can_write}
+use Rattle.io_model.specs.Open.{i_open as opens, opened_regs}
+use Rattle.io_model.specs.PathList.{PathList}
+use Rattle.io_model.specs.declared.modes.TheConstants.{MODE_EXECUTE}
 use Rattle.file_rules.specs.Files.{Files, Asker, target_on, with_path_table}
 use Rattle.file_rules.specs.Sharing.{is_not_shared}
 use Rattle.file_rules.specs.Step.{FileStep, Step, refused, comes, as_io, needs, refuses, done}

@@ -6,8 +6,8 @@ use Rattle.std.specs.Option.{option_map_or}
 use Rattle.rbf_model.specs.File.{is_directory}
 use Rattle.rbf_model.specs.Volume.{DiskVolume, Vol}
 use Rattle.rbf_model.specs.Walk.{look_up}
-use Rattle.io_rules.specs.Io.{first_io}
-use Rattle.io_rules.specs.Processes.{io_started, io_ended}
+use Rattle.io_model.specs.Io.{first_io}
+use Rattle.io_model.specs.Processes.{io_started, io_ended}
 use Rattle.file_rules.specs.Files.{Files, DriveState, no_directories, directories_at, with_io, with_directories_of, with_records}
 use Rattle.file_rules.specs.Locking.{lock_ends}
 use Rattle.lock_model.specs.Records.{no_records, with_waiting, ends_locks_below}

@@ -7,14 +7,14 @@
 use Rattle.std.specs.Prelude.{◌≡◌, ℕ, ◌-◌, ◌==◌, nat_lt, not, is_none, Option, unwrap_or, option_and_then, Result, List, [], MatchOption}
 use Rattle.os9_base.specs.declared.errors.TheConstants.{E_BPADDR, E_NEMOD, E_MEMFUL, E_PRCFUL}
 use Rattle.proc_model.specs.MemoryChanges.{started}
-use Rattle.proc_rules.specs.Records.{free_process}
-use Rattle.proc_rules.specs.CallResult.{CallResult, done, needs, refuses, changes}
-use Rattle.proc_rules.specs.Chain.{f_chain, begun_anew, with_program}
-use Rattle.proc_rules.specs.Fork.{f_fork, with_child, forked_regs}
-use Rattle.proc_rules.specs.Processes.{Processes, own_at, regs_at, cells_at, with_memory, with_regs_of}
-use Rattle.proc_rules.specs.ModuleLinks.{Entered, found_entry, without_primary_link}
-use Rattle.proc_rules.specs.Program.{Program, module_name, name_at_x, program_kind, asks_for_program, area_pages, most_pages, blocks_of_pages}
-use Rattle.proc_rules.specs.UserBytes.{user_bytes}
+use Rattle.proc_model.specs.Records.{free_process}
+use Rattle.proc_model.specs.CallResult.{CallResult, done, needs, refuses, changes}
+use Rattle.proc_model.specs.Chain.{f_chain, begun_anew, with_program}
+use Rattle.proc_model.specs.Fork.{f_fork, with_child, forked_regs}
+use Rattle.proc_model.specs.Processes.{Processes, own_at, regs_at, cells_at, with_memory, with_regs_of}
+use Rattle.proc_model.specs.ModuleLinks.{Entered, found_entry, without_primary_link}
+use Rattle.proc_model.specs.Program.{Program, module_name, name_at_x, program_kind, asks_for_program, area_pages, most_pages, blocks_of_pages}
+use Rattle.proc_model.specs.UserBytes.{user_bytes}
 use Rattle.file_rules.specs.Files.{Files, Asker}
 use Rattle.file_rules.specs.Load.{Loaded, GoesOnLoaded}
 use Rattle.file_rules.specs.ProgramFile.{ProgramFile, program_file, ReadsProgram}

@@ -5,8 +5,8 @@
 use Rattle.std.specs.Prelude.{◌≡◌, ◌⊎◌, ℕ, nat_lt, not, true, Some, Result, Ok, Err, List, length}
 use Rattle.os9_base.specs.declared.errors.TheConstants.{E_FNA, E_SHARE, E_MEMFUL}
 use Rattle.os9_base.specs.declared.limits.TheConstants.{MOST_GROUP_BYTES}
-use Rattle.io_rules.specs.PathList.{PathList}
-use Rattle.io_rules.specs.declared.modes.TheConstants.{MODE_EXECUTE}
+use Rattle.io_model.specs.PathList.{PathList}
+use Rattle.io_model.specs.declared.modes.TheConstants.{MODE_EXECUTE}
 use Rattle.file_rules.specs.Files.{Files, Asker, DriveState, NoneFailed, OneFailed, with_drives}
 use Rattle.file_rules.specs.Open.{may_open}
 use Rattle.file_rules.specs.Sharing.{is_not_shared}

@@ -6,7 +6,7 @@
 use Rattle.std.specs.Prelude.{ℕ, ◌+◌, is_none, nat_le, Some, List, length, if◌then◌else◌}
 use Rattle.os9_base.specs.declared.calls.TheConstants.{I_READ, I_READLN}
 use Rattle.os9_base.specs.declared.errors.TheConstants.{E_BPADDR, E_EOF}
-use Rattle.proc_rules.specs.UserBytes.{user_bytes}
+use Rattle.proc_model.specs.UserBytes.{user_bytes}
 use Rattle.io_model.specs.Line.{first_line, has_return}
 use Rattle.io_model.specs.declared.terminal.ReadKind.{ReadKind}
 use Rattle.io_model.specs.declared.terminal.ReadKind.TheVariants.{Bytes, WholeLine}
@@ -15,10 +15,10 @@ use Rattle.lock_model.specs.declared.lock.Range.{Range}
 use Rattle.lock_model.specs.declared.lock.Request.{Request}
 use Rattle.lock_model.specs.Records.{holding}
 use Rattle.rbf_change.specs.Contents.{bytes_from}
-use Rattle.io_rules.specs.Modes.{can_read}
-use Rattle.io_rules.specs.Pipes.{count_regs}
-use Rattle.io_rules.specs.Read.{i_read as reads_device, i_readln as reads_device_line}
-use Rattle.io_rules.specs.Step.{IoStep}
+use Rattle.io_model.specs.Modes.{can_read}
+use Rattle.io_model.specs.Pipes.{count_regs}
+use Rattle.io_model.specs.Read.{i_read as reads_device, i_readln as reads_device_line}
+use Rattle.io_model.specs.Step.{IoStep}
 use Rattle.file_rules.specs.Files.{Files, Asker, OpenFile, with_position, with_records}
 use Rattle.file_rules.specs.Locking.{is_for_update, position_of, range_from, request_now, asks}
 use Rattle.file_rules.specs.declared.claim.Claim.{Claim}

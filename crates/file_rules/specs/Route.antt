@@ -15,7 +15,7 @@ use Rattle.rbf_model.specs.File.{DiskFile}
 use Rattle.rbf_model.specs.Volume.{DiskVolume}
 use Rattle.rbf_model.specs.Walk.{WalkEnd, arrives, not_allowed, not_found, walk}
 use Rattle.rbf_change.specs.Calls.{shape}
-use Rattle.io_rules.specs.PathList.{PathList, path_list, has_slash_behind_device, ends_in_dots}
+use Rattle.io_model.specs.PathList.{PathList, path_list, has_slash_behind_device, ends_in_dots}
 use Rattle.file_rules.specs.Files.{Files, Asker, directory_of, volume_at}
 use Rattle.file_rules.specs.Step.{Step, refused, reaches, needs}
 use Rattle.lock_model.specs.declared.place.FilePlace.{FilePlace}

@@ -3,16 +3,16 @@ use Rattle.std.specs.Prelude.{ℕ, ◌-◌, ◌/◌, ◌%◌, ◌==◌, nat_lt, 
 use Rattle.os9_base.specs.declared.registers.Regs.{Regs}
 use Rattle.os9_base.specs.declared.registers.TimePacket.{TimePacket}
 use Rattle.os9_outer.specs.declared.drive.DriveFault.TheVariants.{WriteFault}
-use Rattle.proc_rules.specs.Records.{zero_regs}
+use Rattle.proc_model.specs.Records.{zero_regs}
 use Rattle.rbf_model.specs.File.{DiskFile}
 use Rattle.rbf_model.specs.Volume.{DiskVolume}
 use Rattle.rbf_change.specs.Calls.{replaced, minute_of, day_of}
 use Rattle.rbf_change.specs.Names.{new_entry, new_listing}
 use Rattle.io_model.specs.Path.{slot_of, with_slot, paths_after_begin}
 use Rattle.io_model.specs.declared.path.Target.TheVariants.{File}
-use Rattle.io_rules.specs.Io.{first_io, new_desc, with_paths}
-use Rattle.io_rules.specs.Rows.{calling, opened_times}
-use Rattle.io_rules.specs.Step.{IoEnd, answers}
+use Rattle.io_model.specs.Io.{first_io, new_desc, with_paths}
+use Rattle.io_model.specs.Rows.{calling, opened_times}
+use Rattle.io_model.specs.Step.{IoEnd, answers}
 use Rattle.file_rules.specs.Attempts.{file_step, files_after}
 use Rattle.file_rules.specs.Change.{Change, sets_attributes}
 use Rattle.file_rules.specs.Files.{Files, Asker, DriveState, new_drive, with_io, with_path_table, with_volume}

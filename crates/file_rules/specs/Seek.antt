@@ -5,8 +5,8 @@
 use Rattle.std.specs.Prelude.{ℕ, ◌+◌, ◌*◌}
 use Rattle.os9_base.specs.declared.errors.TheConstants.{E_BPNUM}
 use Rattle.os9_base.specs.declared.registers.Regs.{Regs}
-use Rattle.io_rules.specs.Io.{Io, open_path}
-use Rattle.io_rules.specs.Step.{Caller, IoStep, needs, done as io_done}
+use Rattle.io_model.specs.Io.{Io, open_path}
+use Rattle.io_model.specs.Step.{Caller, IoStep, needs, done as io_done}
 use Rattle.file_rules.specs.Files.{Files, Asker, with_position}
 use Rattle.file_rules.specs.OnFile.{on_file}
 use Rattle.file_rules.specs.Step.{FileStep, done}

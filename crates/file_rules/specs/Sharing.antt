@@ -4,7 +4,7 @@ use Rattle.std.specs.Prelude.{ℕ, ◌==◌, ◌&&◌, ◌||◌, Bool, true, fal
 use Rattle.std.specs.List.{list_any}
 use Rattle.std.specs.Option.{option_map_or}
 use Rattle.io_model.specs.declared.path.Desc.{Desc}
-use Rattle.io_rules.specs.Modes.{has_bit_of}
+use Rattle.io_model.specs.Modes.{has_bit_of}
 use Rattle.file_rules.specs.Files.{Files, place_of_target}
 use Rattle.file_rules.specs.Route.{Found}
 use Rattle.file_rules.specs.declared.status.TheConstants.{SINGLE_USER}

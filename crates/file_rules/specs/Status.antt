@@ -8,17 +8,17 @@ use Rattle.std.specs.Prelude.{ℕ, ◌/◌, ◌%◌, ◌==◌, not, is_none, nat
 use Rattle.os9_base.specs.declared.calls.TheConstants.{I_SETSTT}
 use Rattle.os9_base.specs.declared.errors.TheConstants.{E_BPADDR, E_UNKSVC, E_BMODE, E_EOF, E_FNA}
 use Rattle.os9_base.specs.declared.registers.Regs.{Regs}
-use Rattle.proc_rules.specs.UserBytes.{user_bytes, word_bytes}
+use Rattle.proc_model.specs.UserBytes.{user_bytes, word_bytes}
 use Rattle.lock_model.specs.Records.{holding, without_lock, written_by}
 use Rattle.lock_model.specs.declared.lock.Held.{Held}
 use Rattle.lock_model.specs.declared.lock.Range.{Range}
 use Rattle.lock_model.specs.declared.lock.Request.{Request}
 use Rattle.rbf_model.specs.File.{DiskFile}
 use Rattle.rbf_change.specs.NewFiles.{owns_file}
-use Rattle.io_rules.specs.Modes.{can_write}
-use Rattle.io_rules.specs.Step.{answers}
-use Rattle.io_rules.specs.Status.{i_getstt as gets_of_device, i_setstt as sets_of_device, options}
-use Rattle.io_rules.specs.declared.status.TheConstants.{SS_OPT, SS_READY, SS_EOF, OPTION_BYTES}
+use Rattle.io_model.specs.Modes.{can_write}
+use Rattle.io_model.specs.Step.{answers}
+use Rattle.io_model.specs.Status.{i_getstt as gets_of_device, i_setstt as sets_of_device, options}
+use Rattle.io_model.specs.declared.status.TheConstants.{SS_OPT, SS_READY, SS_EOF, OPTION_BYTES}
 use Rattle.file_rules.specs.Change.{sizes, sets_attributes}
 use Rattle.file_rules.specs.Files.{Files, Asker, OpenFile, with_records, with_ticks}
 use Rattle.file_rules.specs.Locking.{asks, is_for_update, range_of, request_now}

@@ -6,8 +6,8 @@ use Rattle.os9_base.specs.declared.registers.Regs.{Regs}
 use Rattle.os9_outer.specs.TerminalState.{TerminalState}
 use Rattle.lock_model.specs.Records.{with_waiting}
 use Rattle.rbf_model.specs.Volume.{DiskVolume}
-use Rattle.io_rules.specs.Attempts.{Does}
-use Rattle.io_rules.specs.Step.{IoEnd, answers, fails, IoEffect, IoStep}
+use Rattle.io_model.specs.Attempts.{Does}
+use Rattle.io_model.specs.Step.{IoEnd, answers, fails, IoEffect, IoStep}
 use Rattle.file_rules.specs.Change.{Change, Makes, MayBeTooLong, MayLeave}
 use Rattle.file_rules.specs.Files.{Files, Asker, DriveState, NoneFailed, OneFailed, volume_at, with_io, with_records, with_volume, with_drives}
 

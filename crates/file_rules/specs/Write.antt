@@ -9,16 +9,16 @@ use Rattle.std.specs.Prelude.{ℕ, ◌+◌, nat_lt, not, Option, Some, None, Lis
 use Rattle.os9_base.specs.declared.calls.TheConstants.{I_WRITE, I_WRITLN, F_PERR}
 use Rattle.os9_base.specs.declared.errors.TheConstants.{E_BPADDR, E_BMODE, E_FULL}
 use Rattle.os9_base.specs.declared.registers.Regs.{Regs}
-use Rattle.proc_rules.specs.UserBytes.{user_bytes}
+use Rattle.proc_model.specs.UserBytes.{user_bytes}
 use Rattle.rbf_change.specs.Calls.{cluster_size, free_total}
 use Rattle.rbf_change.specs.Contents.{written}
 use Rattle.rbf_change.specs.Growth.{clusters_needed}
-use Rattle.io_rules.specs.Modes.{can_write}
-use Rattle.io_rules.specs.Pipes.{count_regs}
-use Rattle.io_rules.specs.Step.{answers}
-use Rattle.io_rules.specs.Transfer.{line_at}
-use Rattle.io_rules.specs.Write.{i_write as writes_device, i_writln as writes_device_line, f_perr as tells_device, error_line}
-use Rattle.io_rules.specs.declared.modes.TheConstants.{STANDARD_ERROR}
+use Rattle.io_model.specs.Modes.{can_write}
+use Rattle.io_model.specs.Pipes.{count_regs}
+use Rattle.io_model.specs.Step.{answers}
+use Rattle.io_model.specs.Transfer.{line_at}
+use Rattle.io_model.specs.Write.{i_write as writes_device, i_writln as writes_device_line, f_perr as tells_device, error_line}
+use Rattle.io_model.specs.declared.modes.TheConstants.{STANDARD_ERROR}
 use Rattle.file_rules.specs.Change.{Change, writes}
 use Rattle.file_rules.specs.Files.{Files, Asker, OpenFile, with_position, with_records}
 use Rattle.file_rules.specs.Locking.{range_from, request_now, asks, pending_request}

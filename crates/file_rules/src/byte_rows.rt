@@ -1,10 +1,10 @@
 ghost use Rattle.std.specs.Prelude.{◌≡◌, Some, [], ◌∷◌, ◌++◌, codes, option_map, replicate};
 ghost use Rattle.os9_base.specs.declared.errors.TheConstants.{E_BPADDR, E_BPNUM, E_BMODE, E_UNKSVC, E_EOF, E_FNA, E_FULL, E_PNNF};
-ghost use Rattle.proc_rules.specs.Records.{zero_regs};
+ghost use Rattle.proc_model.specs.Records.{zero_regs};
 ghost use Rattle.io_model.specs.Path.{desc_of};
 ghost use Rattle.rbf_change.specs.Names.{new_listing};
-ghost use Rattle.io_rules.specs.Step.{answers, fails, refused};
-ghost use Rattle.io_rules.specs.Write.{error_line};
+ghost use Rattle.io_model.specs.Step.{answers, fails, refused};
+ghost use Rattle.io_model.specs.Write.{error_line};
 ghost use Rattle.file_rules.specs.Change.{writes, sizes, sets_attributes};
 ghost use Rattle.file_rules.specs.Rows.{on, volume_e, opened_a, opened_root, end_on, bytes_on, files_on, change_on, moving, blanks, seeking, read_behind, with_code, on_path, as_error, step_on};
 ghost use Rattle.file_rules.specs.Step.{comes, as_io};

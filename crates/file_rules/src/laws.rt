@@ -1,6 +1,6 @@
 ghost use Rattle.std.specs.Prelude.{◌≡◌, ℕ, List, []};
 ghost use Rattle.os9_outer.specs.TerminalState.{TerminalState};
-ghost use Rattle.io_rules.specs.Step.{fails};
+ghost use Rattle.io_model.specs.Step.{fails};
 ghost use Rattle.file_rules.specs.Files.{Files, Asker};
 ghost use Rattle.file_rules.specs.Step.{FileEffect, FileStep, refused, IsBroken, FileDoes};
 

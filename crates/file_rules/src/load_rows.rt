@@ -2,7 +2,7 @@ ghost use Rattle.std.specs.Prelude.{◌≡◌, Some, Ok, Err, [], ◌∷◌, rep
 ghost use Rattle.os9_base.specs.declared.errors.TheConstants.{E_KWNMOD, E_BMID};
 ghost use Rattle.proc_model.specs.Memory.{free_blocks};
 ghost use Rattle.proc_model.specs.ModuleList.{found_module};
-ghost use Rattle.proc_rules.specs.Processes.{regs_at, cells_at};
+ghost use Rattle.proc_model.specs.Processes.{regs_at, cells_at};
 ghost use Rattle.file_rules.specs.Load.{Loads};
 ghost use Rattle.file_rules.specs.LoadRows.{first_revision, second_revision, linked_memory, newer_loaded, loaded_by_two, found_by_three, given_up};
 

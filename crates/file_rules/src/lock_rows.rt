@@ -2,7 +2,7 @@
 
 ghost use Rattle.std.specs.Prelude.{◌≡◌, ◌++◌, true, false, None, Some, [], ◌∷◌, codes, option_map};
 ghost use Rattle.io_model.specs.Path.{desc_of};
-ghost use Rattle.io_rules.specs.Step.{answers, fails};
+ghost use Rattle.io_model.specs.Step.{answers, fails};
 ghost use Rattle.lock_model.specs.History.{dropped, got, put};
 ghost use Rattle.lock_model.specs.Locks.{lock_of};
 ghost use Rattle.os9_base.specs.declared.errors.TheConstants.{E_DEADLK, E_LOCK};

@@ -1,7 +1,7 @@
 ghost use Rattle.std.specs.Prelude.{◌≡◌, [], ◌∷◌, ◌++◌, codes, replicate, Some, None};
 ghost use Rattle.os9_base.specs.declared.errors.TheConstants.{E_BPADDR, E_BMODE, E_BPNAM, E_MNF, E_FNA, E_PNNF, E_CEF, E_FULL, E_SHARE, E_PTHFUL};
-ghost use Rattle.proc_rules.specs.Records.{zero_regs};
-ghost use Rattle.io_rules.specs.Step.{answers, fails};
+ghost use Rattle.proc_model.specs.Records.{zero_regs};
+ghost use Rattle.io_model.specs.Step.{answers, fails};
 ghost use Rattle.file_rules.specs.Change.{creates, makes_directory, deletes};
 ghost use Rattle.file_rules.specs.Files.{directories_at};
 ghost use Rattle.file_rules.specs.Rows.{on, volume_e, volume_full, volume_a, volume_cmds, volume_of_one, opening_ends, opened_a, end_on, files_on, change_on, with_a, place_of, no_volume, all_paths_used};

@@ -5,14 +5,14 @@ use Rattle.std.proofs.lemmas.Bool.{cases_lt}
 use Rattle.std.proofs.lemmas.List.{get_or-set_same, get_or_past, length-set}
 use Rattle.std.proofs.lemmas.Option.{none-some, same_Some}
 use Rattle.os9_base.specs.declared.registers.Pid.{Pid}
-use Rattle.io_rules.specs.Io.{Io, pending_at, open_path}
+use Rattle.io_model.specs.Io.{Io, pending_at, open_path}
 use Rattle.io_model.specs.declared.path.Target.{Target}
 use Rattle.io_model.specs.declared.path.Target.TheVariants.{File, Folder, Term, Pipe}
 use Rattle.io_model.specs.Path.{slot_of}
 use Rattle.io_model.specs.declared.pending.PendingCall.{PendingCall}
 use Rattle.io_model.specs.declared.path.SysPath.{SysPath}
-use Rattle.io_rules.specs.Again.{IsAgain, IsPending as IsKeptCall, path_number}
-use Rattle.io_rules.specs.declared.io_call.IoCall.{IoCall}
+use Rattle.io_model.specs.Again.{IsAgain, IsPending as IsKeptCall, path_number}
+use Rattle.io_model.specs.declared.io_call.IoCall.{IoCall}
 use Rattle.os9_base.specs.declared.registers.Regs.{Regs}
 use Rattle.io_state.proofs.HeldLemmas.{slot-held}
 use Rattle.io_state.proofs.OpenedLemmas.{opened-slot, opened-target}

@@ -12,13 +12,13 @@ use Rattle.rbf_model.specs.Volume.{DiskVolume}
 use Rattle.rbf_access.specs.declared.faults.FileFault.TheVariants.{Device}
 use Rattle.rbf_walk.specs.declared.error.DirError.{DirError}
 use Rattle.rbf_walk.specs.declared.error.DirError.TheVariants.{File}
-use Rattle.proc_rules.specs.Processes.{Processes}
+use Rattle.proc_model.specs.Processes.{Processes}
 use Rattle.file_rules.specs.Attempts.{asker_of, file_step, files_after, files_kept, io_effect}
 use Rattle.file_rules.specs.Files.{Asker, DriveState, Files, OneFailed, volume_at}
 use Rattle.file_rules.specs.Step.{Deed, FileStep, Step, VolumeChange, as_io, changes, deed_of, drive_of, leaves_so}
 use Rattle.file_rules.specs.declared.path_call.PathCall.{PathCall}
-use Rattle.io_rules.specs.Attempts.{result_of}
-use Rattle.io_rules.specs.Step.{IoEnd, answers, fails, keeps}
+use Rattle.io_model.specs.Attempts.{result_of}
+use Rattle.io_model.specs.Step.{IoEnd, answers, fails, keeps}
 use Rattle.lock_model.specs.Records.{Records}
 use Rattle.file_rules.specs.Locking.{records_after}
 use Rattle.file_drives.specs.Changed.{Asked, IsRefused, is_refused}

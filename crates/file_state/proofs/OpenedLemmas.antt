@@ -8,8 +8,8 @@ use Rattle.io_model.specs.declared.path.SysPath.{SysPath}
 use Rattle.io_model.specs.declared.path.Target.{Target}
 use Rattle.io_model.specs.declared.path.Target.TheVariants.{File, Folder, Term, Pipe}
 use Rattle.rbf_model.specs.Volume.{DiskVolume}
-use Rattle.io_rules.specs.Modes.{can_write}
-use Rattle.io_rules.specs.Io.{Io, OpenPath, open_path}
+use Rattle.io_model.specs.Modes.{can_write}
+use Rattle.io_model.specs.Io.{Io, OpenPath, open_path}
 use Rattle.file_rules.specs.Files.{Files, OpenFile as Found, open_file_at, place_of_target}
 use Rattle.lock_model.specs.declared.place.FilePlace.{FilePlace}
 use Rattle.file_drives.specs.Drives.{DriveView}

@@ -15,9 +15,9 @@ use Rattle.rbf_access.specs.Faults.{file_error, file_fault}
 use Rattle.rbf_access.specs.declared.faults.FileFault.{FileFault}
 use Rattle.rbf_access.specs.declared.faults.FileFault.TheVariants.{Device, NoCluster, TooManyRuns}
 use Rattle.rbf_walk.specs.declared.error.DirError.{DirError}
-use Rattle.proc_rules.specs.CallResult.{CallResult}
-use Rattle.proc_rules.specs.CallResult as came
-use Rattle.proc_rules.specs.Processes.{Processes}
+use Rattle.proc_model.specs.CallResult.{CallResult}
+use Rattle.proc_model.specs.CallResult as came
+use Rattle.proc_model.specs.Processes.{Processes}
 use Rattle.lock_model.specs.Locks.{Locks, request_of}
 use Rattle.lock_model.specs.Records.{Records, with_waiting}
 use Rattle.lock_model.specs.declared.place.FilePlace.{FilePlace}
@@ -25,9 +25,9 @@ use Rattle.lock_model.specs.declared.lock.Grant.{Grant}
 use Rattle.lock_model.specs.declared.lock.Grant.TheVariants.{Granted, Locked, Deadlock}
 use Rattle.lock_model.specs.declared.lock.Grant.TheVariants as Grants
 use Rattle.lock_model.specs.declared.lock.Request.{Request}
-use Rattle.io_rules.specs.Attempts.{result_of}
-use Rattle.io_rules.specs.Io.{Io, OpenPath, with_call}
-use Rattle.io_rules.specs.Step.{keeps}
+use Rattle.io_model.specs.Attempts.{result_of}
+use Rattle.io_model.specs.Io.{Io, OpenPath, with_call}
+use Rattle.io_model.specs.Step.{keeps}
 use Rattle.proc_state.specs.Tie.{Comes, Represents}
 use Rattle.proc_state.specs.declared.state.ProcState.{ProcState}
 use Rattle.file_rules.specs.Attempts.{asker_of, io_effect}

@@ -9,10 +9,10 @@ use Rattle.io_model.specs.Path.{desc_of}
 use Rattle.io_model.specs.declared.path.Desc.{Desc}
 use Rattle.io_model.specs.declared.path.Target.{Target}
 use Rattle.io_model.specs.declared.path.Target.TheVariants.{File, Folder, Term, Pipe}
-use Rattle.io_rules.specs.Io.{Io, first_io}
-use Rattle.io_rules.specs.Close.{after_close}
-use Rattle.io_rules.specs.Processes.{io_ended}
-use Rattle.io_rules.specs.Waiting.{io_interrupted}
+use Rattle.io_model.specs.Io.{Io, first_io}
+use Rattle.io_model.specs.Close.{after_close}
+use Rattle.io_model.specs.Processes.{io_ended}
+use Rattle.io_model.specs.Waiting.{io_interrupted}
 use Rattle.lock_model.specs.History.{dropped}
 use Rattle.lock_model.specs.Locks.{lock_of}
 use Rattle.lock_model.specs.Records.{Records, ends_lock, ends_locks_below, entered, no_records, with_waiting, without_lock}

@@ -3,11 +3,11 @@ use Rattle.std.specs.Prelude.{◌≡◌, ◌⊎◌, ℕ, ◌<◌, true, false, S
 use Rattle.os9_base.specs.declared.registers.Pid.{Pid}
 use Rattle.os9_base.specs.declared.registers.Regs.{Regs}
 use Rattle.io_model.specs.Path.{holds_path}
-use Rattle.io_rules.specs.Again.{IsAgain}
-use Rattle.io_rules.specs.Codes.{direction_of, io_call_of}
-use Rattle.io_rules.specs.Io.{Io, pending_at, with_call}
-use Rattle.io_rules.specs.declared.io_call.IoCall.{IoCall}
-use Rattle.io_rules.specs.declared.io_call.IoCall.TheVariants as Call
+use Rattle.io_model.specs.Again.{IsAgain}
+use Rattle.io_model.specs.Codes.{direction_of, io_call_of}
+use Rattle.io_model.specs.Io.{Io, pending_at, with_call}
+use Rattle.io_model.specs.declared.io_call.IoCall.{IoCall}
+use Rattle.io_model.specs.declared.io_call.IoCall.TheVariants as Call
 use Rattle.io_state.specs.Files.{IsOnDisk}
 use Rattle.io_state.specs.Sound.{MayWait}
 use Rattle.lock_model.specs.Conflict.{conflicts}

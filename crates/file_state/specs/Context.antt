@@ -4,7 +4,7 @@ use Rattle.std.specs.declared.alloc.Global.{Global}
 use Rattle.std.specs.declared.dyn_box.DynBox.{DynBox}
 use Rattle.device_table.specs.declared.devices.DeviceTable.{DeviceTable}
 use Rattle.os9_outer.specs.declared.drive.BlockDriver.{Ghosts}
-use Rattle.io_rules.specs.Io.{pending_at}
+use Rattle.io_model.specs.Io.{pending_at}
 use Rattle.io_state.specs.Context.{InCall}
 use Rattle.io_state.specs.Sound.{ReadsNoTerminal}
 use Rattle.io_state.specs.declared.requester.Requester.{Requester}

@@ -4,9 +4,9 @@ use Rattle.os9_base.specs.declared.call.CallEnd.{CallEnd}
 use Rattle.os9_base.specs.declared.call.CallEnd.TheVariants.{NoMemory}
 use Rattle.os9_base.specs.declared.registers.TimePacket.{TimePacket}
 use Rattle.os9_outer.specs.TerminalState.{TerminalState}
-use Rattle.proc_rules.specs.Processes.{Processes}
-use Rattle.io_rules.specs.Attempts.{pending_in, result_of}
-use Rattle.io_rules.specs.Step.{IoEnd}
+use Rattle.proc_model.specs.Processes.{Processes}
+use Rattle.io_model.specs.Attempts.{pending_in, result_of}
+use Rattle.io_model.specs.Step.{IoEnd}
 use Rattle.proc_state.specs.Tie.{Comes}
 use Rattle.proc_state.specs.declared.state.ProcState.{ProcState}
 use Rattle.file_rules.specs.Attempts.{asker_of, files_kept, io_effect}

@@ -6,9 +6,9 @@ use Rattle.io_model.specs.declared.path.SysPath.{SysPath}
 use Rattle.io_model.specs.declared.path.Target.{Target}
 use Rattle.io_model.specs.declared.path.Target.TheVariants.{File, Folder, Term, Pipe}
 use Rattle.rbf_model.specs.File.{is_directory}
-use Rattle.io_rules.specs.Io.{Io, OpenPath, open_path}
+use Rattle.io_model.specs.Io.{Io, OpenPath, open_path}
 use Rattle.io_state.specs.Files.{IsOnDisk}
-use Rattle.io_rules.specs.Modes.{can_write}
+use Rattle.io_model.specs.Modes.{can_write}
 use Rattle.file_rules.specs.Files.{Files, OpenFile as Found, file_in, open_file}
 use Rattle.file_rules.specs.declared.places.Directories.{Directories}
 use Rattle.lock_model.specs.declared.place.FilePlace.{FilePlace}

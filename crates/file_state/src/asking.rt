@@ -1,7 +1,7 @@
 //! Requests of calls for records of files, and what they are answered.
 
 ghost use Rattle.std.specs.Prelude.{◌≡◌, ◌<◌, None, Some, unwrap_or};
-ghost use Rattle.io_rules.specs.Io.{with_call};
+ghost use Rattle.io_model.specs.Io.{with_call};
 ghost use Rattle.io_state.specs.Sound.{MayWait, ReadsNoTerminal};
 ghost use Rattle.lock_model.specs.Locks.{request_of};
 ghost use Rattle.lock_model.specs.Records.{with_waiting};

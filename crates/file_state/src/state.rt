@@ -3,8 +3,8 @@
 ghost use Rattle.std.specs.Prelude.{◌≡◌, ◌<◌, ◌==◌, Bool, false, None, Some, IfOk, IfSome, IsSome, OnOk, OnErr, List, replicate, vec_len};
 ghost use Rattle.std.specs.Option.{option_map_or};
 ghost use Rattle.io_model.specs.Path.{new_number, slot_of};
-ghost use Rattle.io_rules.specs.Io.{first_io, pending_at, open_path};
-ghost use Rattle.io_rules.specs.Waiting.{interrupted_count};
+ghost use Rattle.io_model.specs.Io.{first_io, pending_at, open_path};
+ghost use Rattle.io_model.specs.Waiting.{interrupted_count};
 ghost use Rattle.io_state.specs.Files.{IsOnDisk};
 ghost use Rattle.lock_model.specs.Locks.{lock_of};
 ghost use Rattle.lock_model.specs.Records.{ends_lock, ends_locks_below, no_records};

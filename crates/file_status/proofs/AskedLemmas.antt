@@ -7,11 +7,11 @@ use Rattle.os9_base.specs.declared.errors.TheConstants.{E_DEADLK, E_LOCK}
 use Rattle.os9_base.specs.declared.registers.Pid.{Pid}
 use Rattle.os9_base.specs.declared.registers.TimePacket.{TimePacket}
 use Rattle.os9_outer.specs.TerminalState.{TerminalState}
-use Rattle.proc_rules.specs.Processes.{Processes, regs_at, with_regs_of}
+use Rattle.proc_model.specs.Processes.{Processes, regs_at, with_regs_of}
 use Rattle.io_model.specs.declared.path.Desc.{Desc}
 use Rattle.io_model.specs.declared.path.SysPath.{SysPath}
-use Rattle.io_rules.specs.Io.{OpenPath, pending_at, with_call}
-use Rattle.io_rules.specs.Modes.{can_write}
+use Rattle.io_model.specs.Io.{OpenPath, pending_at, with_call}
+use Rattle.io_model.specs.Modes.{can_write}
 use Rattle.io_state.specs.Sound.{IsNoRead}
 use Rattle.lock_model.specs.Locks.{Locks as LockTable, request_of}
 use Rattle.lock_model.specs.Records.{Records, holding, with_waiting}

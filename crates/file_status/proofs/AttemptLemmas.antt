@@ -5,9 +5,9 @@ use Rattle.os9_base.specs.declared.call.CallEnd.{CallEnd}
 use Rattle.os9_base.specs.declared.registers.Regs.{Regs}
 use Rattle.os9_base.specs.declared.registers.TimePacket.{TimePacket}
 use Rattle.os9_outer.specs.TerminalState.{TerminalState}
-use Rattle.proc_rules.specs.Processes.{Processes, regs_at, user_at}
-use Rattle.io_rules.specs.Status.{i_getstt as gets_of_device, i_setstt as sets_of_device}
-use Rattle.proc_rules.specs.Records.{record_at}
+use Rattle.proc_model.specs.Processes.{Processes, regs_at, user_at}
+use Rattle.io_model.specs.Status.{i_getstt as gets_of_device, i_setstt as sets_of_device}
+use Rattle.proc_model.specs.Records.{record_at}
 use Rattle.proc_state.specs.Tie.{Represents}
 use Rattle.proc_state.specs.declared.state.ProcState.{ProcState}
 use Rattle.file_rules.specs.Attempts.{asker_of, file_step}

@@ -7,7 +7,7 @@ use Rattle.os9_base.specs.declared.errors.TheConstants.{E_UNKSVC}
 use Rattle.os9_base.specs.declared.registers.Regs.{Regs}
 use Rattle.os9_base.specs.declared.registers.TimePacket.{TimePacket}
 use Rattle.os9_outer.specs.TerminalState.{TerminalState}
-use Rattle.proc_rules.specs.Processes.{Processes, regs_at, with_regs_of}
+use Rattle.proc_model.specs.Processes.{Processes, regs_at, with_regs_of}
 use Rattle.io_model.specs.declared.path.Desc.{Desc}
 use Rattle.proc_state.specs.Tie.{Represents}
 use Rattle.proc_state.specs.declared.state.ProcState.{ProcState}

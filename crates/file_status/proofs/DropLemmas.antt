@@ -5,11 +5,11 @@ use Rattle.os9_base.specs.declared.call.CallEnd.{CallEnd}
 use Rattle.os9_base.specs.declared.errors.TheConstants.{E_BMODE}
 use Rattle.os9_base.specs.declared.registers.TimePacket.{TimePacket}
 use Rattle.os9_outer.specs.TerminalState.{TerminalState}
-use Rattle.proc_rules.specs.Processes.{Processes, regs_at, with_regs_of}
+use Rattle.proc_model.specs.Processes.{Processes, regs_at, with_regs_of}
 use Rattle.io_model.specs.declared.path.Desc.{Desc}
 use Rattle.io_model.specs.declared.path.SysPath.{SysPath}
-use Rattle.io_rules.specs.Io.{Io, with_call}
-use Rattle.io_rules.specs.Step.{answers}
+use Rattle.io_model.specs.Io.{Io, with_call}
+use Rattle.io_model.specs.Step.{answers}
 use Rattle.lock_model.specs.Records.{Records, without_lock}
 use Rattle.proc_state.specs.Tie.{Represents}
 use Rattle.proc_state.specs.declared.state.ProcState.{ProcState}

@@ -1,7 +1,7 @@
 -- What is told of a file in bytes.
 use Rattle.std.proofs.Common.{◌≡◌, ℕ, ◌∙◌, List, [], ◌∷◌, ◌++◌, length, get_or, refl, ap, sym, arith}
 use Rattle.std.proofs.lemmas.List.{append_assoc}
-use Rattle.proc_rules.specs.UserBytes.{word_bytes}
+use Rattle.proc_model.specs.UserBytes.{word_bytes}
 use Rattle.rbf_model.specs.File.{DiskFile}
 use Rattle.rbf_access.specs.Reading.{IsFdOf}
 use Rattle.rbf_sector.specs.declared.fd.Fd.{Fd}

@@ -5,11 +5,11 @@ use Rattle.os9_base.specs.declared.errors.TheConstants.{E_BPADDR, E_EOF}
 use Rattle.os9_base.specs.declared.registers.Regs.{Regs}
 use Rattle.os9_base.specs.declared.registers.TimePacket.{TimePacket}
 use Rattle.os9_outer.specs.TerminalState.{TerminalState}
-use Rattle.proc_rules.specs.Processes.{Processes, cells_at, regs_at, with_memory, with_regs_of}
-use Rattle.proc_rules.specs.UserBytes.{user_bytes}
+use Rattle.proc_model.specs.Processes.{Processes, cells_at, regs_at, with_memory, with_regs_of}
+use Rattle.proc_model.specs.UserBytes.{user_bytes}
 use Rattle.proc_model.specs.MemoryChanges.{stored}
 use Rattle.io_model.specs.declared.path.Desc.{Desc}
-use Rattle.io_rules.specs.Status.{options}
+use Rattle.io_model.specs.Status.{options}
 use Rattle.proc_state.specs.Tie.{Represents}
 use Rattle.proc_state.specs.declared.state.ProcState.{ProcState}
 use Rattle.rbf_model.specs.File.{DiskFile}

@@ -3,11 +3,11 @@ use Rattle.std.proofs.Common.{◌≡◌, ℕ, ◌<◌, ◌∙◌, Bool, true, fa
 use Rattle.std.proofs.lemmas.List.{get_or_default}
 use Rattle.std.proofs.lemmas.Option.{none-some, same_Some, slice_get_read}
 use Rattle.os9_base.specs.declared.registers.Regs.{Regs}
-use Rattle.io_rules.specs.Again.{IsAgain, path_number}
-use Rattle.io_rules.specs.Io.{Io, OpenPath, pending_at, open_path}
-use Rattle.io_rules.specs.declared.io_call.IoCall.{IoCall}
+use Rattle.io_model.specs.Again.{IsAgain, path_number}
+use Rattle.io_model.specs.Io.{Io, OpenPath, pending_at, open_path}
+use Rattle.io_model.specs.declared.io_call.IoCall.{IoCall}
 use Rattle.io_state.specs.Sound.{IsNoRead}
-use Rattle.io_rules.specs.Modes.{can_write}
+use Rattle.io_model.specs.Modes.{can_write}
 use Rattle.rbf_access.specs.Mounted.{Represents}
 use Rattle.rbf_access.specs.declared.volume.Volume.{Volume}
 use Rattle.rbf_model.specs.File.{DiskFile}

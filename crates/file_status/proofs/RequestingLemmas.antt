@@ -6,12 +6,12 @@ use Rattle.os9_base.specs.declared.errors.TheConstants.{E_BMODE, E_FULL}
 use Rattle.os9_base.specs.declared.registers.Regs.{Regs}
 use Rattle.os9_base.specs.declared.registers.TimePacket.{TimePacket}
 use Rattle.os9_outer.specs.TerminalState.{TerminalState}
-use Rattle.proc_rules.specs.Processes.{Processes, regs_at, with_regs_of}
+use Rattle.proc_model.specs.Processes.{Processes, regs_at, with_regs_of}
 use Rattle.io_model.specs.declared.path.Desc.{Desc}
 use Rattle.io_model.specs.declared.path.SysPath.{SysPath}
-use Rattle.io_rules.specs.Io.{Io, with_call}
-use Rattle.io_rules.specs.Modes.{can_write}
-use Rattle.io_rules.specs.Step.{answers}
+use Rattle.io_model.specs.Io.{Io, with_call}
+use Rattle.io_model.specs.Modes.{can_write}
+use Rattle.io_model.specs.Step.{answers}
 use Rattle.lock_model.specs.History.{got}
 use Rattle.lock_model.specs.Records.{Records, holding, with_waiting, without_lock}
 use Rattle.lock_model.specs.declared.lock.Grant.{Grant}

@@ -7,9 +7,9 @@ use Rattle.os9_base.specs.declared.errors.TheConstants.{E_FNA, E_BMODE}
 use Rattle.os9_base.specs.declared.registers.Regs.{Regs}
 use Rattle.os9_base.specs.declared.registers.TimePacket.{TimePacket}
 use Rattle.os9_outer.specs.TerminalState.{TerminalState}
-use Rattle.proc_rules.specs.Processes.{Processes, regs_at, user_at, with_regs_of}
+use Rattle.proc_model.specs.Processes.{Processes, regs_at, user_at, with_regs_of}
 use Rattle.io_model.specs.declared.path.Desc.{Desc}
-use Rattle.io_rules.specs.Modes.{can_write}
+use Rattle.io_model.specs.Modes.{can_write}
 use Rattle.proc_state.specs.Tie.{Represents}
 use Rattle.proc_state.specs.declared.state.ProcState.{ProcState}
 use Rattle.rbf_model.specs.File.{DiskFile}
@@ -32,7 +32,7 @@ use Rattle.file_rules.specs.Seek.{long_of}
 use Rattle.file_rules.specs.Locking.{is_for_update, request_now}
 use Rattle.file_rules.specs.Status.{locks_bytes, sets_attributes_of, sets_lock, sets_size, size_claim, sizes_locked}
 use Rattle.file_rules.specs.Step.{FileStep, comes, changes, leaves, reaches, refuses}
-use Rattle.io_rules.specs.Step.{answers}
+use Rattle.io_model.specs.Step.{answers}
 use Rattle.lock_model.specs.declared.place.FilePlace.{FilePlace}
 use Rattle.file_drives.specs.Changed.{ChangesVolume, numbered}
 use Rattle.file_drives.specs.Drives.{DriveView}

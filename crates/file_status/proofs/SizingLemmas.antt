@@ -9,9 +9,9 @@ use Rattle.os9_base.specs.declared.errors.TheConstants.{E_FULL, E_SLF}
 use Rattle.os9_base.specs.declared.registers.Regs.{Regs}
 use Rattle.os9_base.specs.declared.registers.TimePacket.{TimePacket}
 use Rattle.os9_outer.specs.TerminalState.{TerminalState}
-use Rattle.proc_rules.specs.Processes.{Processes, regs_at, with_regs_of}
-use Rattle.io_rules.specs.Io.{Io, with_call}
-use Rattle.io_rules.specs.Step.{answers}
+use Rattle.proc_model.specs.Processes.{Processes, regs_at, with_regs_of}
+use Rattle.io_model.specs.Io.{Io, with_call}
+use Rattle.io_model.specs.Step.{answers}
 use Rattle.lock_model.specs.History.{dropped, put}
 use Rattle.lock_model.specs.Locks.{lock_of}
 use Rattle.lock_model.specs.Records.{Records, entered, with_waiting, without_lock, written_by}

@@ -4,11 +4,11 @@ use Rattle.os9_base.specs.declared.call.CallEnd.{CallEnd}
 use Rattle.os9_base.specs.declared.registers.Regs.{Regs}
 use Rattle.os9_base.specs.declared.registers.TimePacket.{TimePacket}
 use Rattle.os9_outer.specs.TerminalState.{TerminalState}
-use Rattle.proc_rules.specs.Processes.{Processes, with_memory, with_regs_of}
+use Rattle.proc_model.specs.Processes.{Processes, with_memory, with_regs_of}
 use Rattle.proc_model.specs.MemoryChanges.{stored}
-use Rattle.io_rules.specs.Attempts.{result_of}
-use Rattle.io_rules.specs.Io.{with_call}
-use Rattle.io_rules.specs.Step.{IoEnd, answers, fails}
+use Rattle.io_model.specs.Attempts.{result_of}
+use Rattle.io_model.specs.Io.{with_call}
+use Rattle.io_model.specs.Step.{IoEnd, answers, fails}
 use Rattle.proc_state.specs.Tie.{Comes, Represents}
 use Rattle.proc_state.specs.declared.state.ProcState.{ProcState}
 use Rattle.rbf_model.specs.File.{DiskFile}

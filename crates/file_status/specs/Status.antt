@@ -6,17 +6,17 @@ use Rattle.os9_base.specs.declared.call.CallEnd.TheVariants.{Done, NoMemory}
 use Rattle.os9_base.specs.declared.registers.Regs.{Regs}
 use Rattle.os9_base.specs.declared.registers.TimePacket.{TimePacket}
 use Rattle.os9_outer.specs.TerminalState.{TerminalState}
-use Rattle.proc_rules.specs.Processes.{Processes, with_regs_of}
-use Rattle.io_rules.specs.Io.{with_call}
-use Rattle.io_rules.specs.Status.{options}
-use Rattle.io_rules.specs.declared.status.TheConstants.{OPTION_BYTES}
+use Rattle.proc_model.specs.Processes.{Processes, with_regs_of}
+use Rattle.io_model.specs.Io.{with_call}
+use Rattle.io_model.specs.Status.{options}
+use Rattle.io_model.specs.declared.status.TheConstants.{OPTION_BYTES}
 use Rattle.lock_model.specs.Records.{Records, without_lock, written_by}
 use Rattle.lock_model.specs.declared.lock.Held.{Held}
 use Rattle.rbf_change.specs.Calls.{cluster_size}
 use Rattle.rbf_change.specs.Growth.{clusters_needed}
 use Rattle.rbf_entries.specs.Attributes.{attribute_calls}
 use Rattle.rbf_write.specs.Sizes.{size_calls}
-use Rattle.proc_rules.specs.Records.{record_at}
+use Rattle.proc_model.specs.Records.{record_at}
 use Rattle.proc_state.specs.Tie.{Represents}
 use Rattle.proc_state.specs.declared.state.ProcState.{ProcState}
 use Rattle.file_rules.specs.Attempts.{asker_of}

@@ -3,8 +3,8 @@
 ghost use Rattle.std.specs.Prelude.{◌≡◌, ◌<◌};
 ghost use Rattle.file_state.specs.Context.{InFileCall};
 ghost use Rattle.io_state.specs.Sound.{ReadsNoTerminal};
-ghost use Rattle.proc_rules.specs.Records.{IsLiving};
-ghost use Rattle.proc_rules.specs.Processes.{Processes, with_regs_of};
+ghost use Rattle.proc_model.specs.Records.{IsLiving};
+ghost use Rattle.proc_model.specs.Processes.{Processes, with_regs_of};
 ghost use Rattle.proc_state.specs.Tie.{Represents};
 ghost use Rattle.file_status.specs.Status.{uncalled};
 

@@ -2,7 +2,7 @@
 
 ghost use Rattle.std.specs.Prelude.{◌≡◌, ◌∷◌, ◌++◌, IsSome};
 ghost use Rattle.io_model.specs.declared.path.Target.{Target};
-ghost use Rattle.io_rules.specs.Status.{options};
+ghost use Rattle.io_model.specs.Status.{options};
 ghost use Rattle.rbf_access.specs.Reading.{IsFdOf};
 ghost use Rattle.rbf_model.specs.File.{DiskFile};
 ghost use Rattle.file_rules.specs.Files.{place_of_target};
@@ -10,7 +10,7 @@ ghost use Rattle.file_rules.specs.Seek.{long_of as long_of_model};
 ghost use Rattle.file_rules.specs.Status.{descriptor_front as descriptor_front_model, long_bytes as long_bytes_model, long_regs as long_regs_model};
 
 use file_rules::status::DESCRIPTOR_BYTES;
-use io_rules::status::OPTION_BYTES;
+use io_model::status::OPTION_BYTES;
 use os9_base::registers::Regs;
 use rbf_sector::Fd;
 

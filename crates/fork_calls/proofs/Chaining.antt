@@ -1,13 +1,13 @@
 -- What F$Chain comes to.
 use Rattle.std.proofs.Common.{◌≡◌, ℕ, None}
 use Rattle.proc_model.specs.Memory.{MemoryState}
-use Rattle.proc_rules.specs.Records.{with_regs}
-use Rattle.proc_rules.specs.Signals.{with_intercept}
-use Rattle.proc_rules.specs.CallResult.{CallResult, done}
-use Rattle.proc_rules.specs.Chain.{begun_anew, with_program}
-use Rattle.proc_rules.specs.Processes.{Processes, own_at, with_own, with_records}
-use Rattle.proc_rules.specs.ModuleLinks.{without_primary_link}
-use Rattle.proc_rules.specs.Program.{Program, start_regs, start_own}
+use Rattle.proc_model.specs.Records.{with_regs}
+use Rattle.proc_model.specs.Signals.{with_intercept}
+use Rattle.proc_model.specs.CallResult.{CallResult, done}
+use Rattle.proc_model.specs.Chain.{begun_anew, with_program}
+use Rattle.proc_model.specs.Processes.{Processes, own_at, with_own, with_records}
+use Rattle.proc_model.specs.ModuleLinks.{without_primary_link}
+use Rattle.proc_model.specs.Program.{Program, start_regs, start_own}
 use Rattle.fork_calls.specs.declared.starting.Beginning.{Beginning}
 use Rattle.fork_calls.specs.Chaining.{begun_so}
 

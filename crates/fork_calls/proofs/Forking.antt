@@ -4,12 +4,12 @@ use Rattle.std.proofs.lemmas.Option.{same_Some}
 use Rattle.os9_base.specs.declared.errors.TheConstants.{E_PRCFUL}
 use Rattle.proc_model.specs.Memory.{MemoryState}
 use Rattle.os9_base.specs.declared.registers.Pid.{Pid}
-use Rattle.proc_rules.specs.Records.{free_process, record_at, after_make, with_regs}
-use Rattle.proc_rules.specs.Turns.{with_turn}
-use Rattle.proc_rules.specs.CallResult.{CallResult, done, refused, needs}
-use Rattle.proc_rules.specs.Fork.{with_child, forked_regs}
-use Rattle.proc_rules.specs.Processes.{Processes, regs_at, with_own, with_regs_of}
-use Rattle.proc_rules.specs.Program.{Program}
+use Rattle.proc_model.specs.Records.{free_process, record_at, after_make, with_regs}
+use Rattle.proc_model.specs.Turns.{with_turn}
+use Rattle.proc_model.specs.CallResult.{CallResult, done, refused, needs}
+use Rattle.proc_model.specs.Fork.{with_child, forked_regs}
+use Rattle.proc_model.specs.Processes.{Processes, regs_at, with_own, with_regs_of}
+use Rattle.proc_model.specs.Program.{Program}
 use Rattle.proc_state.specs.Beginning.{with_made}
 use Rattle.fork_calls.specs.declared.starting.Beginning.{Beginning}
 use Rattle.fork_calls.specs.Loading.{loads_program, with_new_child}

@@ -6,9 +6,9 @@ use Rattle.os9_base.specs.declared.errors.TheConstants.{E_MEMFUL}
 use Rattle.proc_model.specs.declared.memory.MemoryFault.{MemoryFault}
 use Rattle.proc_model.specs.Memory.{MemoryState, memory_error}
 use Rattle.proc_model.specs.MemoryChanges.{linked, started}
-use Rattle.proc_rules.specs.CallResult.{CallResult, refuses, changes}
-use Rattle.proc_rules.specs.Processes.{Processes, with_memory}
-use Rattle.proc_rules.specs.Program.{Program, most_pages, blocks_of_pages, start_regs, start_own, with_parameters}
+use Rattle.proc_model.specs.CallResult.{CallResult, refuses, changes}
+use Rattle.proc_model.specs.Processes.{Processes, with_memory}
+use Rattle.proc_model.specs.Program.{Program, most_pages, blocks_of_pages, start_regs, start_own, with_parameters}
 use Rattle.guest_memory.specs.Tie.{Represents as RepresentsMemory, Answers as AnswersMemory}
 use Rattle.proc_state.specs.declared.state.ProcState.{ProcState}
 use Rattle.proc_state.specs.Tie.{Represents}

@@ -3,12 +3,12 @@ use Rattle.std.proofs.Common.{◌≡◌, ℕ, ◌==◌, Bool, true, false, not, 
 use Rattle.os9_base.specs.declared.errors.TheConstants.{E_BPADDR, E_NEMOD, E_BNAM, E_MNF}
 use Rattle.proc_model.specs.ModuleList.{ModuleEntry, module_entry_at, found_module}
 use Rattle.proc_model.proofs.ModuleListLaws.{found_entry}
-use Rattle.proc_rules.specs.CallResult.{CallResult, needs, refuses}
-use Rattle.proc_rules.specs.Processes.{Processes, regs_at, cells_at}
-use Rattle.proc_rules.specs.ModuleLinks.{Entered, entered_at}
-use Rattle.proc_rules.specs.Program.{Program, program_kind, reads_program, name_at_x, is_unreadable, module_name, asks_for_program, area_pages}
-use Rattle.proc_rules.specs.declared.program_name.ProgramName.{ProgramName}
-use Rattle.proc_rules.specs.UserBytes.{user_bytes}
+use Rattle.proc_model.specs.CallResult.{CallResult, needs, refuses}
+use Rattle.proc_model.specs.Processes.{Processes, regs_at, cells_at}
+use Rattle.proc_model.specs.ModuleLinks.{Entered, entered_at}
+use Rattle.proc_model.specs.Program.{Program, program_kind, reads_program, name_at_x, is_unreadable, module_name, asks_for_program, area_pages}
+use Rattle.proc_model.specs.declared.program_name.ProgramName.{ProgramName}
+use Rattle.proc_model.specs.UserBytes.{user_bytes}
 use Rattle.guest_memory.specs.Tie.{IsSame as IsSameMemory}
 use Rattle.proc_state.specs.declared.state.ProcState.{ProcState}
 use Rattle.proc_state.specs.Tie.{Represents, IsSame}

@@ -6,12 +6,12 @@ use Rattle.os9_base.specs.declared.errors.TheConstants.{E_MEMFUL}
 use Rattle.proc_model.specs.declared.memory.MemoryFault.{MemoryFault}
 use Rattle.proc_model.specs.Memory.{MemoryState}
 use Rattle.proc_model.specs.MemoryChanges.{linked, started}
-use Rattle.proc_rules.specs.Records.{record_at, after_make, with_regs}
-use Rattle.proc_rules.specs.Turns.{with_turn}
-use Rattle.proc_rules.specs.CallResult.{CallResult, refused, refuses, changes}
-use Rattle.proc_rules.specs.Chain.{with_program}
-use Rattle.proc_rules.specs.Processes.{Processes, with_own}
-use Rattle.proc_rules.specs.Program.{Program, most_pages, blocks_of_pages, start_regs, start_own, with_parameters}
+use Rattle.proc_model.specs.Records.{record_at, after_make, with_regs}
+use Rattle.proc_model.specs.Turns.{with_turn}
+use Rattle.proc_model.specs.CallResult.{CallResult, refused, refuses, changes}
+use Rattle.proc_model.specs.Chain.{with_program}
+use Rattle.proc_model.specs.Processes.{Processes, with_own}
+use Rattle.proc_model.specs.Program.{Program, most_pages, blocks_of_pages, start_regs, start_own, with_parameters}
 use Rattle.proc_state.specs.declared.state.ProcState.{ProcState}
 use Rattle.proc_state.specs.Tie.{Represents}
 use Rattle.fork_calls.specs.declared.starting.Beginning.{Beginning}

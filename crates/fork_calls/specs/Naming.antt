@@ -2,10 +2,10 @@
 use Rattle.std.specs.Prelude.{◌≡◌, ℕ, ◌==◌, not, Option, Some, List, length, take}
 use Rattle.os9_base.specs.declared.errors.TheConstants.{E_NEMOD, E_BNAM, E_MNF}
 use Rattle.proc_model.specs.ModuleList.{ModuleEntry, module_entry_at}
-use Rattle.proc_rules.specs.CallResult.{CallResult, refused, needs, refuses}
-use Rattle.proc_rules.specs.Processes.{Processes}
-use Rattle.proc_rules.specs.ModuleLinks.{Entered, found_entry}
-use Rattle.proc_rules.specs.Program.{Program, program_kind, asks_for_program, reads_program}
+use Rattle.proc_model.specs.CallResult.{CallResult, refused, needs, refuses}
+use Rattle.proc_model.specs.Processes.{Processes}
+use Rattle.proc_model.specs.ModuleLinks.{Entered, found_entry}
+use Rattle.proc_model.specs.Program.{Program, program_kind, asks_for_program, reads_program}
 use Rattle.fork_calls.specs.declared.program.NamedProgram.{NamedProgram}
 
 -- the call goes on with the entered program of this name, if there is a name, and of this type and language

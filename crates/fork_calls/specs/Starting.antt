@@ -1,13 +1,13 @@
 -- A program that a process starts (System Programmer's Manual, F$Fork and F$Chain).
 use Rattle.std.specs.Prelude.{ℕ}
 use Rattle.os9_base.specs.declared.errors.TheConstants.{E_PRCFUL}
-use Rattle.proc_rules.specs.Records.{free_process}
-use Rattle.proc_rules.specs.CallResult.{CallResult, done, needs}
-use Rattle.proc_rules.specs.Chain.{begun_anew, with_program}
-use Rattle.proc_rules.specs.Fork.{with_child, forked_regs}
-use Rattle.proc_rules.specs.Processes.{Processes, own_at, regs_at, with_regs_of}
-use Rattle.proc_rules.specs.ModuleLinks.{without_primary_link}
-use Rattle.proc_rules.specs.Program.{Program}
+use Rattle.proc_model.specs.Records.{free_process}
+use Rattle.proc_model.specs.CallResult.{CallResult, done, needs}
+use Rattle.proc_model.specs.Chain.{begun_anew, with_program}
+use Rattle.proc_model.specs.Fork.{with_child, forked_regs}
+use Rattle.proc_model.specs.Processes.{Processes, own_at, regs_at, with_regs_of}
+use Rattle.proc_model.specs.ModuleLinks.{without_primary_link}
+use Rattle.proc_model.specs.Program.{Program}
 use Rattle.fork_calls.specs.Loading.{loads_program}
 
 -- a child of a process starts the program

@@ -5,7 +5,7 @@ ghost use Rattle.std.specs.Option.{ForSome};
 ghost use Rattle.guest_memory.specs.Tie.{Represents as RepresentsMemory, Answers as AnswersMemory, modules_of};
 ghost use Rattle.proc_model.specs.Memory.{MemoryState};
 ghost use Rattle.proc_model.specs.ModuleList.{ModuleEntry, module_entry_at};
-ghost use Rattle.proc_rules.specs.Processes.{Processes};
+ghost use Rattle.proc_model.specs.Processes.{Processes};
 ghost use Rattle.proc_state.specs.Tie.{Represents};
 ghost use Rattle.fork_calls.specs.Loading.{IsLoaded, IsNotLoaded, begun};
 ghost use Rattle.fork_calls.specs.Naming.{meant};

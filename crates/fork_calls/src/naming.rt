@@ -5,7 +5,7 @@ ghost use Rattle.guest_memory.specs.Tie.{Represents, IsSame, modules_of, cells_o
 ghost use Rattle.os9_base.specs.Name.{is_name_character as is_name_character_model};
 ghost use Rattle.proc_model.specs.Memory.{MemoryState};
 ghost use Rattle.proc_model.specs.ModuleList.{ModuleEntry, module_entry_at};
-ghost use Rattle.proc_rules.specs.Program.{program_name, name_of_run as name_of_run_model, ends_in_slash as ends_in_slash_model, asks_for_program as asks_for_program_model, area_pages as area_pages_model};
+ghost use Rattle.proc_model.specs.Program.{program_name, name_of_run as name_of_run_model, ends_in_slash as ends_in_slash_model, asks_for_program as asks_for_program_model, area_pages as area_pages_model};
 ghost use Rattle.fork_calls.specs.Naming.{IsFound, IsUnfound};
 
 use guest_memory::memory::Memory;
@@ -14,7 +14,7 @@ use os9_base::name::{Name, parse_name};
 use os9_base::registers::Pid;
 use proc_calls::program::PAGE_BYTES;
 use proc_model::module::ModId;
-use proc_rules::program_name::ProgramName;
+use proc_model::program_name::ProgramName;
 
 /// The type and language of a program in 6809 code (Level Two manual, "Memory modules").
 const PROGRAM: u8 = 0x11;

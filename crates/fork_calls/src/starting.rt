@@ -4,7 +4,7 @@ ghost use Rattle.std.specs.Prelude.{◌≡◌, ℕ, ◌+◌, ◌*◌, ◌<◌, �
 ghost use Rattle.guest_memory.specs.Tie.{Represents, modules_of};
 ghost use Rattle.proc_model.specs.Memory.{MemoryState};
 ghost use Rattle.proc_model.specs.ModuleList.{ModuleEntry, module_entry_at};
-ghost use Rattle.proc_rules.specs.Program as model;
+ghost use Rattle.proc_model.specs.Program as model;
 ghost use Rattle.fork_calls.specs.Naming.{meant};
 
 use crate::program::NamedProgram;
@@ -13,7 +13,7 @@ use os9_base::limits::{BLOCK_BYTES, MAP_SLOTS};
 use os9_base::registers::Regs;
 use proc_calls::program::{MOST_PAGES, PAGE_BYTES};
 use proc_model::module::ModuleInfo;
-use proc_rules::own::Own;
+use proc_model::own::Own;
 
 /// What a process begins with, other than its memory.
 #[derive(Clone, Copy, Debug)]

@@ -7,7 +7,7 @@ use Rattle.std.proofs.Math.ListN.{drop_of_length-le}
 use Rattle.std.proofs.lemmas.Bool.{cases_lt, and_parts, and_from, leb-true, le-leb, ne_eqb, eq-eqb, cond-true, cond-false}
 use Rattle.byteorder.specs.Endian.{big_number}
 use Rattle.os9_base.specs.Name.{stored_name}
-use Rattle.proc_model.specs.Crc.{crc_of}
+use Rattle.proc_model.specs.CrcModel.{crc_of}
 use Rattle.proc_model.specs.Module.{header_word, module_size, name_offset, module_kind, module_attributes, is_program, header_length, program_word, module_entry, crc_offset, module_name, has_sync, has_size, has_module_name, has_entry, keeps_header_rule, keeps_parity_rule, crc_field, keeps_crc_rule, module_fault, info_at, next_place, step_at, step_from, IsModule}
 use Rattle.proc_model.specs.declared.module.ModuleFault.TheVariants.{BadSync, BadParity, BadCrc}
 use Rattle.proc_model.specs.declared.module.ModuleStep.TheVariants.{Module, End, Fault}

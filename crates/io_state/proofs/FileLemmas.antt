@@ -6,7 +6,7 @@ use Rattle.io_model.specs.declared.path.Desc.{Desc}
 use Rattle.io_model.specs.declared.path.Target.{Target}
 use Rattle.io_model.specs.declared.path.Target.TheVariants.{File, Folder, Term, Pipe}
 use Rattle.io_model.specs.Path.{PathTable, ArePaths, desc_of, with_desc}
-use Rattle.io_rules.specs.Io.{Io, with_paths}
+use Rattle.io_model.specs.Io.{Io, with_paths}
 use Rattle.io_state.specs.Files.{IsOnDisk}
 use Rattle.io_state.specs.Sound.{target_at, IsIo}
 use Rattle.io_state.proofs.SoundLemmas.{MayOpen, are-fewer, is-io_with_paths}

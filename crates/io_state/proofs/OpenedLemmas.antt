@@ -8,11 +8,11 @@ use Rattle.io_model.specs.declared.path.SysPath.{SysPath}
 use Rattle.io_model.specs.declared.path.Target.{Target}
 use Rattle.io_model.specs.declared.path.Target.TheVariants.{Term}
 use Rattle.io_model.specs.declared.terminal.ReadKind.{ReadKind}
-use Rattle.io_rules.specs.Codes.{io_call_of, direction_of}
-use Rattle.io_rules.specs.Io.{Io, OpenPath, pending_at, open_path}
-use Rattle.io_rules.specs.Transfer.{first_call}
-use Rattle.io_rules.specs.declared.io_call.Direction.TheVariants as Way
-use Rattle.io_rules.specs.declared.io_call.IoCall.{IoCall}
+use Rattle.io_model.specs.Codes.{io_call_of, direction_of}
+use Rattle.io_model.specs.Io.{Io, OpenPath, pending_at, open_path}
+use Rattle.io_model.specs.Transfer.{first_call}
+use Rattle.io_model.specs.declared.io_call.Direction.TheVariants as Way
+use Rattle.io_model.specs.declared.io_call.IoCall.{IoCall}
 use Rattle.io_state.proofs.HeldLemmas.{slot-held}
 use Rattle.io_state.proofs.WaitLemmas.{none-some, some-same, reading-moves}
 use Rattle.io_state.specs.Again.{IsAgain, IsPending, path_number}

@@ -12,8 +12,8 @@ use Rattle.io_model.specs.declared.path.Target.{Target}
 use Rattle.io_model.specs.declared.path.Target.TheVariants.{File, Folder, Term, Pipe}
 use Rattle.io_model.specs.Path.{PathTable, ArePaths, desc_of, with_desc, with_slot, path_at, is_held, slot_of, paths_after_close, paths_after_begin, paths_after_dup, with_path, free_number, free_path, closed_desc}
 use Rattle.io_model.specs.Pipe.{IsPipe, pipe_of, with_pipe, without_pipe, free_pipe, pipes_after_begin}
-use Rattle.io_rules.specs.Close.{without_path, without_target, after_close}
-use Rattle.io_rules.specs.Io.{Io, first_paths, new_desc, with_paths, with_pipes}
+use Rattle.io_model.specs.Close.{without_path, without_target, after_close}
+use Rattle.io_model.specs.Io.{Io, first_paths, new_desc, with_paths, with_pipes}
 use Rattle.io_state.specs.Sound.{target_at, AreTargets, AreWaits, IsIo, IsThere, opened_on}
 
 abbrev nothing : {X : Type 0} → Option X

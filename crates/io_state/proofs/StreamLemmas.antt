@@ -11,7 +11,7 @@ use Rattle.io_model.specs.declared.pipe.PipeAns.{PipeAns}
 use Rattle.io_model.specs.declared.pipe.PipeAns.TheVariants.{Done, End, NoReader}
 use Rattle.io_model.specs.Line.{line_length, return_place}
 use Rattle.io_model.specs.Pipe.{IsPipe, pipe_room, with_pipe, answer_unmoved, read_answer, read_line_answer, write_answer, moved_count, bytes_moved, buffer_after_read}
-use Rattle.io_rules.specs.Io.{Io, with_pipe_bytes}
+use Rattle.io_model.specs.Io.{Io, with_pipe_bytes}
 use Rattle.io_state.specs.Sound.{AreTargets}
 
 -- no number of a range passes

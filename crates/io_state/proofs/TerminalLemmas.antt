@@ -12,10 +12,10 @@ use Rattle.io_model.specs.declared.path.Target.TheVariants.{File, Folder, Term, 
 use Rattle.io_model.specs.declared.pending.PendingCall.{PendingCall}
 use Rattle.io_model.specs.declared.terminal.Progress.{Progress}
 use Rattle.io_model.specs.declared.terminal.ReadKind.{ReadKind}
-use Rattle.io_rules.specs.Io.{Io, pending_at, terminal_at, with_call, with_paths, with_terminal}
-use Rattle.io_rules.specs.Close.{without_path, without_target}
-use Rattle.io_rules.specs.Processes.{closed_below, closed_if_open, without_user}
-use Rattle.io_rules.specs.Waiting.{pid, wait_target}
+use Rattle.io_model.specs.Io.{Io, pending_at, terminal_at, with_call, with_paths, with_terminal}
+use Rattle.io_model.specs.Close.{without_path, without_target}
+use Rattle.io_model.specs.Processes.{closed_below, closed_if_open, without_user}
+use Rattle.io_model.specs.Waiting.{pid, wait_target}
 use Rattle.io_state.proofs.HeldLemmas.{holder-within}
 use Rattle.io_state.proofs.WaitLemmas.{read-leaves, no-reader_off, waits-after_read, waits-after_write, waits-left, waits-released, waits-dropped, waits-forgotten}
 use Rattle.io_state.specs.Sound.{AreWaits, IsIo, IsNoRead, most_of}

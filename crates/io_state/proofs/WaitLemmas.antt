@@ -18,13 +18,13 @@ use Rattle.io_model.specs.declared.terminal.Progress.{Progress}
 use Rattle.io_model.specs.declared.terminal.Progress.TheVariants as progress
 use Rattle.io_model.specs.declared.terminal.ReadKind.{ReadKind}
 use Rattle.io_model.specs.declared.terminal.Reading.{Reading}
-use Rattle.io_rules.specs.Codes.{io_call_of, direction_of, direction_of_call}
-use Rattle.io_rules.specs.Io.{Io, pending_at, terminal_at, target_of, with_paths, with_pipes, with_terminal, with_call}
-use Rattle.io_rules.specs.Processes.{without_user}
-use Rattle.io_rules.specs.Waiting.{pid, wait_target}
-use Rattle.io_rules.specs.declared.io_call.Direction.TheVariants as Way
-use Rattle.io_rules.specs.declared.io_call.IoCall.{IoCall}
-use Rattle.io_rules.specs.declared.io_call.IoCall.TheVariants as Call
+use Rattle.io_model.specs.Codes.{io_call_of, direction_of, direction_of_call}
+use Rattle.io_model.specs.Io.{Io, pending_at, terminal_at, target_of, with_paths, with_pipes, with_terminal, with_call}
+use Rattle.io_model.specs.Processes.{without_user}
+use Rattle.io_model.specs.Waiting.{pid, wait_target}
+use Rattle.io_model.specs.declared.io_call.Direction.TheVariants as Way
+use Rattle.io_model.specs.declared.io_call.IoCall.{IoCall}
+use Rattle.io_model.specs.declared.io_call.IoCall.TheVariants as Call
 use Rattle.terminal_mgr.specs.Term.{read_of}
 use Rattle.io_state.proofs.HeldLemmas.{IsHeldStill, begun-still, doubled-still, closed-still, inherited-still, held-there}
 use Rattle.io_state.specs.Sound.{AreWaits, MayWait, SetsStatus, IsReadOf, IsWaitedFor, IsNoRead, read_kind, read_kind_of, most_of, target_at}

@@ -1,2 +1,2 @@
 -- Further attempts, as the rules of the calls have them.
-pub use Rattle.io_rules.specs.Again.{path_number, KeepsCount, IsPending, IsAgain}
+pub use Rattle.io_model.specs.Again.{path_number, KeepsCount, IsPending, IsAgain}

@@ -2,11 +2,11 @@
 use Rattle.std.specs.Prelude.{ℕ, List}
 use Rattle.os9_base.specs.declared.call.CallEnd.{CallEnd}
 use Rattle.os9_outer.specs.TerminalState.{TerminalState}
-use Rattle.proc_rules.specs.CallResult.{CallResult}
-use Rattle.proc_rules.specs.Processes.{Processes}
-use Rattle.io_rules.specs.Attempts.{IoAttempts}
-use Rattle.io_rules.specs.Io.{Io}
-use Rattle.io_rules.specs.declared.io_call.IoCall.{IoCall}
+use Rattle.proc_model.specs.CallResult.{CallResult}
+use Rattle.proc_model.specs.Processes.{Processes}
+use Rattle.io_model.specs.Attempts.{IoAttempts}
+use Rattle.io_model.specs.Io.{Io}
+use Rattle.io_model.specs.declared.io_call.IoCall.{IoCall}
 use Rattle.proc_state.specs.Tie.{Comes}
 use Rattle.proc_state.specs.declared.state.ProcState.{ProcState}
 

@@ -1,7 +1,7 @@
 -- The context of a call: what is true of its process before it, and what the call keeps.
 use Rattle.std.specs.Prelude.{◌≡◌, vec_len}
 use Rattle.device_table.specs.declared.devices.DeviceTable.{DeviceTable}
-use Rattle.proc_rules.specs.Records.{IsLiving, record_at}
+use Rattle.proc_model.specs.Records.{IsLiving, record_at}
 use Rattle.proc_state.specs.declared.state.ProcState.{ProcState}
 use Rattle.io_state.specs.declared.requester.Requester.{Requester}
 

@@ -4,7 +4,7 @@ use Rattle.std.specs.List.{list_any}
 use Rattle.io_model.specs.declared.path.Desc.{Desc}
 use Rattle.io_model.specs.declared.path.Target.{Target}
 use Rattle.io_model.specs.declared.path.Target.TheVariants.{File, Folder, Term, Pipe}
-use Rattle.io_rules.specs.Io.{Io}
+use Rattle.io_model.specs.Io.{Io}
 
 -- a path may be opened on this file or directory
 abbrev pub IsOnDisk : Target → Type 0

@@ -11,11 +11,11 @@ use Rattle.io_model.specs.declared.terminal.ReadKind.{ReadKind}
 use Rattle.io_model.specs.declared.terminal.ReadKind.TheVariants.{Bytes, WholeLine}
 use Rattle.io_model.specs.declared.terminal.Reading.{Reading}
 use Rattle.io_model.specs.declared.terminal.TheConstants.{TYPE_AHEAD}
-use Rattle.io_rules.specs.Codes.{io_call_of, direction_of}
-use Rattle.io_rules.specs.Io.{Io, pending_at, terminal_at, new_desc, with_paths, with_pipes}
-use Rattle.io_rules.specs.declared.io_call.Direction.TheVariants as Way
-use Rattle.io_rules.specs.declared.io_call.IoCall.{IoCall}
-use Rattle.io_rules.specs.declared.io_call.IoCall.TheVariants as Call
+use Rattle.io_model.specs.Codes.{io_call_of, direction_of}
+use Rattle.io_model.specs.Io.{Io, pending_at, terminal_at, new_desc, with_paths, with_pipes}
+use Rattle.io_model.specs.declared.io_call.Direction.TheVariants as Way
+use Rattle.io_model.specs.declared.io_call.IoCall.{IoCall}
+use Rattle.io_model.specs.declared.io_call.IoCall.TheVariants as Call
 use Rattle.io_state.specs.Files.{IsOnDisk}
 
 -- the target of a system path, if the path exists

@@ -13,7 +13,7 @@ use Rattle.io_model.specs.declared.terminal.Progress.{Progress}
 use Rattle.io_model.specs.declared.terminal.Progress.TheVariants.{Done, Wait, End, Fault, NoMemory}
 use Rattle.io_model.specs.declared.terminal.ReadKind.{ReadKind}
 use Rattle.io_model.specs.declared.terminal.Reading.{Reading}
-use Rattle.io_rules.specs.Io.{Io, pending_at, terminal_at, with_call, with_terminal}
+use Rattle.io_model.specs.Io.{Io, pending_at, terminal_at, with_call, with_terminal}
 use Rattle.io_state.specs.Sound.{MayWait, target_at, read_kind}
 
 -- the pending call after an attempt with this answer

@@ -3,8 +3,8 @@
 ghost use Rattle.std.specs.Prelude.{◌≡◌, ◌<◌, ◌&&◌, true, Some, IfSome, IsSome, is_some};
 ghost use Rattle.std.specs.Result.{result_ok};
 ghost use Rattle.io_model.specs.Path.{desc_of, new_number, paths_after_begin, with_desc};
-ghost use Rattle.io_rules.specs.Io.{new_desc as new_desc_model, with_paths};
-ghost use Rattle.io_rules.specs.Modes.{has_bit_of as has_bit_of_model};
+ghost use Rattle.io_model.specs.Io.{new_desc as new_desc_model, with_paths};
+ghost use Rattle.io_model.specs.Modes.{has_bit_of as has_bit_of_model};
 ghost use Rattle.io_state.specs.Files.{IsOnDisk, is_of_file as is_of_file_model, is_path_on as is_path_on_model, some_path_on};
 
 use crate::state::{IoState, new_desc};

@@ -2,8 +2,8 @@
 
 ghost use Rattle.std.specs.Prelude.{◌≡◌, ◌<◌, None};
 ghost use Rattle.io_model.specs.Path.{slot_of};
-ghost use Rattle.io_rules.specs.Io.{pending_at, with_call};
-ghost use Rattle.io_rules.specs.Processes.{closed_below, closed_if_open, io_ended, io_started, without_user};
+ghost use Rattle.io_model.specs.Io.{pending_at, with_call};
+ghost use Rattle.io_model.specs.Processes.{closed_below, closed_if_open, io_ended, io_started, without_user};
 
 use crate::state::IoState;
 use io_model::path::PROCESS_PATHS;

@@ -5,10 +5,10 @@ ghost use Rattle.std.specs.Result.{result_ok};
 ghost use Rattle.io_model.specs.Path.{ArePaths, IsOpen, slot_of, new_number, free_number, paths_after_begin, paths_after_dup};
 ghost use Rattle.io_model.specs.Pipe.{pipes_after_begin};
 ghost use Rattle.io_model.specs.declared.path.Target.TheVariants.{Term};
-ghost use Rattle.io_rules.specs.Status.{ready_count as ready_count_model};
+ghost use Rattle.io_model.specs.Status.{ready_count as ready_count_model};
 ghost use Rattle.io_state.specs.Sound.{IsThere, MayWait, ReadsNoTerminal, pipe_number, pipe_opened};
-ghost use Rattle.io_rules.specs.Close.{after_close};
-ghost use Rattle.io_rules.specs.Io.{first_io, first_paths as first_paths_model, new_desc as new_desc_model, open_path as open_path_model, with_paths, with_pipes, with_call, pending_at};
+ghost use Rattle.io_model.specs.Close.{after_close};
+ghost use Rattle.io_model.specs.Io.{first_io, first_paths as first_paths_model, new_desc as new_desc_model, open_path as open_path_model, with_paths, with_pipes, with_call, pending_at};
 
 use crate::terminals::Terminals;
 use io_model::path::{Desc, PathsFull, SysPath, Target};
@@ -35,7 +35,7 @@ pub struct IoState {
 }
 
 impl Model for IoState {
-    ghost use Rattle.io_rules.specs.Io.{Io};
+    ghost use Rattle.io_model.specs.Io.{Io};
     ghost use Rattle.io_state.specs.Sound.{IsIo};
 
     ghost Value = { Io };

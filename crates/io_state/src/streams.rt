@@ -2,17 +2,17 @@
 
 ghost use Rattle.std.specs.Prelude.{◌≡◌, ◌<◌, ◌≤◌, length, take};
 ghost use Rattle.io_model.specs.Pipe.{IsPipe, bytes_moved, moved_count, read_answer, read_line_answer, write_answer};
-ghost use Rattle.io_rules.specs.Alone.{is_alone as is_alone_model, is_direction as is_direction_model, is_in_wait as is_in_wait_model, is_outside as is_outside_model};
-ghost use Rattle.io_rules.specs.Codes.{direction_of as direction_of_model};
-ghost use Rattle.io_rules.specs.Io.{pending_at, pipe_bytes};
-ghost use Rattle.io_rules.specs.Pipes.{after_taking, after_adding};
+ghost use Rattle.io_model.specs.Alone.{is_alone as is_alone_model, is_direction as is_direction_model, is_in_wait as is_in_wait_model, is_outside as is_outside_model};
+ghost use Rattle.io_model.specs.Codes.{direction_of as direction_of_model};
+ghost use Rattle.io_model.specs.Io.{pending_at, pipe_bytes};
+ghost use Rattle.io_model.specs.Pipes.{after_taking, after_adding};
 ghost use Rattle.io_state.specs.Sound.{IsIo};
 
 use crate::state::IoState;
+use io_model::io_call::{Direction, io_call};
 use io_model::path::SysPath;
 use io_model::pending::PendingCall;
 use io_model::pipe::{PIPE_BYTES, PipeAns, PipeId};
-use io_rules::io_call::{Direction, io_call};
 use os9_base::limits::PROCESS_PLACES;
 use os9_base::registers::Pid;
 

@@ -3,7 +3,7 @@
 ghost use Rattle.std.specs.Prelude.{◌≡◌, ◌<◌, ◌≤◌, None, length, take, vec_len};
 ghost use Rattle.io_model.specs.Line.{line_length, line_put};
 ghost use Rattle.io_model.specs.Terminal.{Arrives, Reads, Writes, stored_bytes};
-ghost use Rattle.io_rules.specs.Io.{terminal_at, with_terminal};
+ghost use Rattle.io_model.specs.Io.{terminal_at, with_terminal};
 ghost use Rattle.io_state.specs.Sound.{ReadsNoTerminal, most_of};
 ghost use Rattle.io_state.specs.Terminals as model;
 ghost use Rattle.io_state.specs.Terminals.{ChangesInCall, ChangesWithDriver, MayRead, count_of};

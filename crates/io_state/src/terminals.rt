@@ -5,7 +5,7 @@ ghost use Rattle.std.specs.Option.{option_map_or};
 ghost use Rattle.device_table.specs.Seen.{boxed_terminal_state};
 ghost use Rattle.io_model.specs.Line.{line_length, line_put};
 ghost use Rattle.io_model.specs.Terminal.{new_terminal, Arrives, Reads, Writes, is_process, forgotten, released, stored_bytes, stored_over};
-ghost use Rattle.io_rules.specs.Waiting.{may_read_terminal};
+ghost use Rattle.io_model.specs.Waiting.{may_read_terminal};
 ghost use Rattle.io_state.specs.Terminals.{ChangesAlone, ChangesWithDriver, MayBeAsked, count_of};
 
 use device_table::devices::Devices;

@@ -3,17 +3,17 @@
 ghost use Rattle.std.specs.Prelude.{◌≡◌, ◌<◌, Some, IfSome, IsSome};
 ghost use Rattle.io_model.specs.Path.{desc_of};
 ghost use Rattle.io_model.specs.Pipe.{IsPipe};
-ghost use Rattle.io_rules.specs.Io.{target_of};
-ghost use Rattle.io_rules.specs.Waiting as model;
-ghost use Rattle.io_rules.specs.Waiting.{cause_by, count_by, interrupted_count, io_interrupted, io_may_go, io_waits_for, may_go_by};
+ghost use Rattle.io_model.specs.Io.{target_of};
+ghost use Rattle.io_model.specs.Waiting as model;
+ghost use Rattle.io_model.specs.Waiting.{cause_by, count_by, interrupted_count, io_interrupted, io_may_go, io_waits_for, may_go_by};
 ghost use Rattle.io_state.specs.Sound.{IsThere};
 
 use crate::state::IoState;
 use crate::streams::direction_of;
+use io_model::io_call::Direction;
 use io_model::path::Target;
 use io_model::pending::PendingCall;
 use io_model::pipe::{PIPE_BYTES, PipeId};
-use io_rules::io_call::Direction;
 use os9_base::calls::I_READ;
 use os9_base::registers::Pid;
 use os9_sched::Cause;

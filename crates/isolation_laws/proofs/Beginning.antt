@@ -14,7 +14,7 @@ use Rattle.proc_model.specs.MemoryChanges.{first_slots, linked, new_numbers, wit
 use Rattle.proc_model.specs.ModuleList.{ModuleEntry, module_entry_at, free_number, new_entry, with_module_entry}
 use Rattle.proc_model.specs.Objects.{file_blocks, file_objects, zero_object}
 use Rattle.proc_model.specs.Slots.{Slots, NamesBlock, block_at, no_slots}
-use Rattle.proc_rules.specs.Program.{area_pages, blocks_of_pages}
+use Rattle.proc_model.specs.Program.{area_pages, blocks_of_pages}
 use Rattle.machine_model.specs.ProcessStart.{boot_group, boot_memory, first_start, only_process}
 use Rattle.machine_model.specs.Start.{Boot, Starts}
 use Rattle.machine_model.specs.State.{State}

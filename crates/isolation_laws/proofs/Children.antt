@@ -4,12 +4,12 @@ use Rattle.std.specs.Prelude.{MatchOption}
 use Rattle.os9_base.specs.declared.errors.TheConstants.{E_NEMOD, E_MEMFUL, E_PRCFUL}
 use Rattle.proc_model.specs.Memory.{MemoryState}
 use Rattle.proc_model.specs.MemoryChanges.{started}
-use Rattle.proc_rules.specs.Records.{IsLiving, free_process}
-use Rattle.proc_rules.specs.CallResult.{CallResult, done, refuses, changes}
-use Rattle.proc_rules.specs.Fork.{f_fork, forked_regs, with_child}
-use Rattle.proc_rules.specs.Processes.{Processes, regs_at, with_memory, with_regs_of}
-use Rattle.proc_rules.specs.ModuleLinks.{Entered}
-use Rattle.proc_rules.specs.Program.{Program, blocks_of_pages, most_pages, program_kind}
+use Rattle.proc_model.specs.Records.{IsLiving, free_process}
+use Rattle.proc_model.specs.CallResult.{CallResult, done, refuses, changes}
+use Rattle.proc_model.specs.Fork.{f_fork, forked_regs, with_child}
+use Rattle.proc_model.specs.Processes.{Processes, regs_at, with_memory, with_regs_of}
+use Rattle.proc_model.specs.ModuleLinks.{Entered}
+use Rattle.proc_model.specs.Program.{Program, blocks_of_pages, most_pages, program_kind}
 use Rattle.file_rules.specs.Files.{Asker, Files}
 use Rattle.file_rules.specs.Load.{GoesOnLoaded}
 use Rattle.file_rules.specs.Program.{ForkAttempts, StartsFile, forks, loaded_program, named_program, starts_first}

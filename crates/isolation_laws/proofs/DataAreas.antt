@@ -9,7 +9,7 @@ use Rattle.proc_model.specs.Memory.{MemoryState, map_at}
 use Rattle.proc_model.specs.MemoryChanges.{first_slots, linked, new_numbers, started, with_first_slots, writes_from}
 use Rattle.proc_model.specs.Objects.{slot_of, with_cell, with_object_byte, with_writes, zero_object}
 use Rattle.proc_model.specs.Slots.{Slots, filled_places, no_slots, with_low}
-use Rattle.proc_rules.specs.Program.{Program, area_size, blocks_of_pages, parameters_at, with_parameters}
+use Rattle.proc_model.specs.Program.{Program, area_size, blocks_of_pages, parameters_at, with_parameters}
 use Rattle.call_laws.proofs.Lists.{before-put, get-within, replicate-is, right-some, slice_get-set_other, slice_get-set_same}
 use Rattle.call_laws.proofs.MemoryKept.{Started, started-is}
 use Rattle.isolation_laws.specs.DataAreas.{HoldInOrder, HoldsFrom, area_bytes}

@@ -4,15 +4,15 @@ use Rattle.std.proofs.lemmas.Option.{same_Some}
 use Rattle.os9_base.specs.declared.errors.TheConstants.{E_UNKSVC}
 use Rattle.os9_base.specs.declared.registers.TimePacket.{TimePacket}
 use Rattle.proc_model.specs.MemoryChanges.{stored, writes_from}
-use Rattle.proc_rules.specs.Records.{IsLiving}
-use Rattle.proc_rules.specs.CallResult.{CallResult}
-use Rattle.proc_rules.specs.Delivery.{delivered}
-use Rattle.proc_rules.specs.Processes.{Processes, with_memory}
-use Rattle.proc_rules.specs.Ready.{Act, attempts, delivers, executes, act_of}
-use Rattle.proc_rules.specs.declared.proc_call.ProcCall.TheVariants as Call
-use Rattle.io_rules.specs.Attempts.{result_by}
-use Rattle.io_rules.specs.Step.{IoEffect, IoEnd, answers, fails, keeps}
-use Rattle.io_rules.specs.Waiting.{interrupted_count}
+use Rattle.proc_model.specs.Records.{IsLiving}
+use Rattle.proc_model.specs.CallResult.{CallResult}
+use Rattle.proc_model.specs.Delivery.{delivered}
+use Rattle.proc_model.specs.Processes.{Processes, with_memory}
+use Rattle.proc_model.specs.Ready.{Act, attempts, delivers, executes, act_of}
+use Rattle.proc_model.specs.declared.proc_call.ProcCall.TheVariants as Call
+use Rattle.io_model.specs.Attempts.{result_by}
+use Rattle.io_model.specs.Step.{IoEffect, IoEnd, answers, fails, keeps}
+use Rattle.io_model.specs.Waiting.{interrupted_count}
 use Rattle.file_rules.specs.Attempts.{io_effect}
 use Rattle.time_rules.specs.Attempts.{result_of, time_step}
 use Rattle.time_rules.specs.Packet.{packet_bytes}

@@ -8,11 +8,11 @@ use Rattle.proc_model.specs.MemoryChanges.{new_numbers}
 use Rattle.proc_model.specs.ModuleList.{ModuleEntry, module_entry_at}
 use Rattle.proc_model.specs.Objects.{file_blocks}
 use Rattle.proc_model.specs.Slots.{NamesBlock, Slots}
-use Rattle.proc_rules.specs.declared.record.Record.{Record}
-use Rattle.proc_rules.specs.Records.{record_of}
-use Rattle.proc_rules.specs.Processes.{Processes, own_at, regs_at, with_memory}
-use Rattle.proc_rules.specs.declared.proc_call.ProcCall.{ProcCall}
-use Rattle.proc_rules.specs.declared.proc_call.ProcCall.TheVariants as Call
+use Rattle.proc_model.specs.declared.record.Record.{Record}
+use Rattle.proc_model.specs.Records.{record_of}
+use Rattle.proc_model.specs.Processes.{Processes, own_at, regs_at, with_memory}
+use Rattle.proc_model.specs.declared.proc_call.ProcCall.{ProcCall}
+use Rattle.proc_model.specs.declared.proc_call.ProcCall.TheVariants as Call
 use Rattle.file_rules.specs.Load.{Loaded}
 use Rattle.file_rules.specs.ProgramFile.{ProgramFile}
 use Rattle.machine_model.specs.declared.ends.EventEnd.TheVariants.{Ran}

@@ -14,19 +14,19 @@ use Rattle.proc_model.specs.MemoryChanges.{first_slots, new_numbers, started, wi
 use Rattle.proc_model.specs.Slots.{NamesBlock, Slots, block_at, no_slots}
 use Rattle.proc_model.specs.declared.memory.MemoryFault.{MemoryFault}
 use Rattle.proc_model.specs.declared.module.ModId.{ModId}
-use Rattle.proc_rules.specs.Records.{IsLiving, free_process}
-use Rattle.proc_rules.specs.Attempts.{after_attempt, attempted, done_regs, goes_on}
-use Rattle.proc_rules.specs.CallResult.{CallResult, changes, done, needs, refused, refuses}
-use Rattle.proc_rules.specs.Chain.{begun_anew, f_chain, with_program}
-use Rattle.proc_rules.specs.Delivery.{after_delivery, delivered}
-use Rattle.proc_rules.specs.Fork.{f_fork, forked_regs, with_child}
-use Rattle.proc_rules.specs.Processes.{Processes, own_at, regs_at, with_regs_of}
-use Rattle.proc_rules.specs.ModuleLinks.{Entered, without_module_link, without_primary_link}
-use Rattle.proc_rules.specs.Program.{Program, blocks_of_pages, most_pages, program_kind}
-use Rattle.proc_rules.specs.Ready.{Act, act_of, attempts, delivers, executes}
-use Rattle.proc_rules.specs.declared.proc_call.ProcCall.TheVariants as Call
-use Rattle.io_rules.specs.Attempts.{result_by}
-use Rattle.io_rules.specs.Waiting.{interrupted_count}
+use Rattle.proc_model.specs.Records.{IsLiving, free_process}
+use Rattle.proc_model.specs.Attempts.{after_attempt, attempted, done_regs, goes_on}
+use Rattle.proc_model.specs.CallResult.{CallResult, changes, done, needs, refused, refuses}
+use Rattle.proc_model.specs.Chain.{begun_anew, f_chain, with_program}
+use Rattle.proc_model.specs.Delivery.{after_delivery, delivered}
+use Rattle.proc_model.specs.Fork.{f_fork, forked_regs, with_child}
+use Rattle.proc_model.specs.Processes.{Processes, own_at, regs_at, with_regs_of}
+use Rattle.proc_model.specs.ModuleLinks.{Entered, without_module_link, without_primary_link}
+use Rattle.proc_model.specs.Program.{Program, blocks_of_pages, most_pages, program_kind}
+use Rattle.proc_model.specs.Ready.{Act, act_of, attempts, delivers, executes}
+use Rattle.proc_model.specs.declared.proc_call.ProcCall.TheVariants as Call
+use Rattle.io_model.specs.Attempts.{result_by}
+use Rattle.io_model.specs.Waiting.{interrupted_count}
 use Rattle.file_rules.specs.Attempts.{asker_of, io_effect}
 use Rattle.file_rules.specs.Files.{Files}
 use Rattle.file_rules.specs.Load.{Loaded}

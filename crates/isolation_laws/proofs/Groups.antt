@@ -10,19 +10,19 @@ use Rattle.proc_model.specs.Memory.{MemoryState}
 use Rattle.proc_model.specs.MemoryChanges.{linked, started}
 use Rattle.proc_model.specs.ModuleList.{ModuleEntry, module_entry_at}
 use Rattle.proc_model.specs.declared.memory.TheConstants.{MOST_LINKS}
-use Rattle.proc_rules.specs.Records.{IsLiving, free_process}
-use Rattle.proc_rules.specs.Attempts.{after_attempt, attempted}
-use Rattle.proc_rules.specs.CallResult.{CallResult, changes, done, ends, needs, refused, refuses, waits}
-use Rattle.proc_rules.specs.Chain.{begun_anew, f_chain, with_program}
-use Rattle.proc_rules.specs.Fork.{f_fork, forked_regs, with_child}
-use Rattle.proc_rules.specs.Processes.{Processes, own_at, regs_at, with_regs_of}
-use Rattle.proc_rules.specs.Link.{Mapped, after_link, links_at, mapped_group}
-use Rattle.proc_rules.specs.ModuleLinks.{Entered, without_primary_link}
-use Rattle.proc_rules.specs.Program.{Program, blocks_of_pages, most_pages, program_kind}
-use Rattle.proc_rules.specs.Ready.{Act, act_of, attempts, delivers, executes}
-use Rattle.proc_rules.specs.declared.proc_call.ProcCall.TheVariants as Call
-use Rattle.io_rules.specs.Attempts.{result_by}
-use Rattle.io_rules.specs.Waiting.{interrupted_count}
+use Rattle.proc_model.specs.Records.{IsLiving, free_process}
+use Rattle.proc_model.specs.Attempts.{after_attempt, attempted}
+use Rattle.proc_model.specs.CallResult.{CallResult, changes, done, ends, needs, refused, refuses, waits}
+use Rattle.proc_model.specs.Chain.{begun_anew, f_chain, with_program}
+use Rattle.proc_model.specs.Fork.{f_fork, forked_regs, with_child}
+use Rattle.proc_model.specs.Processes.{Processes, own_at, regs_at, with_regs_of}
+use Rattle.proc_model.specs.Link.{Mapped, after_link, links_at, mapped_group}
+use Rattle.proc_model.specs.ModuleLinks.{Entered, without_primary_link}
+use Rattle.proc_model.specs.Program.{Program, blocks_of_pages, most_pages, program_kind}
+use Rattle.proc_model.specs.Ready.{Act, act_of, attempts, delivers, executes}
+use Rattle.proc_model.specs.declared.proc_call.ProcCall.TheVariants as Call
+use Rattle.io_model.specs.Attempts.{result_by}
+use Rattle.io_model.specs.Waiting.{interrupted_count}
 use Rattle.file_rules.specs.Attempts.{asker_of, io_effect}
 use Rattle.file_rules.specs.Files.{Files}
 use Rattle.file_rules.specs.Load.{GoesOnLoaded, LoadAttempts, Loaded, Loads, links_first}

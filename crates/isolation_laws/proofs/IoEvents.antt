@@ -7,24 +7,24 @@ use Rattle.std.proofs.lemmas.List.{get_or-set_same, get_or-set_other, get_or_pas
 use Rattle.std.proofs.lemmas.Option.{none-some, same_Some}
 use Rattle.os9_base.specs.declared.registers.TimePacket.{TimePacket}
 use Rattle.cpu_model.specs.Step.{Outcome, Done, Calls, Aborts}
-use Rattle.proc_rules.specs.Records.{IsLiving, free_process, record_at, record_of}
-use Rattle.proc_rules.specs.Attempts.{after_attempt}
-use Rattle.proc_rules.specs.CallResult.{CallResult, done, refused, waits, ends}
-use Rattle.proc_rules.specs.Delivery.{delivered}
-use Rattle.proc_rules.specs.Processes.{Processes, regs_at}
-use Rattle.proc_rules.specs.Ready.{Act, attempts, delivers, executes, act_of}
-use Rattle.proc_rules.specs.declared.proc_call.ProcCall.TheVariants as Call
+use Rattle.proc_model.specs.Records.{IsLiving, free_process, record_at, record_of}
+use Rattle.proc_model.specs.Attempts.{after_attempt}
+use Rattle.proc_model.specs.CallResult.{CallResult, done, refused, waits, ends}
+use Rattle.proc_model.specs.Delivery.{delivered}
+use Rattle.proc_model.specs.Processes.{Processes, regs_at}
+use Rattle.proc_model.specs.Ready.{Act, attempts, delivers, executes, act_of}
+use Rattle.proc_model.specs.declared.proc_call.ProcCall.TheVariants as Call
 use Rattle.io_model.specs.Path.{PathTable, desc_of, free_number, free_path, inherited_numbers, numbers_of, paths_after_begin, paths_after_inherit, slot_of, with_desc, with_path}
 use Rattle.io_model.specs.Terminal.{Terminal, new_terminal, used_by, without_reading}
 use Rattle.io_model.specs.declared.path.Desc.{Desc}
 use Rattle.io_model.specs.declared.path.SysPath.{SysPath}
-use Rattle.io_rules.specs.Attempts.{IoAttempts}
-use Rattle.io_rules.specs.Codes.{direction_of, direction_of_call, io_call_of}
-use Rattle.io_rules.specs.Io.{Io, OpenPath, pending_at, open_path, terminal_at}
-use Rattle.io_rules.specs.Processes.{io_started}
-use Rattle.io_rules.specs.Waiting.{pid}
-use Rattle.io_rules.specs.declared.io_call.Direction.TheVariants.{Writing}
-use Rattle.io_rules.specs.declared.io_call.IoCall.{IoCall}
+use Rattle.io_model.specs.Attempts.{IoAttempts}
+use Rattle.io_model.specs.Codes.{direction_of, direction_of_call, io_call_of}
+use Rattle.io_model.specs.Io.{Io, OpenPath, pending_at, open_path, terminal_at}
+use Rattle.io_model.specs.Processes.{io_started}
+use Rattle.io_model.specs.Waiting.{pid}
+use Rattle.io_model.specs.declared.io_call.Direction.TheVariants.{Writing}
+use Rattle.io_model.specs.declared.io_call.IoCall.{IoCall}
 use Rattle.file_rules.specs.Attempts.{asker_of}
 use Rattle.file_rules.specs.Files.{Asker, Files, OpenFile, open_file}
 use Rattle.file_rules.specs.declared.path_call.PathCall.{PathCall}

@@ -12,24 +12,24 @@ use Rattle.proc_model.specs.Slots.{group_slot}
 use Rattle.proc_model.specs.declared.memory.MemoryFault.{MemoryFault}
 use Rattle.proc_model.specs.declared.memory.TheConstants.{MOST_LINKS}
 use Rattle.proc_model.specs.declared.module.ModId.{ModId}
-use Rattle.proc_rules.specs.Records.{free_process}
+use Rattle.proc_model.specs.Records.{free_process}
 use Rattle.os9_base.specs.UserNames.{name_at}
 use Rattle.os9_base.specs.declared.name_fault.NameFault.{NameFault}
 use Rattle.os9_base.specs.declared.name_fault.NameFault.TheVariants.{NoName, Unreadable}
-use Rattle.proc_rules.specs.Attempts.{after_attempt, attempted}
-use Rattle.proc_rules.specs.CallResult.{CallResult, changes, done, needs, reads_name, refuses}
-use Rattle.proc_rules.specs.Chain.{begun_anew, f_chain, with_program}
-use Rattle.proc_rules.specs.Codes.{call_of}
-use Rattle.proc_rules.specs.Fork.{f_fork, forked_regs, with_child}
-use Rattle.proc_rules.specs.Processes.{Processes, cells_at, own_at, regs_at, with_regs_of}
-use Rattle.proc_rules.specs.Link.{Mapped, after_link, f_link, links_at, mapped_group}
-use Rattle.proc_rules.specs.ModuleLinks.{Entered, found_entry, module_at, without_module_link, without_primary_link}
-use Rattle.proc_rules.specs.Program.{Program, area_pages, asks_for_program, blocks_of_pages, most_pages, program_kind, is_unreadable, module_name, name_at_x, reads_program}
-use Rattle.proc_rules.specs.UnLink.{after_unlink, f_unlink, without_group_link}
-use Rattle.proc_rules.specs.UnLoad.{f_unload}
-use Rattle.proc_rules.specs.UserBytes.{user_bytes}
-use Rattle.proc_rules.specs.declared.proc_call.ProcCall.{ProcCall}
-use Rattle.proc_rules.specs.declared.proc_call.ProcCall.TheVariants as Call
+use Rattle.proc_model.specs.Attempts.{after_attempt, attempted}
+use Rattle.proc_model.specs.CallResult.{CallResult, changes, done, needs, reads_name, refuses}
+use Rattle.proc_model.specs.Chain.{begun_anew, f_chain, with_program}
+use Rattle.proc_model.specs.Codes.{call_of}
+use Rattle.proc_model.specs.Fork.{f_fork, forked_regs, with_child}
+use Rattle.proc_model.specs.Processes.{Processes, cells_at, own_at, regs_at, with_regs_of}
+use Rattle.proc_model.specs.Link.{Mapped, after_link, f_link, links_at, mapped_group}
+use Rattle.proc_model.specs.ModuleLinks.{Entered, found_entry, module_at, without_module_link, without_primary_link}
+use Rattle.proc_model.specs.Program.{Program, area_pages, asks_for_program, blocks_of_pages, most_pages, program_kind, is_unreadable, module_name, name_at_x, reads_program}
+use Rattle.proc_model.specs.UnLink.{after_unlink, f_unlink, without_group_link}
+use Rattle.proc_model.specs.UnLoad.{f_unload}
+use Rattle.proc_model.specs.UserBytes.{user_bytes}
+use Rattle.proc_model.specs.declared.proc_call.ProcCall.{ProcCall}
+use Rattle.proc_model.specs.declared.proc_call.ProcCall.TheVariants as Call
 use Rattle.file_rules.specs.Program.{named_program}
 use Rattle.machine_model.specs.ProcessEvent.{call_event_end}
 use Rattle.machine_model.specs.declared.ends.EventEnd.{EventEnd}

@@ -20,8 +20,8 @@ use Rattle.proc_model.specs.Slots.{Slots}
 use Rattle.proc_model.specs.declared.module.ModuleInfo.{ModuleInfo}
 use Rattle.proc_model.proofs.LoadingLemmas.{LiesIn, LiesIn-step}
 use Rattle.os9_base.specs.UserNames.{user_cell}
-use Rattle.proc_rules.specs.ModuleLinks.{Entered, entered_at}
-use Rattle.proc_rules.specs.UserBytes.{byte_before, user_bytes}
+use Rattle.proc_model.specs.ModuleLinks.{Entered, entered_at}
+use Rattle.proc_model.specs.UserBytes.{byte_before, user_bytes}
 use Rattle.file_rules.specs.Load.{Loaded, Loads, first_entered, loaded_by, with_file_entered}
 use Rattle.call_laws.proofs.Lists.{get-within, range-below, range-from, slice_get-left}
 use Rattle.call_laws.proofs.ModulesKept.{entry-other, entry-put}

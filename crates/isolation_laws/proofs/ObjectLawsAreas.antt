@@ -7,9 +7,9 @@ use Rattle.proc_model.specs.Memory.{MemoryState, map_at}
 use Rattle.proc_model.specs.MemoryChanges.{first_slots, linked, new_numbers, started, with_first_slots, writes_from}
 use Rattle.proc_model.specs.Objects.{slot_of, with_cell, with_object_byte, with_writes, zero_object}
 use Rattle.proc_model.specs.Slots.{Slots, no_slots}
-use Rattle.proc_rules.specs.Processes.{Processes}
-use Rattle.proc_rules.specs.ModuleLinks.{Entered}
-use Rattle.proc_rules.specs.Program.{Program, area_size, blocks_of_pages, parameters_at, with_parameters}
+use Rattle.proc_model.specs.Processes.{Processes}
+use Rattle.proc_model.specs.ModuleLinks.{Entered}
+use Rattle.proc_model.specs.Program.{Program, area_size, blocks_of_pages, parameters_at, with_parameters}
 use Rattle.call_laws.proofs.Lists.{replicate-is, right-some}
 use Rattle.call_laws.proofs.MemoryKept.{Started, started-is}
 use Rattle.isolation_laws.proofs.DataAreas.{area-held}

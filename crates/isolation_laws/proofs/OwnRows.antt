@@ -8,7 +8,7 @@ use Rattle.os9_base.specs.declared.registers.Regs.{Regs}
 use Rattle.proc_model.specs.Memory.{map_at}
 use Rattle.proc_model.specs.ModuleList.{module_entry_at}
 use Rattle.proc_model.specs.Slots.{Slots, NamesBlock, no_slots, with_low}
-use Rattle.proc_rules.specs.Rows.{two_processes}
+use Rattle.proc_model.specs.Rows.{two_processes}
 use Rattle.isolation_laws.specs.Own.{IsOwn}
 use Rattle.call_laws.specs.Objects.{IsOfModule}
 use Rattle.call_laws.specs.Others.{HasRecord}

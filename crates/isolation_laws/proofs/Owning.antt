@@ -5,16 +5,16 @@ use Rattle.std.proofs.lemmas.Option.{same_Some}
 use Rattle.os9_base.specs.declared.calls.TheConstants.{F_LOAD}
 use Rattle.proc_model.specs.Memory.{map_at}
 use Rattle.proc_model.specs.Slots.{NamesBlock, Slots}
-use Rattle.proc_rules.specs.declared.record.Record.{Record}
-use Rattle.proc_rules.specs.Records.{IsLiving, has_ended, record_at, record_of}
-use Rattle.proc_rules.specs.Processes.{Processes}
-use Rattle.proc_rules.specs.Ready.{act_of, attempts}
+use Rattle.proc_model.specs.declared.record.Record.{Record}
+use Rattle.proc_model.specs.Records.{IsLiving, has_ended, record_at, record_of}
+use Rattle.proc_model.specs.Processes.{Processes}
+use Rattle.proc_model.specs.Ready.{act_of, attempts}
 use Rattle.machine_model.specs.declared.ends.EventEnd.{EventEnd}
 use Rattle.call_laws.specs.Modules.{KeepsModules}
 use Rattle.call_laws.specs.Objects.{Appears, IsNewOrShared, IsOfModule, KeepsObjects, KeepsSizes, KeepsToItself}
 use Rattle.call_laws.specs.Others.{Begins, ComesOf, HasRecord, Stays}
 use Rattle.call_laws.proofs.OthersKept.{living-record}
-use Rattle.wait_laws.proofs.KeptEvents.{lives-runs, there-lives}
+use Rattle.call_laws.proofs.KeptEvents.{lives-runs, there-lives}
 use Rattle.isolation_laws.specs.Own.{AppearsIn, IsOfArea, IsOwn, KeepsOwnObject, NameAppeared}
 use Rattle.machine_model.specs.Event.{Event}
 use Rattle.machine_model.specs.State.{State}

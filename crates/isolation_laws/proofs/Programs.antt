@@ -12,19 +12,19 @@ use Rattle.proc_model.specs.Slots.{group_slot, highest_free_run, with_group}
 use Rattle.proc_model.specs.declared.memory.MemoryFault.{MemoryFault}
 use Rattle.proc_model.specs.declared.memory.TheConstants.{MOST_LINKS}
 use Rattle.proc_model.specs.declared.module.ModId.{ModId}
-use Rattle.proc_rules.specs.Records.{IsLiving, free_process, record_of}
-use Rattle.proc_rules.specs.Attempts.{after_attempt, attempted, done_regs, goes_on}
-use Rattle.proc_rules.specs.CallResult.{CallResult, done, refused, needs, refuses, changes}
-use Rattle.proc_rules.specs.Chain.{begun_anew, f_chain, with_program}
-use Rattle.proc_rules.specs.Fork.{f_fork, forked_regs, with_child}
-use Rattle.proc_rules.specs.Processes.{Processes, cells_at, own_at, regs_at, with_regs_of}
-use Rattle.proc_rules.specs.Link.{Mapped, after_link, links_at, mapped_group}
-use Rattle.proc_rules.specs.ModuleLinks.{Entered, without_module_link, without_primary_link}
-use Rattle.proc_rules.specs.Program.{Program, blocks_of_pages, most_pages, parameters_at, program_kind, with_parameters}
-use Rattle.proc_rules.specs.Ready.{attempts, act_of}
-use Rattle.proc_rules.specs.UserBytes.{user_bytes}
-use Rattle.proc_rules.specs.declared.proc_call.ProcCall.{ProcCall}
-use Rattle.proc_rules.specs.declared.proc_call.ProcCall.TheVariants as Call
+use Rattle.proc_model.specs.Records.{IsLiving, free_process, record_of}
+use Rattle.proc_model.specs.Attempts.{after_attempt, attempted, done_regs, goes_on}
+use Rattle.proc_model.specs.CallResult.{CallResult, done, refused, needs, refuses, changes}
+use Rattle.proc_model.specs.Chain.{begun_anew, f_chain, with_program}
+use Rattle.proc_model.specs.Fork.{f_fork, forked_regs, with_child}
+use Rattle.proc_model.specs.Processes.{Processes, cells_at, own_at, regs_at, with_regs_of}
+use Rattle.proc_model.specs.Link.{Mapped, after_link, links_at, mapped_group}
+use Rattle.proc_model.specs.ModuleLinks.{Entered, without_module_link, without_primary_link}
+use Rattle.proc_model.specs.Program.{Program, blocks_of_pages, most_pages, parameters_at, program_kind, with_parameters}
+use Rattle.proc_model.specs.Ready.{attempts, act_of}
+use Rattle.proc_model.specs.UserBytes.{user_bytes}
+use Rattle.proc_model.specs.declared.proc_call.ProcCall.{ProcCall}
+use Rattle.proc_model.specs.declared.proc_call.ProcCall.TheVariants as Call
 use Rattle.os9_base.specs.declared.calls.TheConstants.{F_LOAD}
 use Rattle.file_rules.specs.Attempts.{asker_of}
 use Rattle.file_rules.specs.Files.{Files}

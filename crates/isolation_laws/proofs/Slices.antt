@@ -3,13 +3,13 @@ use Rattle.std.proofs.Common.{◌≡◌, ◌≢◌, ℕ, ◌-◌, ◌<◌, Bool,
 use Rattle.std.specs.Prelude.{MatchBool, MatchOption}
 use Rattle.proc_model.specs.Memory.{MemoryState, map_at}
 use Rattle.proc_model.specs.Slots.{NamesBlock}
-use Rattle.proc_rules.specs.Records.{IsLiving}
-use Rattle.proc_rules.specs.Processes.{Processes}
-use Rattle.proc_rules.specs.Ready.{Act, act_of, attempts, delivers, executes}
+use Rattle.proc_model.specs.Records.{IsLiving}
+use Rattle.proc_model.specs.Processes.{Processes}
+use Rattle.proc_model.specs.Ready.{Act, act_of, attempts, delivers, executes}
 use Rattle.machine_model.specs.declared.ends.EventEnd.{EventEnd}
 use Rattle.machine_model.specs.declared.ends.SliceEnd.{SliceEnd}
 use Rattle.machine_model.specs.declared.ends.SliceEnd.TheVariants.{Idle, Ran}
-use Rattle.wait_laws.proofs.RunningLaws.{SignalsLeave, tick-leaves}
+use Rattle.call_laws.proofs.RunningLaws.{SignalsLeave, tick-leaves}
 use Rattle.call_laws.specs.Objects.{IsOfModule}
 use Rattle.isolation_laws.specs.Own.{IsOwn, KeepsOwnObject}
 use Rattle.machine_model.specs.Event.{Acts, Event, cost}

@@ -8,15 +8,15 @@ use Rattle.proc_model.specs.MemoryChanges.{linked, started, stored}
 use Rattle.proc_model.specs.Objects.{file_blocks}
 use Rattle.proc_model.specs.declared.memory.MemoryFault.{MemoryFault}
 use Rattle.proc_model.specs.declared.module.ModId.{ModId}
-use Rattle.proc_rules.specs.Records.{free_process}
-use Rattle.proc_rules.specs.CallResult.{CallResult, changes, done, ends, needs, refused, refuses, waits}
-use Rattle.proc_rules.specs.Chain.{begun_anew, f_chain, with_program}
-use Rattle.proc_rules.specs.Fork.{f_fork, forked_regs, with_child}
-use Rattle.proc_rules.specs.Processes.{Processes, cells_at, own_at, regs_at, with_memory, with_regs_of}
-use Rattle.proc_rules.specs.ModuleLinks.{Entered, found_entry, without_module_link, without_primary_link}
-use Rattle.proc_rules.specs.Program.{Program, area_pages, area_size, asks_for_program, blocks_of_pages, is_unreadable, module_name, most_pages, name_at_x, parameters_at, program_kind, reads_program, with_parameters}
-use Rattle.proc_rules.specs.UserBytes.{user_bytes}
-use Rattle.proc_rules.specs.declared.proc_call.ProcCall.TheVariants as Call
+use Rattle.proc_model.specs.Records.{free_process}
+use Rattle.proc_model.specs.CallResult.{CallResult, changes, done, ends, needs, refused, refuses, waits}
+use Rattle.proc_model.specs.Chain.{begun_anew, f_chain, with_program}
+use Rattle.proc_model.specs.Fork.{f_fork, forked_regs, with_child}
+use Rattle.proc_model.specs.Processes.{Processes, cells_at, own_at, regs_at, with_memory, with_regs_of}
+use Rattle.proc_model.specs.ModuleLinks.{Entered, found_entry, without_module_link, without_primary_link}
+use Rattle.proc_model.specs.Program.{Program, area_pages, area_size, asks_for_program, blocks_of_pages, is_unreadable, module_name, most_pages, name_at_x, parameters_at, program_kind, reads_program, with_parameters}
+use Rattle.proc_model.specs.UserBytes.{user_bytes}
+use Rattle.proc_model.specs.declared.proc_call.ProcCall.TheVariants as Call
 use Rattle.file_rules.specs.Load.{Loaded}
 use Rattle.file_rules.specs.Program.{chains, forks, loaded_program, named_program, parameters_of, starts_first}
 use Rattle.file_rules.specs.ProgramFile.{ProgramFile}

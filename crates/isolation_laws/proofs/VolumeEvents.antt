@@ -8,18 +8,18 @@ use Rattle.std.proofs.lemmas.Option.{same_Some}
 use Rattle.os9_base.specs.declared.errors.TheConstants.{E_BPADDR}
 use Rattle.os9_base.specs.declared.registers.TimePacket.{TimePacket}
 use Rattle.cpu_model.specs.Step.{Outcome, Done, Calls, Aborts}
-use Rattle.proc_rules.specs.Records.{IsLiving, free_process}
-use Rattle.proc_rules.specs.Attempts.{after_attempt}
-use Rattle.proc_rules.specs.CallResult.{CallResult, done, refused, waits, ends}
-use Rattle.proc_rules.specs.Chain.{f_chain}
-use Rattle.proc_rules.specs.Delivery.{delivered}
-use Rattle.proc_rules.specs.Fork.{f_fork}
-use Rattle.proc_rules.specs.Processes.{Processes, cells_at, regs_at}
-use Rattle.proc_rules.specs.ModuleLinks.{Entered}
-use Rattle.proc_rules.specs.Program.{Program}
-use Rattle.proc_rules.specs.Ready.{Act, attempts, delivers, executes, act_of}
-use Rattle.proc_rules.specs.UserBytes.{user_bytes}
-use Rattle.proc_rules.specs.declared.proc_call.ProcCall.TheVariants as Call
+use Rattle.proc_model.specs.Records.{IsLiving, free_process}
+use Rattle.proc_model.specs.Attempts.{after_attempt}
+use Rattle.proc_model.specs.CallResult.{CallResult, done, refused, waits, ends}
+use Rattle.proc_model.specs.Chain.{f_chain}
+use Rattle.proc_model.specs.Delivery.{delivered}
+use Rattle.proc_model.specs.Fork.{f_fork}
+use Rattle.proc_model.specs.Processes.{Processes, cells_at, regs_at}
+use Rattle.proc_model.specs.ModuleLinks.{Entered}
+use Rattle.proc_model.specs.Program.{Program}
+use Rattle.proc_model.specs.Ready.{Act, attempts, delivers, executes, act_of}
+use Rattle.proc_model.specs.UserBytes.{user_bytes}
+use Rattle.proc_model.specs.declared.proc_call.ProcCall.TheVariants as Call
 use Rattle.rbf_model.specs.Volume.{DiskVolume}
 use Rattle.file_rules.specs.Attempts.{asker_of}
 use Rattle.file_rules.specs.Files.{DriveState, Files, NoneFailed, directories_at, no_directories}

@@ -1,6 +1,6 @@
 -- The data area with which a program begins (System Programmer's Manual, F$Fork and F$Chain).
 use Rattle.std.specs.Prelude.{◌≡◌, ℕ, ◌+◌, ◌-◌, ◌*◌, ◌≤◌, Some, List, ◌++◌, length, get_or, replicate, slice_get}
-use Rattle.proc_rules.specs.Program.{Program, parameters_at}
+use Rattle.proc_model.specs.Program.{Program, parameters_at}
 
 -- its bytes: zeros, and the parameters at its end
 abbrev pub area_bytes : Program → List ℕ

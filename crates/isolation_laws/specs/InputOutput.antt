@@ -3,16 +3,16 @@
 use Rattle.std.specs.Prelude.{◌≡◌, ◌≢◌, ◌⊎◌, ℕ, true, Option, Some, List}
 use Rattle.os9_base.specs.Count.{Rose}
 use Rattle.os9_outer.specs.TerminalState.{ChangesOneTerminal}
-use Rattle.proc_rules.specs.Records.{IsLiving, free_process}
-use Rattle.proc_rules.specs.Ready.{attempts, act_of}
-use Rattle.proc_rules.specs.declared.proc_call.ProcCall.TheVariants as Call
+use Rattle.proc_model.specs.Records.{IsLiving, free_process}
+use Rattle.proc_model.specs.Ready.{attempts, act_of}
+use Rattle.proc_model.specs.declared.proc_call.ProcCall.TheVariants as Call
 use Rattle.io_model.specs.Path.{numbers_of, inherited_numbers}
 use Rattle.io_model.specs.Terminal.{reader, used_by, without_reading}
 use Rattle.io_model.specs.declared.path.SysPath.{SysPath}
-use Rattle.io_rules.specs.Codes.{direction_of}
-use Rattle.io_rules.specs.Io.{OpenPath, terminal_at, pending_at, open_path}
-use Rattle.io_rules.specs.Waiting.{pid}
-use Rattle.io_rules.specs.declared.io_call.Direction.TheVariants.{Writing}
+use Rattle.io_model.specs.Codes.{direction_of}
+use Rattle.io_model.specs.Io.{OpenPath, terminal_at, pending_at, open_path}
+use Rattle.io_model.specs.Waiting.{pid}
+use Rattle.io_model.specs.declared.io_call.Direction.TheVariants.{Writing}
 use Rattle.file_rules.specs.Attempts.{asker_of}
 use Rattle.file_rules.specs.Files.{OpenFile, open_file}
 use Rattle.file_rules.specs.declared.path_call.PathCall.{PathCall}

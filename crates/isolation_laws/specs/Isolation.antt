@@ -1,6 +1,6 @@
 -- Isolation: an event of a process leaves unchanged what is not its own.
 use Rattle.std.specs.Prelude.{◌≡◌, ◌≢◌, ℕ}
-use Rattle.proc_rules.specs.Records.{record_of}
+use Rattle.proc_model.specs.Records.{record_of}
 use Rattle.call_laws.specs.Objects.{KeepsSizes, KeepsObjects, KeepsToItself}
 use Rattle.call_laws.specs.Others.{ComesOf, turns_of_others}
 use Rattle.machine_model.specs.declared.ends.EventEnd.{EventEnd}

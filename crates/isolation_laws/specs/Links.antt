@@ -6,10 +6,10 @@ use Rattle.proc_model.specs.Memory.{MemoryState, map_at}
 use Rattle.proc_model.specs.MemoryChanges.{linked, unlinked}
 use Rattle.proc_model.specs.ModuleList.{without_link}
 use Rattle.os9_base.specs.UserNames.{name_at}
-use Rattle.proc_rules.specs.Processes.{Processes, cells_at, regs_at}
-use Rattle.proc_rules.specs.ModuleLinks.{Entered, found_entry, module_at}
-use Rattle.proc_rules.specs.Ready.{attempts, act_of}
-use Rattle.proc_rules.specs.declared.proc_call.ProcCall.TheVariants as Call
+use Rattle.proc_model.specs.Processes.{Processes, cells_at, regs_at}
+use Rattle.proc_model.specs.ModuleLinks.{Entered, found_entry, module_at}
+use Rattle.proc_model.specs.Ready.{attempts, act_of}
+use Rattle.proc_model.specs.declared.proc_call.ProcCall.TheVariants as Call
 use Rattle.file_rules.specs.Load.{Loaded}
 use Rattle.file_rules.specs.Program.{named_program}
 use Rattle.file_rules.specs.ProgramFile.{ProgramFile}

@@ -1,10 +1,10 @@
 -- The file of modules that a process loads (System Programmer's Manual, F$Load, F$Fork and F$Chain).
 use Rattle.std.specs.Prelude.{◌≡◌, ◌⊎◌, ℕ, None, Result, Ok, length}
 use Rattle.os9_base.specs.declared.calls.TheConstants.{F_LOAD}
-use Rattle.proc_rules.specs.Processes.{Processes}
-use Rattle.proc_rules.specs.Ready.{attempts, act_of}
-use Rattle.proc_rules.specs.declared.proc_call.ProcCall.{ProcCall}
-use Rattle.proc_rules.specs.declared.proc_call.ProcCall.TheVariants as Call
+use Rattle.proc_model.specs.Processes.{Processes}
+use Rattle.proc_model.specs.Ready.{attempts, act_of}
+use Rattle.proc_model.specs.declared.proc_call.ProcCall.{ProcCall}
+use Rattle.proc_model.specs.declared.proc_call.ProcCall.TheVariants as Call
 use Rattle.file_rules.specs.Attempts.{asker_of}
 use Rattle.file_rules.specs.Load.{Loaded, Loads}
 use Rattle.file_rules.specs.Program.{named_program}

@@ -2,8 +2,8 @@
 use Rattle.std.specs.Prelude.{◌≡◌, ◌≢◌, ◌⊎◌, ℕ, ◌<◌, Some, length, slice_get}
 use Rattle.proc_model.specs.Memory.{map_at}
 use Rattle.proc_model.specs.Slots.{NamesBlock, block_at}
-use Rattle.proc_rules.specs.Records.{IsLiving}
-use Rattle.proc_rules.specs.Processes.{Processes}
+use Rattle.proc_model.specs.Records.{IsLiving}
+use Rattle.proc_model.specs.Processes.{Processes}
 use Rattle.call_laws.specs.Objects.{Appears, IsOfModule}
 use Rattle.call_laws.specs.Others.{HasRecord}
 

@@ -1,9 +1,9 @@
 -- What an event of a process changes of volumes and drives, of the directories of processes and of the clock (Level Two
 -- manual, "I/O system"; System Programmer's Manual, "I/O service requests", F$STime).
 use Rattle.std.specs.Prelude.{◌≡◌, ◌≢◌, ◌⊎◌, ℕ, true, Some, List}
-use Rattle.proc_rules.specs.Records.{free_process}
-use Rattle.proc_rules.specs.Ready.{attempts, act_of}
-use Rattle.proc_rules.specs.declared.proc_call.ProcCall.TheVariants as Call
+use Rattle.proc_model.specs.Records.{free_process}
+use Rattle.proc_model.specs.Ready.{attempts, act_of}
+use Rattle.proc_model.specs.declared.proc_call.ProcCall.TheVariants as Call
 use Rattle.file_rules.specs.Files.{DriveState, NoneFailed, OneFailed, directories_at, volume_at}
 use Rattle.file_rules.specs.declared.path_call.PathCall.{PathCall}
 use Rattle.file_rules.specs.declared.places.Directories.{Directories}

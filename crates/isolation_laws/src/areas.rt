@@ -1,7 +1,7 @@
 //! What a program begins with.
 
 ghost use Rattle.std.specs.Prelude.{◌≡◌, ℕ, ◌<◌, ◌≤◌, Ok, length};
-ghost use Rattle.proc_rules.specs.Program.{Program, area_size, blocks_of_pages, with_parameters};
+ghost use Rattle.proc_model.specs.Program.{Program, area_size, blocks_of_pages, with_parameters};
 ghost use Rattle.isolation_laws.specs.DataAreas.{HoldInOrder, area_bytes};
 ghost use Rattle.proc_model.specs.Memory.{MemoryState};
 ghost use Rattle.proc_model.specs.MemoryChanges.{linked, started};

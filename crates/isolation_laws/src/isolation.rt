@@ -1,7 +1,7 @@
 //! Isolation: what an event of a process leaves unchanged for the others.
 
 ghost use Rattle.std.specs.Prelude.{◌≡◌, ℕ, Some};
-ghost use Rattle.proc_rules.specs.Processes.{Processes, cells_at, regs_at};
+ghost use Rattle.proc_model.specs.Processes.{Processes, cells_at, regs_at};
 ghost use Rattle.machine_model.specs.declared.ends.EventEnd.{EventEnd};
 ghost use Rattle.machine_model.specs.ProcessEvent.{next_instruction};
 ghost use Rattle.isolation_laws.specs.InputOutput.{LeavesIo};

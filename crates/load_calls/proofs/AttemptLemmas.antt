@@ -7,10 +7,10 @@ use Rattle.os9_base.specs.declared.errors.TheConstants.{E_BPADDR}
 use Rattle.os9_base.specs.declared.registers.TimePacket.{TimePacket}
 use Rattle.os9_base.specs.declared.name_fault.NameFault.{NameFault}
 use Rattle.os9_base.specs.declared.name_fault.NameFault.TheVariants.{NoName, Unreadable}
-use Rattle.proc_rules.specs.CallResult.{CallResult, refused}
-use Rattle.proc_rules.specs.Processes.{Processes}
-use Rattle.proc_rules.specs.ModuleLinks.{Entered}
-use Rattle.proc_rules.specs.Program.{Program}
+use Rattle.proc_model.specs.CallResult.{CallResult, refused}
+use Rattle.proc_model.specs.Processes.{Processes}
+use Rattle.proc_model.specs.ModuleLinks.{Entered}
+use Rattle.proc_model.specs.Program.{Program}
 use Rattle.load_calls.proofs.LoadedLemmas.{some-memory}
 use Rattle.file_drives.specs.Drives.{DriveView, media_of}
 use Rattle.file_rules.specs.Files.{Asker, Files, NoneFailed}
@@ -25,7 +25,7 @@ use Rattle.file_state.specs.Attempt.{Standing}
 use Rattle.file_state.specs.Counted.{CalledAtMost}
 use Rattle.file_state.specs.Tie.{IsSound, StandsFor}
 use Rattle.file_state.specs.declared.state.FileState.{FileState}
-use Rattle.io_rules.specs.PathList.{PathList}
+use Rattle.io_model.specs.PathList.{PathList}
 use Rattle.proc_state.specs.Tie.{Answers, Comes, Represents, processes_of}
 use Rattle.proc_state.specs.declared.state.ProcState.{ProcState}
 use Rattle.load_calls.specs.Reading.{AnswersReading, IsInBuffer, ReadsTo}

@@ -3,7 +3,7 @@ use Rattle.std.proofs.Common.{◌≡◌, None, List, [], replicate, refl, ap, sy
 use Rattle.std.specs.declared.alloc.Global.{Global}
 use Rattle.std.specs.declared.dyn_box.DynBox.{DynBox}
 use Rattle.os9_outer.specs.declared.drive.BlockDriver.{Ghosts}
-use Rattle.io_rules.specs.Io.{first_io}
+use Rattle.io_model.specs.Io.{first_io}
 use Rattle.lock_model.specs.Records.{no_records}
 use Rattle.file_rules.specs.Files.{no_directories}
 use Rattle.file_rules.specs.Processes.{first_files}

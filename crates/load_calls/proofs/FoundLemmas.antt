@@ -3,8 +3,8 @@ use Rattle.std.proofs.Common.{◌≡◌, ◌∙◌, ℕ, not, nat_lt, Bool, true
 use Rattle.std.proofs.lemmas.List.{take_all, take_at}
 use Rattle.os9_base.specs.declared.errors.TheConstants.{E_FNA, E_SHARE, E_MEMFUL}
 use Rattle.os9_base.specs.declared.limits.TheConstants.{MOST_GROUP_BYTES}
-use Rattle.io_rules.specs.PathList.{PathList}
-use Rattle.io_rules.specs.declared.modes.TheConstants.{MODE_EXECUTE}
+use Rattle.io_model.specs.PathList.{PathList}
+use Rattle.io_model.specs.declared.modes.TheConstants.{MODE_EXECUTE}
 use Rattle.rbf_access.specs.Reading.{IsRead, filled_buffer}
 use Rattle.rbf_change.specs.Contents.{bytes_from}
 use Rattle.rbf_model.specs.File.{DiskFile}

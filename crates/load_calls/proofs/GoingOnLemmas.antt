@@ -1,7 +1,7 @@
 -- How a call goes on whose file was read.
 use Rattle.std.proofs.Common.{◌≡◌, ℕ, Result, Ok, Err, refl, sym, subst, ◌∙◌}
-use Rattle.proc_rules.specs.CallResult.{CallResult, done, refused}
-use Rattle.proc_rules.specs.Processes.{Processes}
+use Rattle.proc_model.specs.CallResult.{CallResult, done, refused}
+use Rattle.proc_model.specs.Processes.{Processes}
 use Rattle.file_rules.specs.Load.{Loaded, Loads}
 use Rattle.file_rules.specs.ProgramFile.{ProgramFile}
 use Rattle.load_calls.proofs.OutcomeLemmas.{tried-refused}

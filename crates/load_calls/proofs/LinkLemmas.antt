@@ -12,9 +12,9 @@ use Rattle.proc_model.specs.MemoryChanges.{has_most_links, new_numbers}
 use Rattle.proc_model.specs.ModuleList.{ModuleEntry, new_entry}
 use Rattle.proc_model.specs.Objects.{file_blocks}
 use Rattle.proc_model.specs.Slots.{highest_free_run}
-use Rattle.proc_rules.specs.CallResult.{CallResult, done, needs, refused, refuses}
-use Rattle.proc_rules.specs.Processes.{Processes, own_at, regs_at, with_memory}
-use Rattle.proc_rules.specs.Link.{Mapped, after_link, links_at, mapped_group}
+use Rattle.proc_model.specs.CallResult.{CallResult, done, needs, refused, refuses}
+use Rattle.proc_model.specs.Processes.{Processes, own_at, regs_at, with_memory}
+use Rattle.proc_model.specs.Link.{Mapped, after_link, links_at, mapped_group}
 use Rattle.file_rules.specs.Load.{Loaded, links_first}
 use Rattle.file_rules.specs.ProgramFile.{ProgramFile}
 use Rattle.load_calls.proofs.OutcomeLemmas.{IsLoaded}

@@ -22,7 +22,7 @@ use Rattle.proc_model.specs.ModuleList.{ModuleEntry, free_number, is_known, modu
 use Rattle.proc_model.specs.Objects.{file_blocks, file_objects}
 use Rattle.proc_model.proofs.LoadingLemmas.{Enters-one}
 use Rattle.proc_model.proofs.ModuleListLaws.{entry_at-with_entry_same, room_by_number}
-use Rattle.proc_rules.specs.ModuleLinks.{Entered, entered_at}
+use Rattle.proc_model.specs.ModuleLinks.{Entered, entered_at}
 use Rattle.file_rules.specs.Load.{Loaded, first_entered, loaded_by, with_file_entered}
 use Rattle.load_calls.proofs.EnteringLemmas.{entry-kept}
 use Rattle.load_calls.specs.Entering.{CanEnter, IsOfGroup, TriesFile}

@@ -16,7 +16,7 @@ use Rattle.proc_model.specs.MemoryChanges.{group_mapped, new_numbers}
 use Rattle.proc_model.specs.Objects.{file_blocks, object_byte, object_cells, slot_of}
 use Rattle.guest_memory.proofs.Objects.{NamesObjects}
 use Rattle.proc_model.specs.Slots.{Slots, group_slot, highest_free_run, place_names, with_group}
-use Rattle.proc_rules.specs.Link.{Mapped, mapped_group}
+use Rattle.proc_model.specs.Link.{Mapped, mapped_group}
 use Rattle.file_rules.specs.Load.{Loaded}
 use Rattle.load_calls.proofs.OutcomeLemmas.{IsLoaded}
 

@@ -1,6 +1,6 @@
 -- Which entered module the registers of a process name.
 use Rattle.std.proofs.Common.{◌≡◌, ℕ, Option, Some, None, option_and_then, option_map, is_some, List, refl, ap}
-use Rattle.proc_rules.specs.ModuleLinks.{Entered, entered_at, found_entry}
+use Rattle.proc_model.specs.ModuleLinks.{Entered, entered_at, found_entry}
 use Rattle.proc_model.specs.ModuleList.{ModuleEntry, found_module}
 use Rattle.proc_model.proofs.ModuleListLaws.{found_entry as found-there}
 

@@ -12,7 +12,7 @@ use Rattle.proc_model.specs.MemoryChanges.{new_numbers}
 use Rattle.proc_model.specs.ModuleList.{ModuleEntry, free_number, module_entry_at, new_entry}
 use Rattle.proc_model.specs.Objects.{file_blocks}
 use Rattle.proc_model.proofs.LoadingLemmas.{Enters-one}
-use Rattle.proc_rules.specs.ModuleLinks.{Entered, entered_at}
+use Rattle.proc_model.specs.ModuleLinks.{Entered, entered_at}
 use Rattle.proc_state.proofs.Entered.{entered-tied}
 use Rattle.file_rules.specs.Load.{Loaded, Loads, first_entered, loaded_by, with_file_entered}
 use Rattle.load_calls.proofs.LoadedLemmas.{still-there}

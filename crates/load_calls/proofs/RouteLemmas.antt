@@ -4,7 +4,7 @@ use Rattle.std.proofs.lemmas.List.{length-map}
 use Rattle.os9_base.specs.declared.errors.TheConstants.{E_FNA, E_MNF, E_PNNF}
 use Rattle.os9_base.specs.declared.registers.Pid.{Pid}
 use Rattle.os9_base.specs.declared.name_fault.NameFault.{NameFault}
-use Rattle.io_rules.specs.PathList.{PathList}
+use Rattle.io_model.specs.PathList.{PathList}
 use Rattle.rbf_model.specs.File.{DiskFile}
 use Rattle.rbf_model.specs.Volume.{DiskVolume}
 use Rattle.rbf_model.specs.Walk.{WalkEnd, walk}

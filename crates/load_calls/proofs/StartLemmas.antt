@@ -12,13 +12,13 @@ use Rattle.proc_model.specs.Memory.{MemoryState, free_blocks, map_at}
 use Rattle.proc_model.specs.MemoryChanges.{has_most_links, new_numbers, started, started_with, with_first_slots}
 use Rattle.proc_model.specs.ModuleList.{ModuleEntry, new_entry}
 use Rattle.proc_model.specs.Objects.{file_blocks}
-use Rattle.proc_rules.specs.Records.{free_process}
-use Rattle.proc_rules.specs.CallResult.{CallResult, changes, done, needs, refused, refuses}
-use Rattle.proc_rules.specs.Chain.{begun_anew, with_program}
-use Rattle.proc_rules.specs.Fork.{forked_regs, with_child}
-use Rattle.proc_rules.specs.Processes.{Processes, own_at, regs_at, with_memory, with_regs_of}
-use Rattle.proc_rules.specs.ModuleLinks.{Entered, without_primary_link}
-use Rattle.proc_rules.specs.Program.{Program, blocks_of_pages, most_pages, program_kind}
+use Rattle.proc_model.specs.Records.{free_process}
+use Rattle.proc_model.specs.CallResult.{CallResult, changes, done, needs, refused, refuses}
+use Rattle.proc_model.specs.Chain.{begun_anew, with_program}
+use Rattle.proc_model.specs.Fork.{forked_regs, with_child}
+use Rattle.proc_model.specs.Processes.{Processes, own_at, regs_at, with_memory, with_regs_of}
+use Rattle.proc_model.specs.ModuleLinks.{Entered, without_primary_link}
+use Rattle.proc_model.specs.Program.{Program, blocks_of_pages, most_pages, program_kind}
 use Rattle.file_rules.specs.Load.{Loaded}
 use Rattle.file_rules.specs.Program.{forks, loaded_program, starts_first}
 use Rattle.file_rules.specs.ProgramFile.{ProgramFile}

@@ -3,11 +3,11 @@ use Rattle.std.proofs.Common.{◌≡◌, ◌∙◌, ◌<◌, ℕ, Option, List, 
 use Rattle.os9_base.specs.Cells.{Cells}
 use Rattle.io_state.specs.Context.{InCall}
 use Rattle.io_state.specs.declared.requester.Requester.{Requester}
-use Rattle.proc_rules.specs.Processes.{Processes, cells_at, regs_at, user_at}
+use Rattle.proc_model.specs.Processes.{Processes, cells_at, regs_at, user_at}
 use Rattle.guest_memory.specs.Tie.{cells_of}
 use Rattle.guest_memory.proofs.Seen.{cells_of-seen}
 use Rattle.device_paths.specs.Standing.{NamesFrom}
-use Rattle.proc_rules.specs.Records.{record_at}
+use Rattle.proc_model.specs.Records.{record_at}
 use Rattle.proc_state.specs.Tie.{IsSame, Represents, processes_of}
 use Rattle.proc_state.specs.declared.state.ProcState.{ProcState}
 use Rattle.proc_state.proofs.Entered.{represented}

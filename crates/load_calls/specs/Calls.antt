@@ -1,7 +1,7 @@
 -- The greatest number of calls of the drive of a file of modules (this project's own): for each directory of the walk,
 -- for the descriptor of the file found, and for the bytes of the file if it is not refused.
 use Rattle.std.specs.Prelude.{ℕ, ◌+◌, true, Option, Some, None, Result, Ok, Err, List}
-use Rattle.io_rules.specs.PathList.{PathList}
+use Rattle.io_model.specs.PathList.{PathList}
 use Rattle.os9_base.specs.declared.name_fault.NameFault.{NameFault}
 use Rattle.rbf_model.specs.File.{DiskFile}
 use Rattle.rbf_model.specs.Volume.{DiskVolume}

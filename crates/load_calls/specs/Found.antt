@@ -2,7 +2,7 @@
 use Rattle.std.specs.Prelude.{◌≡◌, ℕ, not, nat_lt, Some, Result, Ok, Err, List, length, take, if◌then◌else◌}
 use Rattle.os9_base.specs.declared.errors.TheConstants.{E_FNA, E_SHARE, E_MEMFUL}
 use Rattle.os9_base.specs.declared.limits.TheConstants.{MOST_GROUP_BYTES}
-use Rattle.io_rules.specs.declared.modes.TheConstants.{MODE_EXECUTE}
+use Rattle.io_model.specs.declared.modes.TheConstants.{MODE_EXECUTE}
 use Rattle.rbf_model.specs.File.{DiskFile}
 use Rattle.file_rules.specs.Files.{Files, volume_at}
 use Rattle.file_rules.specs.Open.{may_open}

@@ -8,9 +8,9 @@ use Rattle.proc_model.specs.declared.module.ModuleStep.TheVariants.{Module}
 use Rattle.proc_model.specs.Memory.{map_at}
 use Rattle.proc_model.specs.Module.{step_from}
 use Rattle.proc_model.specs.Slots.{highest_free_run}
-use Rattle.proc_rules.specs.CallResult.{CallResult}
-use Rattle.proc_rules.specs.Processes.{Processes, own_at, with_memory}
-use Rattle.proc_rules.specs.Link.{links_at}
+use Rattle.proc_model.specs.CallResult.{CallResult}
+use Rattle.proc_model.specs.Processes.{Processes, own_at, with_memory}
+use Rattle.proc_model.specs.Link.{links_at}
 use Rattle.file_rules.specs.Load.{GoesOnLoaded, Loaded}
 use Rattle.file_rules.specs.ProgramFile.{ProgramFile}
 use Rattle.proc_state.specs.Tie.{Answers, Represents}

@@ -1,8 +1,8 @@
 -- The results of reading a file of modules, for the kernel's processes and its files.
 use Rattle.std.specs.Prelude.{◌≡◌, ◌≢◌, ℕ, Option, Some, None, List, Result, Ok, Err, length, slice_get, take}
 use Rattle.os9_base.specs.declared.registers.TimePacket.{TimePacket}
-use Rattle.proc_rules.specs.Processes.{Processes, cells_at}
-use Rattle.io_rules.specs.PathList.{PathList}
+use Rattle.proc_model.specs.Processes.{Processes, cells_at}
+use Rattle.io_model.specs.PathList.{PathList}
 use Rattle.device_paths.specs.Standing.{NamesFrom}
 use Rattle.proc_state.specs.Tie.{Represents}
 use Rattle.file_rules.specs.Attempts.{asker_of}

@@ -2,8 +2,8 @@
 use Rattle.std.specs.Prelude.{◌≡◌, ℕ, ◌+◌, nat_lt, Option, Some, None, take, if◌then◌else◌}
 use Rattle.os9_base.specs.declared.errors.TheConstants.{E_MEMFUL, E_NORAM}
 use Rattle.proc_model.specs.Memory.{MemoryState, free_blocks, map_at}
-use Rattle.proc_rules.specs.Processes.{Processes, with_memory}
-use Rattle.proc_rules.specs.Program.{blocks_of_pages, most_pages}
+use Rattle.proc_model.specs.Processes.{Processes, with_memory}
+use Rattle.proc_model.specs.Program.{blocks_of_pages, most_pages}
 use Rattle.file_rules.specs.Load.{Loaded}
 use Rattle.file_rules.specs.Program.{loaded_program}
 use Rattle.file_rules.specs.ProgramFile.{ProgramFile}

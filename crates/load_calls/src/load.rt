@@ -1,7 +1,7 @@
 //! F$Load (System Programmer's Manual, F$Load).
 
 ghost use Rattle.std.specs.Prelude.{◌≡◌, ◌<◌, ◌≤◌, Ok, take, vec_len};
-ghost use Rattle.proc_rules.specs.Processes.{Processes};
+ghost use Rattle.proc_model.specs.Processes.{Processes};
 ghost use Rattle.load_calls.specs.Entering.{TriesFile};
 ghost use Rattle.file_rules.specs.Load.{links_first};
 ghost use Rattle.file_rules.specs.ProgramFile.{ProgramFile};
@@ -13,7 +13,7 @@ ghost use Rattle.load_calls.specs.Loading as model;
 ghost use Rattle.load_calls.specs.Loading.{GoesOn, HasFirst};
 ghost use Rattle.os9_base.specs.declared.limits.TheConstants.{MOST_GROUP_BYTES as MOST};
 ghost use Rattle.proc_model.specs.Memory.{MemoryState};
-ghost use Rattle.proc_rules.specs.Records.{IsLiving};
+ghost use Rattle.proc_model.specs.Records.{IsLiving};
 ghost use Rattle.io_state.specs.Context.{InCall, SameTerminals};
 ghost use Rattle.file_state.specs.Context.{machine_seen};
 ghost use Rattle.file_drives.specs.Drives.{drives_seen};

@@ -1,12 +1,12 @@
 //! The entered module that the registers of a call name.
 
 ghost use Rattle.std.specs.Prelude.{◌≡◌, is_some, option_and_then};
-ghost use Rattle.proc_rules.specs.Processes.{Processes};
-ghost use Rattle.proc_rules.specs.ModuleLinks.{found_entry};
+ghost use Rattle.proc_model.specs.Processes.{Processes};
+ghost use Rattle.proc_model.specs.ModuleLinks.{found_entry};
 ghost use Rattle.file_rules.specs.Program.{named_program};
 ghost use Rattle.guest_memory.specs.Tie.{Represents as RepresentsMemory};
 ghost use Rattle.proc_model.specs.Memory.{MemoryState};
-ghost use Rattle.proc_rules.specs.Records.{IsLiving};
+ghost use Rattle.proc_model.specs.Records.{IsLiving};
 ghost use Rattle.proc_state.specs.Tie.{IsSame, Represents};
 
 use fork_calls::naming::read_name;

@@ -1,7 +1,7 @@
 //! A program in a file, and the room it needs.
 
 ghost use Rattle.std.specs.Prelude.{◌≡◌, ◌≤◌, ◌<◌, IsSome, Ok, take};
-ghost use Rattle.proc_rules.specs.Processes.{Processes};
+ghost use Rattle.proc_model.specs.Processes.{Processes};
 ghost use Rattle.load_calls.specs.Entering.{TriesFile};
 ghost use Rattle.file_rules.specs.Load.{Loaded, Loads};
 ghost use Rattle.file_rules.specs.Program.{parameters_of};
@@ -13,7 +13,7 @@ ghost use Rattle.load_calls.specs.Starting.{IsProgramIn};
 ghost use Rattle.os9_base.specs.declared.limits.TheConstants.{MOST_GROUP_BYTES as MOST};
 ghost use Rattle.proc_model.specs.Memory.{MemoryState};
 ghost use Rattle.proc_model.specs.ModuleList.{module_entry_at};
-ghost use Rattle.proc_rules.specs.Records.{IsLiving};
+ghost use Rattle.proc_model.specs.Records.{IsLiving};
 ghost use Rattle.proc_state.specs.Tie.{Represents};
 ghost use Rattle.load_calls.specs.Reading.{IsInBuffer};
 

@@ -1,13 +1,13 @@
 //! The tests of F$Fork and F$Chain on their registers after their path list is read.
 
 ghost use Rattle.std.specs.Prelude.{◌≡◌};
-ghost use Rattle.proc_rules.specs.Processes.{Processes};
-ghost use Rattle.proc_rules.specs.Program as model;
+ghost use Rattle.proc_model.specs.Processes.{Processes};
+ghost use Rattle.proc_model.specs.Program as model;
 ghost use Rattle.file_rules.specs.Program.{tests_program};
 ghost use Rattle.file_rules.specs.ProgramFile.{ProgramFile};
 ghost use Rattle.file_rules.specs.Step.{Step};
 ghost use Rattle.file_routes.specs.Routes.{refuses_by};
-ghost use Rattle.proc_rules.specs.Records.{IsLiving};
+ghost use Rattle.proc_model.specs.Records.{IsLiving};
 ghost use Rattle.proc_state.specs.Tie.{Represents};
 
 use os9_base::errors::{E_BPADDR, E_NEMOD};

@@ -4,22 +4,22 @@ use Rattle.std.specs.Prelude.{unwrap_or}
 use Rattle.std.proofs.lemmas.Option.{same_Some}
 use Rattle.os9_base.specs.declared.registers.TimePacket.{TimePacket}
 use Rattle.cpu_model.specs.Step.{Aborts, Calls, Done, Outcome}
-use Rattle.proc_rules.specs.CallResult.{CallResult, done, ends, refused, waits}
-use Rattle.proc_rules.specs.Delivery.{delivered}
-use Rattle.proc_rules.specs.Processes.{Processes, regs_at}
-use Rattle.proc_rules.specs.Ready.{Act, act_of, attempts, delivers, executes}
-use Rattle.proc_rules.specs.declared.proc_call.ProcCall.TheVariants as Call
+use Rattle.proc_model.specs.CallResult.{CallResult, done, ends, refused, waits}
+use Rattle.proc_model.specs.Delivery.{delivered}
+use Rattle.proc_model.specs.Processes.{Processes, regs_at}
+use Rattle.proc_model.specs.Ready.{Act, act_of, attempts, delivers, executes}
+use Rattle.proc_model.specs.declared.proc_call.ProcCall.TheVariants as Call
 use Rattle.lock_model.specs.Laws.{Covers}
 use Rattle.lock_model.specs.Locks.{request_of}
 use Rattle.lock_model.specs.Records.{AreRecords}
 use Rattle.lock_model.specs.declared.lock.Request.{Request}
 use Rattle.lock_model.specs.declared.lock.TheConstants.{PATH_PLACES}
 use Rattle.lock_model.proofs.Agreeing.{records-ended-below, records-first, records-forgotten}
-use Rattle.io_rules.specs.Again.{KeepsCount}
-use Rattle.io_rules.specs.Codes.{io_call_of}
-use Rattle.io_rules.specs.Io.{Io}
-use Rattle.io_rules.specs.declared.io_call.IoCall.{IoCall}
-use Rattle.io_rules.specs.declared.io_call.IoCall.TheVariants as Device
+use Rattle.io_model.specs.Again.{KeepsCount}
+use Rattle.io_model.specs.Codes.{io_call_of}
+use Rattle.io_model.specs.Io.{Io}
+use Rattle.io_model.specs.declared.io_call.IoCall.{IoCall}
+use Rattle.io_model.specs.declared.io_call.IoCall.TheVariants as Device
 use Rattle.call_laws.proofs.Codes.{attempts-code}
 use Rattle.file_rules.specs.Attempts.{asker_of}
 use Rattle.file_rules.specs.Codes.{path_call_of}
@@ -43,7 +43,7 @@ use Rattle.machine_model.specs.Services.{Serves, Service, files_after_call, file
 use Rattle.machine_model.specs.Start.{Boot, Starts}
 use Rattle.machine_model.specs.State.{Rest, State}
 use Rattle.isolation_laws.proofs.Asked.{Asks, asks}
-use Rattle.wait_laws.specs.Running.{IsRunning}
+use Rattle.call_laws.specs.Running.{IsRunning}
 use Rattle.file_laws.specs.Claims.{Claims, CoversCall, Made, Requests, read_call}
 use Rattle.file_laws.proofs.Claimed.{records-come}
 use Rattle.lock_laws.proofs.Covering.{range-covers}

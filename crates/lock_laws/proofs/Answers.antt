@@ -9,21 +9,21 @@ use Rattle.os9_outer.specs.Drive.{drive_error}
 use Rattle.os9_outer.specs.TerminalState.{TerminalState}
 use Rattle.os9_outer.specs.declared.drive.DriveFault.{DriveFault}
 use Rattle.os9_outer.specs.declared.drive.DriveFault.TheVariants.{NotReady, ReadFault, SeekFault, WriteFault, WriteProtect}
-use Rattle.proc_rules.specs.CallResult.{CallResult}
-use Rattle.proc_rules.specs.UserBytes.{user_bytes}
+use Rattle.proc_model.specs.CallResult.{CallResult}
+use Rattle.proc_model.specs.UserBytes.{user_bytes}
 use Rattle.lock_model.specs.Records.{Records, holding, with_waiting, without_lock, written_by}
 use Rattle.lock_model.specs.declared.lock.Grant.{Grant}
 use Rattle.lock_model.specs.declared.lock.Grant.TheVariants.{Deadlock, Granted, Locked, Wait}
 use Rattle.lock_model.specs.declared.lock.Request.{Request}
 use Rattle.io_model.specs.declared.terminal.ReadKind.{ReadKind}
 use Rattle.io_model.specs.declared.terminal.ReadKind.TheVariants.{Bytes, WholeLine}
-use Rattle.io_rules.specs.Attempts.{result_by, result_of}
-use Rattle.io_rules.specs.Modes.{can_read, can_write}
-use Rattle.io_rules.specs.Pipes.{count_regs}
-use Rattle.io_rules.specs.Read.{i_read as reads_device, i_readln as reads_device_line}
-use Rattle.io_rules.specs.Status.{i_setstt as sets_of_device}
-use Rattle.io_rules.specs.Step.{IoEnd, IoStep, answers, fails, keeps}
-use Rattle.io_rules.specs.Write.{error_line, i_write as writes_device, i_writln as writes_device_line, f_perr as tells_device}
+use Rattle.io_model.specs.Attempts.{result_by, result_of}
+use Rattle.io_model.specs.Modes.{can_read, can_write}
+use Rattle.io_model.specs.Pipes.{count_regs}
+use Rattle.io_model.specs.Read.{i_read as reads_device, i_readln as reads_device_line}
+use Rattle.io_model.specs.Status.{i_setstt as sets_of_device}
+use Rattle.io_model.specs.Step.{IoEnd, IoStep, answers, fails, keeps}
+use Rattle.io_model.specs.Write.{error_line, i_write as writes_device, i_writln as writes_device_line, f_perr as tells_device}
 use Rattle.file_rules.specs.Attempts.{file_step, files_after, io_effect}
 use Rattle.file_rules.specs.Change.{Change, sizes, writes}
 use Rattle.file_rules.specs.Files.{Asker, Files, OpenFile, open_file, with_position, with_records}

@@ -9,24 +9,24 @@ use Rattle.os9_base.specs.declared.calls.TheConstants.{F_LOAD, F_STIME, F_TIME}
 use Rattle.os9_base.specs.declared.registers.Regs.{Regs}
 use Rattle.os9_base.specs.declared.registers.TimePacket.{TimePacket}
 use Rattle.cpu_model.specs.Step.{Aborts, Calls, Done, Outcome}
-use Rattle.proc_rules.specs.Records.{IsLiving, has_ended, record_at, record_of}
-use Rattle.proc_rules.specs.declared.record.Record.{Record}
-use Rattle.proc_rules.specs.declared.record.Life.TheVariants.{Waiting}
-use Rattle.proc_rules.specs.Attempts.{after_attempt}
-use Rattle.proc_rules.specs.CallResult.{CallResult, done, ends, refused, waits}
-use Rattle.proc_rules.specs.Codes.{call_of}
-use Rattle.proc_rules.specs.Delivery.{delivered}
-use Rattle.proc_rules.specs.Processes.{Processes, regs_at}
-use Rattle.proc_rules.specs.Ready.{Act, act_of, attempts, delivers, executes}
-use Rattle.proc_rules.specs.declared.proc_call.ProcCall.{ProcCall}
-use Rattle.proc_rules.specs.declared.proc_call.ProcCall.TheVariants as Call
+use Rattle.proc_model.specs.Records.{IsLiving, has_ended, record_at, record_of}
+use Rattle.proc_model.specs.declared.record.Record.{Record}
+use Rattle.proc_model.specs.declared.record.Life.TheVariants.{Waiting}
+use Rattle.proc_model.specs.Attempts.{after_attempt}
+use Rattle.proc_model.specs.CallResult.{CallResult, done, ends, refused, waits}
+use Rattle.proc_model.specs.Codes.{call_of}
+use Rattle.proc_model.specs.Delivery.{delivered}
+use Rattle.proc_model.specs.Processes.{Processes, regs_at}
+use Rattle.proc_model.specs.Ready.{Act, act_of, attempts, delivers, executes}
+use Rattle.proc_model.specs.declared.proc_call.ProcCall.{ProcCall}
+use Rattle.proc_model.specs.declared.proc_call.ProcCall.TheVariants as Call
 use Rattle.io_model.specs.Path.{desc_of, slot_of}
 use Rattle.io_model.specs.declared.path.Desc.{Desc}
 use Rattle.io_model.specs.declared.path.SysPath.{SysPath}
-use Rattle.io_rules.specs.Again.{path_number}
-use Rattle.io_rules.specs.Codes.{io_call_of}
-use Rattle.io_rules.specs.Io.{Io, OpenPath, open_path}
-use Rattle.io_rules.specs.declared.io_call.IoCall.{IoCall}
+use Rattle.io_model.specs.Again.{path_number}
+use Rattle.io_model.specs.Codes.{io_call_of}
+use Rattle.io_model.specs.Io.{Io, OpenPath, open_path}
+use Rattle.io_model.specs.declared.io_call.IoCall.{IoCall}
 use Rattle.lock_model.specs.Locks.{request_of}
 use Rattle.lock_model.specs.Records.{Records}
 use Rattle.lock_model.specs.declared.lock.Request.{Request}
@@ -59,10 +59,10 @@ use Rattle.isolation_laws.specs.InputOutput.{LeavesIo}
 use Rattle.isolation_laws.proofs.Asked.{Asks, asks}
 use Rattle.isolation_laws.proofs.EventsKept.{event-leaves}
 use Rattle.isolation_laws.proofs.IoEvents.{event-leaves-io}
-use Rattle.wait_laws.proofs.CallCodes.{not-both}
-use Rattle.wait_laws.proofs.KeptEvents.{executes-none, lives-runs, no-call, there-at}
-use Rattle.wait_laws.proofs.RecordWaits.{is-waiting, waits-keep, waits-within, waiting_then}
-use Rattle.wait_laws.proofs.Requested.{none-ended, none-interrupted, waits-kept}
+use Rattle.call_laws.proofs.CallCodes.{not-both}
+use Rattle.call_laws.proofs.KeptEvents.{executes-none, lives-runs, no-call, there-at}
+use Rattle.call_laws.proofs.RecordWaits.{is-waiting, waits-keep, waits-within, waiting_then}
+use Rattle.call_laws.proofs.Requested.{none-ended, none-interrupted, waits-kept}
 use Rattle.lock_laws.specs.Contents.{IsCovered, IsPathOn}
 use Rattle.lock_laws.proofs.Covering.{request-covers}
 use Rattle.lock_laws.specs.Locked.{IsAskedFor, IsRunLocked}

@@ -3,11 +3,11 @@ use Rattle.std.proofs.Common.{◌≡◌, ℕ, Some, Result, Ok, Err, length, ref
 use Rattle.std.proofs.lemmas.Option.{same_Some}
 use Rattle.os9_base.specs.declared.registers.TimePacket.{TimePacket}
 use Rattle.cpu_model.specs.Step.{Aborts, Calls, Done, Outcome}
-use Rattle.proc_rules.specs.CallResult.{CallResult, done, ends, refused, waits}
-use Rattle.proc_rules.specs.Delivery.{delivered}
-use Rattle.proc_rules.specs.Processes.{Processes, regs_at}
-use Rattle.proc_rules.specs.Ready.{Act, act_of, attempts, delivers, executes}
-use Rattle.proc_rules.specs.declared.proc_call.ProcCall.TheVariants as Call
+use Rattle.proc_model.specs.CallResult.{CallResult, done, ends, refused, waits}
+use Rattle.proc_model.specs.Delivery.{delivered}
+use Rattle.proc_model.specs.Processes.{Processes, regs_at}
+use Rattle.proc_model.specs.Ready.{Act, act_of, attempts, delivers, executes}
+use Rattle.proc_model.specs.declared.proc_call.ProcCall.TheVariants as Call
 use Rattle.lock_model.specs.Records.{Records}
 use Rattle.file_rules.specs.Attempts.{asker_of}
 use Rattle.file_rules.specs.Files.{Files}

@@ -10,15 +10,15 @@ use Rattle.io_model.specs.declared.pending.PendingCall.{PendingCall}
 use Rattle.io_model.specs.declared.path.Desc.{Desc}
 use Rattle.io_model.specs.declared.path.Target.{Target}
 use Rattle.io_model.specs.declared.path.Target.TheVariants.{File, Folder, Pipe, Term}
-use Rattle.io_rules.specs.Io.{pending_at, target_of}
-use Rattle.io_rules.specs.Waiting.{cause_by, io_waits_for}
+use Rattle.io_model.specs.Io.{pending_at, target_of}
+use Rattle.io_model.specs.Waiting.{cause_by, io_waits_for}
 use Rattle.lock_model.specs.Locks.{request_of}
 use Rattle.lock_model.specs.declared.lock.Request.{Request}
 use Rattle.lock_model.specs.declared.place.FilePlace.{FilePlace}
 use Rattle.file_rules.specs.Locking.{request_wait}
 use Rattle.file_laws.specs.Devices.{IsDevice}
 use Rattle.machine_model.specs.State.{State}
-use Rattle.wait_laws.specs.Running.{WaitsOnPath}
+use Rattle.call_laws.specs.Running.{WaitsOnPath}
 use Rattle.lock_laws.specs.Living.{IsRunOpen}
 use Rattle.lock_laws.specs.Touches.{WaitsFor}
 use Rattle.lock_laws.proofs.Events.{waits-so}

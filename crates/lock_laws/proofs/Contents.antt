@@ -15,8 +15,8 @@ use Rattle.rbf_model.specs.Volume.{DiskVolume}
 use Rattle.rbf_change.specs.Calls.{SetsSize}
 use Rattle.rbf_change.specs.Faults.{SizeEnds}
 use Rattle.rbf_change.specs.NewFiles.{directory_plan, file_plan}
-use Rattle.io_rules.specs.Attempts.{pending_in}
-use Rattle.io_rules.specs.Step.{IoEnd, answers}
+use Rattle.io_model.specs.Attempts.{pending_in}
+use Rattle.io_model.specs.Step.{IoEnd, answers}
 use Rattle.file_rules.specs.Attempts.{file_step}
 use Rattle.file_rules.specs.Change.{Change, Makes, MayLeave}
 use Rattle.file_rules.specs.Files.{Files, volume_at}

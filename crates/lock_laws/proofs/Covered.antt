@@ -3,16 +3,16 @@ use Rattle.std.proofs.Common.{◌≡◌, ℕ, Option, Some, None, refl, sym, ap,
 use Rattle.std.specs.Prelude.{MatchOption, unwrap_or}
 use Rattle.std.proofs.lemmas.Option.{same_Some}
 use Rattle.os9_base.specs.declared.registers.TimePacket.{TimePacket}
-use Rattle.proc_rules.specs.Processes.{regs_at}
-use Rattle.proc_rules.specs.Ready.{act_of, attempts}
+use Rattle.proc_model.specs.Processes.{regs_at}
+use Rattle.proc_model.specs.Ready.{act_of, attempts}
 use Rattle.lock_model.specs.Locks.{request_of}
 use Rattle.lock_model.specs.declared.lock.Request.{Request}
 use Rattle.io_model.specs.Path.{desc_of, slot_of}
 use Rattle.io_model.specs.declared.path.Desc.{Desc}
 use Rattle.io_model.specs.declared.path.SysPath.{SysPath}
-use Rattle.io_rules.specs.Again.{path_number}
-use Rattle.io_rules.specs.Codes.{io_call_of}
-use Rattle.io_rules.specs.declared.io_call.IoCall.{IoCall}
+use Rattle.io_model.specs.Again.{path_number}
+use Rattle.io_model.specs.Codes.{io_call_of}
+use Rattle.io_model.specs.declared.io_call.IoCall.{IoCall}
 use Rattle.call_laws.proofs.Codes.{attempts-code}
 use Rattle.file_rules.specs.Attempts.{asker_of}
 use Rattle.file_rules.specs.Codes.{path_call_of}
@@ -24,7 +24,7 @@ use Rattle.file_laws.proofs.Named.{is-named, opened-desc}
 use Rattle.file_laws.specs.Devices.{device_call, number_in}
 use Rattle.file_laws.proofs.Codes.{code-there}
 use Rattle.file_laws.proofs.Keeps.{file-slot}
-use Rattle.wait_laws.specs.Running.{IsRunning}
+use Rattle.call_laws.specs.Running.{IsRunning}
 use Rattle.machine_model.specs.State.{State}
 use Rattle.file_laws.specs.Claims.{CoversCall, Made, Names, Requests}
 use Rattle.lock_laws.specs.Contents.{IsCovered}

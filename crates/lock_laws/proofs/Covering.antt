@@ -7,7 +7,7 @@ use Rattle.lock_model.specs.Laws.{Covers}
 use Rattle.lock_model.specs.declared.lock.Request.{Request}
 use Rattle.io_model.specs.declared.terminal.ReadKind.{ReadKind}
 use Rattle.io_model.specs.declared.terminal.ReadKind.TheVariants.{Bytes, WholeLine}
-use Rattle.io_rules.specs.Write.{error_line}
+use Rattle.io_model.specs.Write.{error_line}
 use Rattle.file_rules.specs.Files.{OpenFile}
 use Rattle.file_rules.specs.Locking.{first_request, range_of, pending_request}
 use Rattle.file_rules.specs.Seek.{long_of}

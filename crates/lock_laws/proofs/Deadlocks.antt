@@ -7,16 +7,16 @@ use Rattle.os9_base.specs.declared.errors.TheConstants.{E_BMODE, E_BPADDR, E_BPN
 use Rattle.os9_base.specs.declared.registers.TimePacket.{TimePacket}
 use Rattle.os9_outer.specs.TerminalState.{TerminalState}
 use Rattle.time_rules.proofs.Days.{same-packet}
-use Rattle.proc_rules.specs.Records.{IsLiving}
-use Rattle.proc_rules.specs.Attempts.{after_attempt}
-use Rattle.proc_rules.specs.CallResult.{CallResult}
-use Rattle.proc_rules.specs.Ready.{Act, act_of, attempts}
+use Rattle.proc_model.specs.Records.{IsLiving}
+use Rattle.proc_model.specs.Attempts.{after_attempt}
+use Rattle.proc_model.specs.CallResult.{CallResult}
+use Rattle.proc_model.specs.Ready.{Act, act_of, attempts}
 use Rattle.lock_model.specs.declared.lock.Grant.TheVariants.{Deadlock, Locked}
 use Rattle.lock_model.specs.declared.lock.TheConstants.{LOCK_PROCESSES}
-use Rattle.io_rules.specs.Attempts.{Does, IoAttempts, io_after, result_by}
-use Rattle.io_rules.specs.Io.{Io, OpenPath, open_path}
-use Rattle.io_rules.specs.Step.{Caller, IoEffect, IoEnd, IoStep, done as io_done, fails, needs}
-use Rattle.io_rules.specs.declared.io_call.IoCall.{IoCall}
+use Rattle.io_model.specs.Attempts.{Does, IoAttempts, io_after, result_by}
+use Rattle.io_model.specs.Io.{Io, OpenPath, open_path}
+use Rattle.io_model.specs.Step.{Caller, IoEffect, IoEnd, IoStep, done as io_done, fails, needs}
+use Rattle.io_model.specs.declared.io_call.IoCall.{IoCall}
 use Rattle.file_rules.specs.Attempts.{file_step, io_effect}
 use Rattle.file_rules.specs.Files.{Asker, Files, OneFailed}
 use Rattle.file_rules.specs.Seek.{seeks_nothing}
@@ -30,9 +30,9 @@ use Rattle.machine_model.specs.declared.ends.EventEnd.{EventEnd}
 use Rattle.machine_model.specs.Event.{Acts, Event}
 use Rattle.machine_model.specs.Services.{Attempts, Serves, Service, on_paths, service_of}
 use Rattle.machine_model.specs.State.{Rest, State, rest_of, with_rest}
-use Rattle.refusal_laws.specs.Causes.{StatedCause, bad_address, bad_mode, bad_path_name, bad_path_number, no_module, not_found, not_ready, path_table_full, unknown_service}
-use Rattle.refusal_laws.specs.RefusedEvents.{IsRefused}
-use Rattle.refusal_laws.proofs.Refusing.{Comes, refusal}
+use Rattle.call_laws.specs.Causes.{StatedCause, bad_address, bad_mode, bad_path_name, bad_path_number, no_module, not_found, not_ready, path_table_full, unknown_service}
+use Rattle.call_laws.specs.RefusedEvents.{IsRefused}
+use Rattle.call_laws.proofs.Refusing.{Comes, refusal}
 use Rattle.lock_laws.specs.Answered.{DoesAsDevice, IsAnsweredSo}
 use Rattle.file_laws.specs.Claims.{ClosesCycle, IsLockedOut, Made}
 use Rattle.lock_laws.proofs.Answers.{deadlock-only, deadlock-refuses, fault-number, lock-only}

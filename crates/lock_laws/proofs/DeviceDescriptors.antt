@@ -9,9 +9,9 @@ use Rattle.os9_base.specs.declared.errors.TheConstants.{E_BMODE, E_BPADDR, E_BPN
 use Rattle.os9_outer.specs.TerminalState.{TerminalState}
 use Rattle.os9_base.specs.declared.name_fault.NameFault.{NameFault}
 use Rattle.os9_base.specs.declared.name_fault.NameFault.TheVariants.{NoName, Unreadable}
-use Rattle.proc_rules.specs.CallResult.{CallResult}
-use Rattle.proc_rules.specs.Processes.{Processes}
-use Rattle.proc_rules.specs.UserBytes.{user_bytes}
+use Rattle.proc_model.specs.CallResult.{CallResult}
+use Rattle.proc_model.specs.Processes.{Processes}
+use Rattle.proc_model.specs.UserBytes.{user_bytes}
 use Rattle.io_model.specs.Path.{PathTable, desc_of, free_number, free_path, new_number, paths_after_begin, paths_after_dup, slot_of, with_path, with_slot}
 use Rattle.io_model.specs.Pipe.{free_pipe, pipes_after_begin}
 use Rattle.io_model.specs.declared.pending.PendingCall.{PendingCall}
@@ -20,21 +20,21 @@ use Rattle.io_model.specs.declared.path.Target.{Target}
 use Rattle.io_model.specs.declared.path.Target.TheVariants.{File, Folder, Pipe, Term}
 use Rattle.io_model.specs.declared.terminal.ReadKind.{ReadKind}
 use Rattle.io_model.specs.declared.terminal.ReadKind.TheVariants.{Bytes, WholeLine}
-use Rattle.io_rules.specs.Attempts.{Does, IoAttempts, caller_of, io_step, step_of}
-use Rattle.io_rules.specs.Io.{Io, OpenPath, pending_at, new_desc, open_path, with_paths, with_pipes}
-use Rattle.io_rules.specs.Lead.{Lead, a_new_place, lead_of, nowhere, to_pipe, to_terminal, what_is_there}
-use Rattle.io_rules.specs.Modes.{can_read, can_write, is_mode}
-use Rattle.io_rules.specs.Open.{begins, opened_regs, opens_lead, reads_list}
-use Rattle.io_rules.specs.PathList.{PathList, path_list}
-use Rattle.io_rules.specs.Read.{reads_target}
-use Rattle.io_rules.specs.Status.{gets_end, gets_options, gets_ready, gets_status, options, ready_count}
-use Rattle.io_rules.specs.Step.{Caller, IoEffect, IoStep, answers, comes, done, needs, reads, refused, refuses, stores, writes}
-use Rattle.io_rules.specs.Transfer.{call_now, on_path, unless_nothing}
-use Rattle.io_rules.specs.Write.{Sending, line_bytes, sends_on, sent_bytes, sent_error, sent_line, writes_target}
-use Rattle.io_rules.specs.declared.io_call.IoCall.{IoCall}
-use Rattle.io_rules.specs.declared.io_call.IoCall.TheVariants as Call
-use Rattle.io_rules.specs.declared.modes.TheConstants.{STANDARD_ERROR}
-use Rattle.io_rules.specs.declared.status.TheConstants.{OPTION_BYTES, SS_EOF, SS_OPT, SS_READY}
+use Rattle.io_model.specs.Attempts.{Does, IoAttempts, caller_of, io_step, step_of}
+use Rattle.io_model.specs.Io.{Io, OpenPath, pending_at, new_desc, open_path, with_paths, with_pipes}
+use Rattle.io_model.specs.Lead.{Lead, a_new_place, lead_of, nowhere, to_pipe, to_terminal, what_is_there}
+use Rattle.io_model.specs.Modes.{can_read, can_write, is_mode}
+use Rattle.io_model.specs.Open.{begins, opened_regs, opens_lead, reads_list}
+use Rattle.io_model.specs.PathList.{PathList, path_list}
+use Rattle.io_model.specs.Read.{reads_target}
+use Rattle.io_model.specs.Status.{gets_end, gets_options, gets_ready, gets_status, options, ready_count}
+use Rattle.io_model.specs.Step.{Caller, IoEffect, IoStep, answers, comes, done, needs, reads, refused, refuses, stores, writes}
+use Rattle.io_model.specs.Transfer.{call_now, on_path, unless_nothing}
+use Rattle.io_model.specs.Write.{Sending, line_bytes, sends_on, sent_bytes, sent_error, sent_line, writes_target}
+use Rattle.io_model.specs.declared.io_call.IoCall.{IoCall}
+use Rattle.io_model.specs.declared.io_call.IoCall.TheVariants as Call
+use Rattle.io_model.specs.declared.modes.TheConstants.{STANDARD_ERROR}
+use Rattle.io_model.specs.declared.status.TheConstants.{OPTION_BYTES, SS_EOF, SS_OPT, SS_READY}
 use Rattle.file_laws.proofs.Keeps.{DescStays, free-desc}
 
 -- each descriptor stays, but for its position and its ticks

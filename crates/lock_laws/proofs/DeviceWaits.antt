@@ -15,7 +15,7 @@ use Rattle.os9_outer.specs.TerminalState.{TerminalState}
 use Rattle.os9_sched.specs.declared.member.Cause.{Cause}
 use Rattle.os9_base.specs.declared.name_fault.NameFault.{NameFault}
 use Rattle.os9_base.specs.declared.name_fault.NameFault.TheVariants.{NoName, Unreadable}
-use Rattle.proc_rules.specs.UserBytes.{user_bytes}
+use Rattle.proc_model.specs.UserBytes.{user_bytes}
 use Rattle.io_model.specs.Pending.{count_left, is_complete, moved_on}
 use Rattle.io_model.specs.Line.{has_return}
 use Rattle.io_model.specs.Path.{PathTable, closed_desc, desc_of, free_number, free_path, holds_path, is_held, is_image, new_number, numbers_of, path_at, paths_after_begin, paths_after_close, paths_after_dup, slot_of, with_desc, with_path, with_slot}
@@ -31,26 +31,26 @@ use Rattle.io_model.specs.declared.pipe.PipeAns.TheVariants.{Done, End, NoReader
 use Rattle.io_model.specs.declared.terminal.Progress.{Progress}
 use Rattle.io_model.specs.declared.terminal.ReadKind.{ReadKind}
 use Rattle.io_model.specs.declared.terminal.ReadKind.TheVariants.{Bytes, WholeLine}
-use Rattle.io_rules.specs.Alone.{is_alone}
-use Rattle.io_rules.specs.Again.{path_number}
-use Rattle.io_rules.specs.Attempts.{Does, io_step, pending_in}
-use Rattle.io_rules.specs.Close.{after_close, without_path, without_target}
-use Rattle.io_rules.specs.Io.{Io, OpenPath, pending_at, new_desc, open_path, pipe_bytes, terminal_at, with_paths, with_pipes, with_terminal}
-use Rattle.io_rules.specs.Lead.{Lead, a_new_place, lead_of, nowhere, to_pipe, to_terminal, what_is_there}
-use Rattle.io_rules.specs.Modes.{can_read, can_write, is_mode}
-use Rattle.io_rules.specs.Open.{begins, opened_regs, opens_lead, reads_list}
-use Rattle.io_rules.specs.PathList.{PathList, path_list}
-use Rattle.io_rules.specs.Pipes.{count_regs, line_end, line_ended, moved_end, read_end, read_line_end, write_end}
-use Rattle.io_rules.specs.Read.{reads_target}
-use Rattle.io_rules.specs.Status.{gets_end, gets_options, gets_ready, gets_status, options, ready_count}
-use Rattle.io_rules.specs.Step.{Caller, IoEffect, IoEnd, IoStep, TerminalRead, TerminalWrite, answers, comes, done, fails, keeps, needs, reads, refused, refuses, stores, writes}
-use Rattle.io_rules.specs.Terminals.{read_ends, write_ends}
-use Rattle.io_rules.specs.Transfer.{call_now, first_call, on_path, unless_nothing}
-use Rattle.io_rules.specs.Write.{Sending, line_bytes, sends_on, sent_bytes, sent_error, sent_line, writes_target}
-use Rattle.io_rules.specs.declared.io_call.Direction.TheVariants.{Reading, Writing}
-use Rattle.io_rules.specs.declared.io_call.IoCall.{IoCall}
-use Rattle.io_rules.specs.declared.io_call.IoCall.TheVariants as Call
-use Rattle.io_rules.specs.declared.status.TheConstants.{OPTION_BYTES, SS_EOF, SS_OPT, SS_READY}
+use Rattle.io_model.specs.Alone.{is_alone}
+use Rattle.io_model.specs.Again.{path_number}
+use Rattle.io_model.specs.Attempts.{Does, io_step, pending_in}
+use Rattle.io_model.specs.Close.{after_close, without_path, without_target}
+use Rattle.io_model.specs.Io.{Io, OpenPath, pending_at, new_desc, open_path, pipe_bytes, terminal_at, with_paths, with_pipes, with_terminal}
+use Rattle.io_model.specs.Lead.{Lead, a_new_place, lead_of, nowhere, to_pipe, to_terminal, what_is_there}
+use Rattle.io_model.specs.Modes.{can_read, can_write, is_mode}
+use Rattle.io_model.specs.Open.{begins, opened_regs, opens_lead, reads_list}
+use Rattle.io_model.specs.PathList.{PathList, path_list}
+use Rattle.io_model.specs.Pipes.{count_regs, line_end, line_ended, moved_end, read_end, read_line_end, write_end}
+use Rattle.io_model.specs.Read.{reads_target}
+use Rattle.io_model.specs.Status.{gets_end, gets_options, gets_ready, gets_status, options, ready_count}
+use Rattle.io_model.specs.Step.{Caller, IoEffect, IoEnd, IoStep, TerminalRead, TerminalWrite, answers, comes, done, fails, keeps, needs, reads, refused, refuses, stores, writes}
+use Rattle.io_model.specs.Terminals.{read_ends, write_ends}
+use Rattle.io_model.specs.Transfer.{call_now, first_call, on_path, unless_nothing}
+use Rattle.io_model.specs.Write.{Sending, line_bytes, sends_on, sent_bytes, sent_error, sent_line, writes_target}
+use Rattle.io_model.specs.declared.io_call.Direction.TheVariants.{Reading, Writing}
+use Rattle.io_model.specs.declared.io_call.IoCall.{IoCall}
+use Rattle.io_model.specs.declared.io_call.IoCall.TheVariants as Call
+use Rattle.io_model.specs.declared.status.TheConstants.{OPTION_BYTES, SS_EOF, SS_OPT, SS_READY}
 use Rattle.file_laws.proofs.Keeps.{free-desc, free-slot}
 use Rattle.lock_laws.specs.Touches.{NamesCause, cause_on}
 use Rattle.lock_laws.proofs.Looked.{IsPathFor, any-set, no-image, opens}

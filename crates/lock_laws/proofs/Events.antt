@@ -9,16 +9,16 @@ use Rattle.os9_base.specs.declared.registers.TimePacket.{TimePacket}
 use Rattle.os9_sched.specs.declared.member.Cause.{Cause}
 use Rattle.os9_sched.specs.declared.member.Wait.{Wait as Waiting}
 use Rattle.cpu_model.specs.Step.{Aborts, Calls, Done, Outcome}
-use Rattle.proc_rules.specs.Ends.{after_exit, ended_record, orphaned}
-use Rattle.proc_rules.specs.Records.{IsLiving, free_process, is_living, record_at, record_passes, has_ended}
-use Rattle.proc_rules.specs.declared.record.Life.TheVariants.{Ended}
-use Rattle.proc_rules.specs.declared.record.Record.{Record}
-use Rattle.proc_rules.specs.Attempts.{after_attempt}
-use Rattle.proc_rules.specs.CallResult.{CallResult, done, ends, refused, waits}
-use Rattle.proc_rules.specs.Delivery.{after_delivery, delivered}
-use Rattle.proc_rules.specs.Processes.{Processes, regs_at}
-use Rattle.proc_rules.specs.Ready.{Act, act_of, attempts, delivers, executes}
-use Rattle.proc_rules.specs.declared.proc_call.ProcCall.TheVariants as Call
+use Rattle.proc_model.specs.Ends.{after_exit, ended_record, orphaned}
+use Rattle.proc_model.specs.Records.{IsLiving, free_process, is_living, record_at, record_passes, has_ended}
+use Rattle.proc_model.specs.declared.record.Life.TheVariants.{Ended}
+use Rattle.proc_model.specs.declared.record.Record.{Record}
+use Rattle.proc_model.specs.Attempts.{after_attempt}
+use Rattle.proc_model.specs.CallResult.{CallResult, done, ends, refused, waits}
+use Rattle.proc_model.specs.Delivery.{after_delivery, delivered}
+use Rattle.proc_model.specs.Processes.{Processes, regs_at}
+use Rattle.proc_model.specs.Ready.{Act, act_of, attempts, delivers, executes}
+use Rattle.proc_model.specs.declared.proc_call.ProcCall.TheVariants as Call
 use Rattle.io_model.specs.Path.{PathTable, desc_of, holds_path, numbers_of, slot_of}
 use Rattle.io_model.specs.Terminal.{reader}
 use Rattle.io_model.specs.declared.pending.PendingCall.{PendingCall}
@@ -26,15 +26,15 @@ use Rattle.io_model.specs.declared.path.Desc.{Desc}
 use Rattle.io_model.specs.declared.path.SysPath.{SysPath}
 use Rattle.io_model.specs.declared.path.Target.{Target}
 use Rattle.io_model.specs.declared.path.Target.TheVariants.{File, Folder, Pipe, Term}
-use Rattle.io_rules.specs.Again.{path_number}
-use Rattle.io_rules.specs.Attempts.{IoAttempts, caller_of, pending_in}
-use Rattle.io_rules.specs.Codes.{io_call_of}
-use Rattle.io_rules.specs.Io.{Io, OpenPath, pending_at, new_desc, target_of, terminal_at, with_call, with_paths}
-use Rattle.io_rules.specs.Alone.{is_in_wait}
-use Rattle.io_rules.specs.Processes.{io_started}
-use Rattle.io_rules.specs.Waiting.{cause_by, io_may_go, io_waits_for, may_go_by, may_read_terminal, pid}
-use Rattle.io_rules.specs.declared.io_call.Direction.{Direction}
-use Rattle.io_rules.specs.declared.io_call.IoCall.{IoCall}
+use Rattle.io_model.specs.Again.{path_number}
+use Rattle.io_model.specs.Attempts.{IoAttempts, caller_of, pending_in}
+use Rattle.io_model.specs.Codes.{io_call_of}
+use Rattle.io_model.specs.Io.{Io, OpenPath, pending_at, new_desc, target_of, terminal_at, with_call, with_paths}
+use Rattle.io_model.specs.Alone.{is_in_wait}
+use Rattle.io_model.specs.Processes.{io_started}
+use Rattle.io_model.specs.Waiting.{cause_by, io_may_go, io_waits_for, may_go_by, may_read_terminal, pid}
+use Rattle.io_model.specs.declared.io_call.Direction.{Direction}
+use Rattle.io_model.specs.declared.io_call.IoCall.{IoCall}
 use Rattle.lock_model.specs.Records.{Records}
 use Rattle.lock_model.specs.Waits.{is_late, lock_may_go, request_may_go}
 use Rattle.lock_model.specs.Locks.{Locks, lock_of, request_of}

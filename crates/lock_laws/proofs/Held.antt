@@ -11,12 +11,12 @@ use Rattle.lock_model.specs.Records.{Records, ends_locks_below, with_waiting}
 use Rattle.lock_model.specs.declared.lock.Held.{Held}
 use Rattle.lock_model.specs.declared.lock.TheConstants.{PATH_PLACES}
 use Rattle.lock_model.specs.declared.place.FilePlace.{FilePlace}
-use Rattle.io_rules.specs.Processes.{io_ended}
+use Rattle.io_model.specs.Processes.{io_ended}
 use Rattle.file_rules.specs.Files.{Files}
 use Rattle.file_rules.specs.Locking.{files_interrupted, lock_ends}
 use Rattle.file_rules.specs.Processes.{files_ended}
 use Rattle.file_laws.proofs.Requests.{keeps-forgotten}
-use Rattle.wait_laws.proofs.Requested.{none-ended}
+use Rattle.call_laws.proofs.Requested.{none-ended}
 use Rattle.lock_laws.specs.Contents.{IsPathOn}
 use Rattle.lock_laws.specs.Locked.{AreAgreed}
 use Rattle.lock_laws.proofs.Descs.{Goes, closes-ended, interrupted-paths, number-holds}

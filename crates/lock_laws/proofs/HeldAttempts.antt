@@ -16,10 +16,10 @@ use Rattle.lock_model.specs.declared.lock.Request.{Request}
 use Rattle.lock_model.specs.declared.lock.TheConstants.{PATH_PLACES}
 use Rattle.lock_model.specs.declared.place.FilePlace.{FilePlace}
 use Rattle.lock_model.proofs.Ranks.{get-emptied, get-written}
-use Rattle.io_rules.specs.Io.{Io}
-use Rattle.io_rules.specs.Modes.{can_write}
-use Rattle.io_rules.specs.declared.io_call.IoCall.{IoCall}
-use Rattle.io_rules.specs.declared.io_call.IoCall.TheVariants as Device
+use Rattle.io_model.specs.Io.{Io}
+use Rattle.io_model.specs.Modes.{can_write}
+use Rattle.io_model.specs.declared.io_call.IoCall.{IoCall}
+use Rattle.io_model.specs.declared.io_call.IoCall.TheVariants as Device
 use Rattle.file_rules.specs.Attempts.{file_step}
 use Rattle.file_rules.specs.Files.{Asker, Files, OpenFile, place_of_target}
 use Rattle.file_rules.specs.Read.{lock_by}

@@ -17,10 +17,10 @@ use Rattle.lock_model.specs.declared.lock.Request.{Request}
 use Rattle.lock_model.specs.declared.place.FilePlace.{FilePlace}
 use Rattle.rbf_model.specs.File.{DiskFile}
 use Rattle.rbf_model.specs.Volume.{DiskVolume}
-use Rattle.io_rules.specs.Attempts.{Does}
-use Rattle.io_rules.specs.Close.{after_close, i_close as closes_device}
-use Rattle.io_rules.specs.Io.{Io, OpenPath}
-use Rattle.io_rules.specs.Step.{IoEffect, answers, done as io_done, needs}
+use Rattle.io_model.specs.Attempts.{Does}
+use Rattle.io_model.specs.Close.{after_close, i_close as closes_device}
+use Rattle.io_model.specs.Io.{Io, OpenPath}
+use Rattle.io_model.specs.Step.{IoEffect, answers, done as io_done, needs}
 use Rattle.file_rules.specs.Attempts.{files_after}
 use Rattle.file_rules.specs.Close.{files_after_close, i_close}
 use Rattle.file_rules.specs.Files.{Asker, DriveState, Files, OpenFile, file_in, open_file, open_file_at, place_of_target, volume_at}

@@ -2,12 +2,12 @@
 use Rattle.std.proofs.Common.{◌≡◌, ℕ, Option, Some, Result, Ok, Err, length, refl, sym, ap, subst}
 use Rattle.os9_base.specs.declared.registers.TimePacket.{TimePacket}
 use Rattle.cpu_model.specs.Step.{Aborts, Calls, Done, Outcome}
-use Rattle.proc_rules.specs.CallResult.{CallResult, done, ends, refused, waits}
-use Rattle.proc_rules.specs.Delivery.{delivered}
-use Rattle.proc_rules.specs.Processes.{Processes}
-use Rattle.proc_rules.specs.Ready.{Act, act_of, attempts, delivers, executes}
-use Rattle.proc_rules.specs.declared.proc_call.ProcCall.TheVariants as Call
-use Rattle.io_rules.specs.Io.{Io}
+use Rattle.proc_model.specs.CallResult.{CallResult, done, ends, refused, waits}
+use Rattle.proc_model.specs.Delivery.{delivered}
+use Rattle.proc_model.specs.Processes.{Processes}
+use Rattle.proc_model.specs.Ready.{Act, act_of, attempts, delivers, executes}
+use Rattle.proc_model.specs.declared.proc_call.ProcCall.TheVariants as Call
+use Rattle.io_model.specs.Io.{Io}
 use Rattle.file_rules.specs.Attempts.{FileAttempts, asker_of}
 use Rattle.file_rules.specs.Codes.{path_call_of}
 use Rattle.file_rules.specs.Files.{Files}

@@ -5,11 +5,11 @@ use Rattle.std.specs.List.{AllByRecursion}
 use Rattle.std.specs.Option.{option_map_or}
 use Rattle.os9_base.specs.declared.registers.TimePacket.{TimePacket}
 use Rattle.cpu_model.specs.Step.{Aborts, Calls, Done, Outcome}
-use Rattle.proc_rules.specs.CallResult.{CallResult, done, ends, refused, waits}
-use Rattle.proc_rules.specs.Delivery.{delivered}
-use Rattle.proc_rules.specs.Processes.{Processes, regs_at}
-use Rattle.proc_rules.specs.Ready.{Act, act_of, attempts, delivers, executes}
-use Rattle.proc_rules.specs.declared.proc_call.ProcCall.TheVariants as Call
+use Rattle.proc_model.specs.CallResult.{CallResult, done, ends, refused, waits}
+use Rattle.proc_model.specs.Delivery.{delivered}
+use Rattle.proc_model.specs.Processes.{Processes, regs_at}
+use Rattle.proc_model.specs.Ready.{Act, act_of, attempts, delivers, executes}
+use Rattle.proc_model.specs.declared.proc_call.ProcCall.TheVariants as Call
 use Rattle.lock_model.specs.History.{dropped, got, put}
 use Rattle.lock_model.specs.Locks.{lock_of}
 use Rattle.lock_model.specs.Records.{Records, ends_lock, ends_locks_below, entered, without_lock}

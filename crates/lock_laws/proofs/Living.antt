@@ -9,25 +9,25 @@ use Rattle.os9_base.specs.declared.registers.Regs.{Regs}
 use Rattle.os9_base.specs.declared.registers.TimePacket.{TimePacket}
 use Rattle.os9_outer.specs.TerminalState.{TerminalState}
 use Rattle.cpu_model.specs.Step.{Aborts, Calls, Done, Outcome}
-use Rattle.proc_rules.specs.Records.{IsLiving, has_ended, is_living, record_at, record_of, record_passes, with_record}
-use Rattle.proc_rules.specs.declared.record.Record.{Record}
-use Rattle.proc_rules.specs.Attempts.{after_attempt, done_regs, goes_on, refused_regs}
-use Rattle.proc_rules.specs.CallResult.{CallResult, done, ends, refused, waits}
-use Rattle.proc_rules.specs.Delivery.{after_delivery, delivered}
-use Rattle.proc_rules.specs.Processes.{Processes, regs_at}
-use Rattle.proc_rules.specs.Ready.{Act, act_of, attempts, delivers, executes}
-use Rattle.proc_rules.specs.declared.proc_call.ProcCall.TheVariants as Call
+use Rattle.proc_model.specs.Records.{IsLiving, has_ended, is_living, record_at, record_of, record_passes, with_record}
+use Rattle.proc_model.specs.declared.record.Record.{Record}
+use Rattle.proc_model.specs.Attempts.{after_attempt, done_regs, goes_on, refused_regs}
+use Rattle.proc_model.specs.CallResult.{CallResult, done, ends, refused, waits}
+use Rattle.proc_model.specs.Delivery.{after_delivery, delivered}
+use Rattle.proc_model.specs.Processes.{Processes, regs_at}
+use Rattle.proc_model.specs.Ready.{Act, act_of, attempts, delivers, executes}
+use Rattle.proc_model.specs.declared.proc_call.ProcCall.TheVariants as Call
 use Rattle.io_model.specs.Path.{PathTable, free_number, free_path, inherited_numbers, is_held, no_paths, numbers_of, path_at, paths_after_begin, paths_after_close, paths_after_dup, paths_after_inherit, slot_of, with_desc, with_path, with_slot}
 use Rattle.io_model.specs.declared.path.Desc.{Desc}
 use Rattle.io_model.specs.declared.path.SysPath.{SysPath}
 use Rattle.io_model.specs.declared.path.Target.TheVariants.{Pipe, Term}
 use Rattle.io_model.specs.declared.path.TheConstants.{PROCESS_PATHS}
-use Rattle.io_rules.specs.Attempts.{Does, IoAttempts, caller_of, step_of}
-use Rattle.io_rules.specs.Close.{after_close}
-use Rattle.io_rules.specs.Io.{Io, new_desc}
-use Rattle.io_rules.specs.Processes.{closed_below, closed_if_open, io_ended, io_started}
-use Rattle.io_rules.specs.Step.{Caller, IoEffect, IoStep, comes, reads, refused as io_refused, writes}
-use Rattle.io_rules.specs.declared.io_call.IoCall.{IoCall}
+use Rattle.io_model.specs.Attempts.{Does, IoAttempts, caller_of, step_of}
+use Rattle.io_model.specs.Close.{after_close}
+use Rattle.io_model.specs.Io.{Io, new_desc}
+use Rattle.io_model.specs.Processes.{closed_below, closed_if_open, io_ended, io_started}
+use Rattle.io_model.specs.Step.{Caller, IoEffect, IoStep, comes, reads, refused as io_refused, writes}
+use Rattle.io_model.specs.declared.io_call.IoCall.{IoCall}
 use Rattle.file_rules.specs.Attempts.{FileAttempts, asker_of}
 use Rattle.file_rules.specs.Files.{Asker, Files}
 use Rattle.file_rules.specs.declared.path_call.PathCall.{PathCall}
@@ -45,14 +45,14 @@ use Rattle.file_laws.proofs.Keeps.{stays}
 use Rattle.file_laws.proofs.OfAttempts.{comes-of}
 use Rattle.lock_laws.proofs.Descs.{close-paths, closes-ended, closes-if, interrupted-paths}
 use Rattle.os9_base.specs.declared.errors.TheConstants.{E_UNKSVC}
-use Rattle.proc_rules.specs.declared.record.Life.TheVariants.{Running, Waiting}
-use Rattle.proc_rules.specs.Records.{with_regs}
-use Rattle.proc_rules.specs.Attempts.{attempted}
-use Rattle.proc_rules.specs.declared.proc_call.ProcCall.{ProcCall}
-use Rattle.io_rules.specs.Attempts.{result_by}
-use Rattle.io_rules.specs.Io.{first_io, first_paths}
-use Rattle.io_rules.specs.Step.{IoEnd, answers, fails, keeps}
-use Rattle.io_rules.specs.Waiting.{interrupted_count}
+use Rattle.proc_model.specs.declared.record.Life.TheVariants.{Running, Waiting}
+use Rattle.proc_model.specs.Records.{with_regs}
+use Rattle.proc_model.specs.Attempts.{attempted}
+use Rattle.proc_model.specs.declared.proc_call.ProcCall.{ProcCall}
+use Rattle.io_model.specs.Attempts.{result_by}
+use Rattle.io_model.specs.Io.{first_io, first_paths}
+use Rattle.io_model.specs.Step.{IoEnd, answers, fails, keeps}
+use Rattle.io_model.specs.Waiting.{interrupted_count}
 use Rattle.file_rules.specs.Attempts.{io_effect}
 use Rattle.time_rules.specs.Attempts.{time_step}
 use Rattle.file_laws.proofs.Loads.{chain-leaves, fork-leaves, load-leaves}
@@ -67,10 +67,10 @@ use Rattle.machine_model.specs.Start.{Boot, Starts}
 use Rattle.machine_model.specs.State.{Rest, State, with_rest}
 use Rattle.isolation_laws.proofs.Asked.{Asks, asks}
 use Rattle.isolation_laws.proofs.EventsKept.{event-leaves}
-use Rattle.wait_laws.proofs.Attempts.{time-over}
-use Rattle.wait_laws.proofs.Loads.{Child, chain-over, fork-over, load-over}
-use Rattle.wait_laws.proofs.Over.{IsNoEnd, IsOver, Over, aside-goes_on, over-refused}
-use Rattle.wait_laws.proofs.RunningLaws.{arrivals-left, tick-leaves}
+use Rattle.call_laws.proofs.Attempts.{time-over}
+use Rattle.call_laws.proofs.Loads.{Child, chain-over, fork-over, load-over}
+use Rattle.call_laws.proofs.Over.{IsNoEnd, IsOver, Over, aside-goes_on, over-refused}
+use Rattle.call_laws.proofs.RunningLaws.{arrivals-left, tick-leaves}
 use Rattle.lock_laws.proofs.VolumeEvents.{attempt_by}
 use Rattle.run_laws.proofs.Going.{broken-goes, instruction-goes}
 use Rattle.lock_laws.specs.Living.{AreOfLiving}

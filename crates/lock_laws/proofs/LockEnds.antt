@@ -4,12 +4,12 @@ use Rattle.std.specs.Prelude.{if◌then◌else◌}
 use Rattle.std.specs.Option.{option_map_or}
 use Rattle.os9_base.specs.declared.errors.TheConstants.{E_BMODE}
 use Rattle.os9_base.specs.declared.registers.Regs.{Regs}
-use Rattle.proc_rules.specs.CallResult.{CallResult}
+use Rattle.proc_model.specs.CallResult.{CallResult}
 use Rattle.io_model.specs.Path.{PathTable, desc_of}
 use Rattle.io_model.specs.declared.path.Desc.{Desc}
 use Rattle.io_model.specs.declared.terminal.ReadKind.{ReadKind}
 use Rattle.io_model.specs.declared.terminal.ReadKind.TheVariants.{Bytes, WholeLine}
-use Rattle.io_rules.specs.Close.{i_close as closes_device, after_close}
+use Rattle.io_model.specs.Close.{i_close as closes_device, after_close}
 use Rattle.lock_model.specs.Locks.{lock_of}
 use Rattle.lock_model.specs.Records.{Records, ends_lock, entered, with_waiting, without_lock}
 use Rattle.lock_model.specs.History.{dropped}

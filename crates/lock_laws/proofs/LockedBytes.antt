@@ -2,7 +2,7 @@
 use Rattle.std.proofs.Common.{◌≡◌, ◌≢◌, ◌⊎◌, ℕ, ◌<◌, ◌≤◌, true, false, Option, Some, None, List, length, refl, sym, ap, ◌∙◌, subst, inl, inr, arith}
 use Rattle.std.proofs.lemmas.Bool.{false≢true}
 use Rattle.std.proofs.lemmas.Option.{none-some}
-use Rattle.proc_rules.specs.Ready.{act_of}
+use Rattle.proc_model.specs.Ready.{act_of}
 use Rattle.lock_model.specs.Conflict.{conflicts}
 use Rattle.lock_model.specs.Laws.{IsIn}
 use Rattle.lock_model.specs.Locks.{Locks, lock_of, request_of}

@@ -2,7 +2,7 @@
 use Rattle.std.proofs.Common.{◌≡◌, ◌⊎◌, ◌+◌, ◌&&◌, not, eqb, Bool, true, false, Option, refl, ap, ◌∙◌, inl, inr}
 use Rattle.std.specs.Prelude.{is_none, nat_le, nat_lt, if◌then◌else◌}
 use Rattle.std.proofs.lemmas.Bool.{eq-eqb, false≢true, le-leb, lt-ltb}
-use Rattle.proc_rules.specs.CallResult.{CallResult}
+use Rattle.proc_model.specs.CallResult.{CallResult}
 use Rattle.os9_base.specs.declared.errors.TheConstants.{E_LOCK}
 use Rattle.lock_model.specs.Conflict.{conflicts}
 use Rattle.lock_model.specs.Locks.{Locks}

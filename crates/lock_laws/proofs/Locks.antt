@@ -9,7 +9,7 @@ use Rattle.io_model.specs.declared.path.Desc.{Desc}
 use Rattle.io_model.specs.declared.path.SysPath.{SysPath}
 use Rattle.io_model.specs.declared.terminal.ReadKind.{ReadKind}
 use Rattle.io_model.specs.declared.terminal.ReadKind.TheVariants.{Bytes, WholeLine}
-use Rattle.io_rules.specs.Processes.{io_ended}
+use Rattle.io_model.specs.Processes.{io_ended}
 use Rattle.lock_model.specs.Conflict.{conflicts, is_against, is_same_file, overlaps}
 use Rattle.lock_model.specs.Locks.{Locks, lock_of}
 use Rattle.lock_model.specs.Records.{Records, holding, with_waiting, without_lock}

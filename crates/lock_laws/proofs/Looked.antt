@@ -14,12 +14,12 @@ use Rattle.io_model.specs.declared.path.Desc.{Desc}
 use Rattle.io_model.specs.declared.path.SysPath.{SysPath}
 use Rattle.io_model.specs.declared.path.Target.{Target}
 use Rattle.io_model.specs.declared.path.Target.TheVariants.{File, Folder, Pipe, Term}
-use Rattle.io_rules.specs.Alone.{is_alone, is_direction, is_in_wait, is_outside}
-use Rattle.io_rules.specs.Codes.{direction_of}
-use Rattle.io_rules.specs.Io.{Io, OpenPath, pending_at, open_path, pipe_bytes, target_of, terminal_at}
-use Rattle.io_rules.specs.Waiting.{can_move, cause_by, io_may_go, io_waits_for, may_go_by, may_read_terminal, would_be_alone}
-use Rattle.io_rules.specs.declared.io_call.Direction.{Direction}
-use Rattle.io_rules.specs.declared.io_call.Direction.TheVariants.{Reading, Writing}
+use Rattle.io_model.specs.Alone.{is_alone, is_direction, is_in_wait, is_outside}
+use Rattle.io_model.specs.Codes.{direction_of}
+use Rattle.io_model.specs.Io.{Io, OpenPath, pending_at, open_path, pipe_bytes, target_of, terminal_at}
+use Rattle.io_model.specs.Waiting.{can_move, cause_by, io_may_go, io_waits_for, may_go_by, may_read_terminal, would_be_alone}
+use Rattle.io_model.specs.declared.io_call.Direction.{Direction}
+use Rattle.io_model.specs.declared.io_call.Direction.TheVariants.{Reading, Writing}
 use Rattle.lock_laws.specs.Touches.{NamesCause, cause_on}
 
 -- ---- lists

@@ -2,8 +2,8 @@
 use Rattle.std.proofs.Common.{◌≡◌, ℕ, ◌+◌, Some, List, length, refl, sym, ap, ◌∙◌, subst}
 use Rattle.std.proofs.lemmas.Option.{none-some, same_Some}
 use Rattle.os9_base.specs.declared.registers.Regs.{Regs}
-use Rattle.proc_rules.specs.Records.{IsLiving, is_living}
-use Rattle.proc_rules.specs.Processes.{regs_at}
+use Rattle.proc_model.specs.Records.{IsLiving, is_living}
+use Rattle.proc_model.specs.Processes.{regs_at}
 use Rattle.io_model.specs.Path.{PathTable}
 use Rattle.lock_model.specs.Locks.{lock_of, request_of}
 use Rattle.lock_model.specs.declared.lock.Held.{Held}
@@ -17,13 +17,13 @@ use Rattle.file_laws.specs.Claims.{CoversCall}
 use Rattle.machine_model.specs.Console.{terminals_emptied}
 use Rattle.machine_model.specs.declared.ends.EventEnd.{EventEnd}
 use Rattle.machine_model.specs.declared.ends.SliceEnd.{SliceEnd}
-use Rattle.proc_rules.specs.Ready.{act_of}
+use Rattle.proc_model.specs.Ready.{act_of}
 use Rattle.machine_model.proofs.Induction.{IsCarriedByMoves, along-run, along-slice}
 use Rattle.machine_model.specs.Event.{Event}
 use Rattle.machine_model.specs.Run.{Choose, Run, Slice, Tick, desk_of}
 use Rattle.machine_model.specs.Start.{Boot, Starts}
 use Rattle.machine_model.specs.State.{State}
-use Rattle.wait_laws.proofs.RunningLaws.{arrivals-left, tick-leaves, tick-regs}
+use Rattle.call_laws.proofs.RunningLaws.{arrivals-left, tick-leaves, tick-regs}
 use Rattle.lock_laws.specs.Contents.{IsPathOn}
 use Rattle.lock_laws.specs.Locked.{AllRunLocked, AreOnFiles, IsAskedFor, IsRunLocked, LeavesLocks}
 use Rattle.lock_laws.proofs.AskedEvents.{event-asked}

@@ -10,8 +10,8 @@ use Rattle.machine_model.specs.Event.{Event}
 use Rattle.machine_model.specs.Run.{Choose, Run, Slice, Tick}
 use Rattle.machine_model.specs.Start.{Boot, Starts}
 use Rattle.machine_model.specs.State.{State}
-use Rattle.wait_laws.specs.Running.{IsRunning}
-use Rattle.wait_laws.proofs.RunningLaws.{running-then}
+use Rattle.call_laws.specs.Running.{IsRunning}
+use Rattle.call_laws.proofs.RunningLaws.{running-then}
 use Rattle.lock_laws.proofs.OnFiles.{choice-locked, emptied-locked, event-locked, start-on, tick-locked}
 use Rattle.lock_laws.proofs.Runs.{start-agrees}
 use Rattle.lock_laws.specs.Living.{AllRunOpen, IsRunOpen}

@@ -7,9 +7,9 @@ use Rattle.os9_base.specs.declared.errors.TheConstants.{E_BADTIME, E_BMID, E_BMO
 use Rattle.os9_outer.specs.Drive.{drive_error}
 use Rattle.os9_outer.specs.declared.drive.DriveFault.{DriveFault}
 use Rattle.os9_outer.specs.declared.drive.DriveFault.TheVariants.{NotReady, ReadFault, SeekFault, WriteFault, WriteProtect}
-use Rattle.proc_rules.specs.CallResult.{refused}
-use Rattle.proc_rules.specs.Processes.{Processes}
-use Rattle.proc_rules.specs.declared.proc_call.ProcCall.{ProcCall}
+use Rattle.proc_model.specs.CallResult.{refused}
+use Rattle.proc_model.specs.Processes.{Processes}
+use Rattle.proc_model.specs.declared.proc_call.ProcCall.{ProcCall}
 use Rattle.file_rules.specs.Files.{Asker, Files, NoneFailed, OpenFile, drive_at}
 use Rattle.file_rules.specs.declared.claim.Claim.{Claim}
 use Rattle.file_rules.specs.Load.{Loaded}
@@ -17,10 +17,10 @@ use Rattle.file_rules.specs.ProgramFile.{ProgramFile}
 use Rattle.file_rules.specs.Step.{Step}
 use Rattle.file_rules.specs.declared.path_call.PathCall.{PathCall}
 use Rattle.file_rules.specs.declared.path_call.PathCall.TheVariants as Call
-use Rattle.io_rules.specs.PathList.{PathList}
+use Rattle.io_model.specs.PathList.{PathList}
 use Rattle.io_model.specs.declared.terminal.ReadKind.TheVariants.{Bytes, WholeLine}
 use Rattle.os9_base.specs.declared.registers.TimePacket.{TimePacket}
-use Rattle.proc_rules.specs.Records.{free_process}
+use Rattle.proc_model.specs.Records.{free_process}
 use Rattle.proc_model.specs.declared.module.ModuleFault.{ModuleFault}
 use Rattle.proc_model.specs.declared.module.ModuleFault.TheVariants.{BadCrc, BadParity, BadSync}
 use Rattle.proc_model.specs.declared.module.ModuleInfo.{ModuleInfo}
@@ -34,9 +34,9 @@ use Rattle.file_laws.specs.Touch.{FaultAnswers}
 use Rattle.file_laws.proofs.ClaimSteps.{is_of_lock}
 use Rattle.machine_model.specs.Services.{on_paths, service_of}
 use Rattle.machine_model.specs.State.{State}
-use Rattle.refusal_laws.specs.CallCauses.{ProcCause, TimeCause}
-use Rattle.refusal_laws.specs.RefusedEvents.{IsRefused, LeavesRest, RefusedLoad}
-use Rattle.refusal_laws.proofs.RefusedEvents.{leaves-machine}
+use Rattle.call_laws.specs.CallCauses.{ProcCause, TimeCause}
+use Rattle.call_laws.specs.RefusedEvents.{IsRefused, LeavesRest, RefusedLoad}
+use Rattle.call_laws.proofs.RefusedEvents.{leaves-machine}
 
 module _ (error : ℕ) (of_lock : is_of_lock error ≡ true) where
   -- a number that is of no lock is another one

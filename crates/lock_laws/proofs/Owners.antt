@@ -5,19 +5,19 @@ use Rattle.std.proofs.lemmas.List.{get_or-set_same, length-set}
 use Rattle.os9_base.specs.declared.errors.TheConstants.{E_UNKSVC}
 use Rattle.os9_base.specs.declared.registers.TimePacket.{TimePacket}
 use Rattle.cpu_model.specs.Step.{Aborts, Calls, Done, Outcome}
-use Rattle.proc_rules.specs.Records.{IsLiving, has_ended, record_at, record_of, record_passes}
-use Rattle.proc_rules.specs.declared.record.Life.TheVariants.{Waiting}
-use Rattle.proc_rules.specs.declared.record.Record.{Record}
-use Rattle.proc_rules.specs.Attempts.{after_attempt, attempted, done_regs, refused_regs}
-use Rattle.proc_rules.specs.CallResult.{CallResult, done, ends, refused, waits}
-use Rattle.proc_rules.specs.Delivery.{after_delivery, delivered}
-use Rattle.proc_rules.specs.Processes.{Processes, regs_at}
-use Rattle.proc_rules.specs.Ready.{Act, act_of, attempts, delivers, executes}
-use Rattle.proc_rules.specs.declared.proc_call.ProcCall.{ProcCall}
-use Rattle.proc_rules.specs.declared.proc_call.ProcCall.TheVariants as Call
-use Rattle.io_rules.specs.Attempts.{result_by}
-use Rattle.io_rules.specs.Step.{IoEffect, IoEnd, answers, fails, keeps}
-use Rattle.io_rules.specs.Waiting.{interrupted_count}
+use Rattle.proc_model.specs.Records.{IsLiving, has_ended, record_at, record_of, record_passes}
+use Rattle.proc_model.specs.declared.record.Life.TheVariants.{Waiting}
+use Rattle.proc_model.specs.declared.record.Record.{Record}
+use Rattle.proc_model.specs.Attempts.{after_attempt, attempted, done_regs, refused_regs}
+use Rattle.proc_model.specs.CallResult.{CallResult, done, ends, refused, waits}
+use Rattle.proc_model.specs.Delivery.{after_delivery, delivered}
+use Rattle.proc_model.specs.Processes.{Processes, regs_at}
+use Rattle.proc_model.specs.Ready.{Act, act_of, attempts, delivers, executes}
+use Rattle.proc_model.specs.declared.proc_call.ProcCall.{ProcCall}
+use Rattle.proc_model.specs.declared.proc_call.ProcCall.TheVariants as Call
+use Rattle.io_model.specs.Attempts.{result_by}
+use Rattle.io_model.specs.Step.{IoEffect, IoEnd, answers, fails, keeps}
+use Rattle.io_model.specs.Waiting.{interrupted_count}
 use Rattle.lock_model.specs.Locks.{lock_of}
 use Rattle.file_rules.specs.Attempts.{asker_of, io_effect}
 use Rattle.file_rules.specs.Files.{Files}
@@ -36,9 +36,9 @@ use Rattle.machine_model.specs.Services.{Serves, Service, files_after_call, load
 use Rattle.machine_model.specs.State.{Rest, State, with_rest}
 use Rattle.isolation_laws.proofs.Asked.{Asks, asks}
 use Rattle.isolation_laws.proofs.EventsKept.{event-leaves}
-use Rattle.wait_laws.proofs.Attempts.{time-over}
-use Rattle.wait_laws.proofs.Loads.{Child, chain-over, fork-over, load-over}
-use Rattle.wait_laws.proofs.Over.{IsNoEnd, Over, over-by, over-refused}
+use Rattle.call_laws.proofs.Attempts.{time-over}
+use Rattle.call_laws.proofs.Loads.{Child, chain-over, fork-over, load-over}
+use Rattle.call_laws.proofs.Over.{IsNoEnd, Over, over-by, over-refused}
 use Rattle.run_laws.proofs.Going.{after-call-lives, broken-goes, instruction-goes}
 use Rattle.lock_laws.specs.Locked.{AreOwned, IsRunLocked}
 use Rattle.lock_laws.proofs.Held.{LeavesRecords, ended-owned}

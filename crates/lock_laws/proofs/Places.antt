@@ -4,21 +4,21 @@ use Rattle.std.specs.Prelude.{if◌then◌else◌}
 use Rattle.std.specs.Option.{option_map_or}
 use Rattle.std.proofs.lemmas.List.{length-set}
 use Rattle.os9_outer.specs.TerminalState.{TerminalState}
-use Rattle.proc_rules.specs.CallResult.{CallResult}
-use Rattle.proc_rules.specs.Processes.{Processes}
+use Rattle.proc_model.specs.CallResult.{CallResult}
+use Rattle.proc_model.specs.Processes.{Processes}
 use Rattle.io_model.specs.Path.{PathTable, closed_desc, free_number, free_path, is_held, path_at, paths_after_begin, paths_after_close, paths_after_dup, slot_of, with_desc, with_path, with_slot}
 use Rattle.io_model.specs.declared.path.Desc.{Desc}
 use Rattle.io_model.specs.declared.path.SysPath.{SysPath}
 use Rattle.io_model.specs.declared.path.Target.{Target}
 use Rattle.io_model.specs.declared.path.Target.TheVariants.{File, Folder, Term, Pipe}
 use Rattle.io_model.specs.declared.path.TheConstants.{PROCESS_PATHS}
-use Rattle.io_rules.specs.Attempts.{Does, IoAttempts, caller_of, step_of}
-use Rattle.io_rules.specs.Close.{after_close, without_path, without_target}
-use Rattle.io_rules.specs.Io.{Io, new_desc, with_paths}
-use Rattle.io_rules.specs.Processes.{closed_below, closed_if_open, io_ended}
-use Rattle.io_rules.specs.Step.{Caller, IoEffect, IoStep, refused, comes, reads, writes}
-use Rattle.io_rules.specs.Waiting.{io_interrupted, wait_target, without_unfinished}
-use Rattle.io_rules.specs.declared.io_call.IoCall.{IoCall}
+use Rattle.io_model.specs.Attempts.{Does, IoAttempts, caller_of, step_of}
+use Rattle.io_model.specs.Close.{after_close, without_path, without_target}
+use Rattle.io_model.specs.Io.{Io, new_desc, with_paths}
+use Rattle.io_model.specs.Processes.{closed_below, closed_if_open, io_ended}
+use Rattle.io_model.specs.Step.{Caller, IoEffect, IoStep, refused, comes, reads, writes}
+use Rattle.io_model.specs.Waiting.{io_interrupted, wait_target, without_unfinished}
+use Rattle.io_model.specs.declared.io_call.IoCall.{IoCall}
 use Rattle.file_rules.specs.Files.{Asker, Files}
 use Rattle.file_rules.specs.declared.path_call.PathCall.{PathCall}
 use Rattle.call_laws.proofs.StepWalk.{StepGives, Walk, step-gives}

@@ -20,7 +20,7 @@ use Rattle.rbf_change.specs.Contents.{extended, written}
 use Rattle.rbf_model.specs.File.{DiskFile}
 use Rattle.rbf_model.specs.Volume.{DiskVolume}
 use Rattle.rbf_model.specs.Writes.{put_at}
-use Rattle.io_rules.specs.Step.{IoEnd, answers, fails, keeps}
+use Rattle.io_model.specs.Step.{IoEnd, answers, fails, keeps}
 use Rattle.file_rules.specs.Attempts.{file_step}
 use Rattle.file_rules.specs.Change.{Change, Makes}
 use Rattle.file_rules.specs.Files.{Files, volume_at}

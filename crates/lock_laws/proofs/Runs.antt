@@ -10,8 +10,8 @@ use Rattle.machine_model.specs.Event.{Event}
 use Rattle.machine_model.specs.Run.{Choose, Run, Slice, Tick, desk_of}
 use Rattle.machine_model.specs.Start.{Boot, Starts}
 use Rattle.machine_model.specs.State.{State}
-use Rattle.wait_laws.proofs.Events.{event-running}
-use Rattle.wait_laws.proofs.RunningLaws.{arrivals-left, choice-running, emptied-running, start-running, tick-running}
+use Rattle.call_laws.proofs.Events.{event-running}
+use Rattle.call_laws.proofs.RunningLaws.{arrivals-left, choice-running, emptied-running, start-running, tick-running}
 use Rattle.lock_laws.specs.Locked.{AllAgreed, AreAgreed, IsAgreed}
 use Rattle.lock_laws.proofs.Agreed.{choice-agreed, event-agreed, start-agreed}
 

@@ -5,10 +5,10 @@ use Rattle.os9_sched.specs.declared.member.Cause.{Cause}
 use Rattle.io_model.specs.Path.{PathTable, desc_of, holds_path}
 use Rattle.io_model.specs.Pipe.{held_bytes}
 use Rattle.io_model.specs.declared.pending.PendingCall.{PendingCall}
-use Rattle.io_rules.specs.Alone.{is_in_wait}
-use Rattle.io_rules.specs.Arrivals.{ArrivesFrom, Desk}
-use Rattle.io_rules.specs.Io.{Io, pending_at, terminal_at}
-use Rattle.io_rules.specs.Waiting.{io_may_go, may_read_terminal}
+use Rattle.io_model.specs.Alone.{is_in_wait}
+use Rattle.io_model.specs.Arrivals.{ArrivesFrom, Desk}
+use Rattle.io_model.specs.Io.{Io, pending_at, terminal_at}
+use Rattle.io_model.specs.Waiting.{io_may_go, may_read_terminal}
 use Rattle.lock_model.specs.Conflict.{conflicts}
 use Rattle.lock_model.specs.Locks.{request_of}
 use Rattle.lock_model.specs.Records.{Records}
@@ -17,7 +17,7 @@ use Rattle.lock_model.specs.declared.lock.Request.{Request}
 use Rattle.file_rules.specs.Locking.{call_of, files_may_go}
 use Rattle.machine_model.specs.Run.{Tick, desk_of}
 use Rattle.machine_model.specs.State.{State}
-use Rattle.wait_laws.proofs.RunningLaws.{arrivals-left}
+use Rattle.call_laws.proofs.RunningLaws.{arrivals-left}
 use Rattle.lock_laws.specs.Locked.{IsRunLocked}
 use Rattle.lock_laws.proofs.OnFiles.{tick-locked}
 use Rattle.lock_laws.specs.Touches.{KeysArrive, MayGo, TicksAreOver, WaitsFor}

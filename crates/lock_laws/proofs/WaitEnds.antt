@@ -18,17 +18,17 @@ use Rattle.io_model.specs.declared.path.Target.{Target}
 use Rattle.io_model.specs.declared.path.Target.TheVariants.{File, Folder, Pipe, Term}
 use Rattle.io_model.specs.declared.path.TheConstants.{PROCESS_PATHS}
 use Rattle.io_model.specs.declared.terminal.Reading.{Reading}
-use Rattle.io_rules.specs.Alone.{is_direction, is_in_wait}
-use Rattle.io_rules.specs.Close.{after_close, without_path, without_target}
-use Rattle.io_rules.specs.Codes.{direction_of}
-use Rattle.io_rules.specs.Io.{Io, pending_at, target_of, terminal_at, with_paths}
-use Rattle.io_rules.specs.Processes.{closed_below, closed_if_open, io_ended, io_started}
-use Rattle.io_rules.specs.Waiting.{cause_by, io_interrupted, may_read_terminal, pid, wait_target, without_unfinished}
-use Rattle.io_rules.specs.declared.io_call.Direction.{Direction}
+use Rattle.io_model.specs.Alone.{is_direction, is_in_wait}
+use Rattle.io_model.specs.Close.{after_close, without_path, without_target}
+use Rattle.io_model.specs.Codes.{direction_of}
+use Rattle.io_model.specs.Io.{Io, pending_at, target_of, terminal_at, with_paths}
+use Rattle.io_model.specs.Processes.{closed_below, closed_if_open, io_ended, io_started}
+use Rattle.io_model.specs.Waiting.{cause_by, io_interrupted, may_read_terminal, pid, wait_target, without_unfinished}
+use Rattle.io_model.specs.declared.io_call.Direction.{Direction}
 use Rattle.lock_model.proofs.Chains.{any-found}
 use Rattle.lock_laws.proofs.Descs.{Closes, Goes, closes-below, closes-ended, interrupted-paths}
 use Rattle.call_laws.proofs.PathsKept.{io-ended, io-interrupted}
-use Rattle.wait_laws.proofs.KeptEvents.{interrupted-none}
+use Rattle.call_laws.proofs.KeptEvents.{interrupted-none}
 use Rattle.lock_laws.specs.Touches.{NamesCause, cause_on}
 use Rattle.lock_laws.proofs.Looked.{IsPathFor, StaysFor, is_there, names-by, no-image, opens, there-by}
 

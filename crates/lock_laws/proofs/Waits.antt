@@ -5,14 +5,14 @@ use Rattle.std.specs.Prelude.{IsSome, option_and_then, option_map}
 use Rattle.std.specs.Option.{option_map_or}
 use Rattle.os9_sched.specs.declared.member.Cause.{Cause}
 use Rattle.os9_sched.specs.declared.member.Wait.{Wait as Waiting}
-use Rattle.proc_rules.specs.Processes.{regs_at}
+use Rattle.proc_model.specs.Processes.{regs_at}
 use Rattle.io_model.specs.Path.{ArePaths, desc_of, slot_of}
 use Rattle.io_model.specs.declared.pending.PendingCall.{PendingCall}
 use Rattle.io_model.specs.declared.path.Desc.{Desc}
 use Rattle.io_model.specs.declared.path.SysPath.{SysPath}
-use Rattle.io_rules.specs.Again.{path_number}
-use Rattle.io_rules.specs.Io.{OpenPath, pending_at, target_of}
-use Rattle.io_rules.specs.Waiting.{cause_by, io_waits_for}
+use Rattle.io_model.specs.Again.{path_number}
+use Rattle.io_model.specs.Io.{OpenPath, pending_at, target_of}
+use Rattle.io_model.specs.Waiting.{cause_by, io_waits_for}
 use Rattle.lock_model.specs.Locks.{request_of}
 use Rattle.lock_model.specs.declared.lock.Request.{Request}
 use Rattle.file_rules.specs.Locking.{request_wait, wait_cause}

@@ -1,10 +1,10 @@
 -- A change of a file that a path is on is a write of the chosen process, which the history has then, or a drive fails.
 use Rattle.std.proofs.Common.{◌≡◌, ◌⊎◌, ℕ, Option, Some, List, length, refl, sym, ap, ◌∙◌, subst, inl, inr}
 use Rattle.os9_base.specs.declared.registers.TimePacket.{TimePacket}
-use Rattle.proc_rules.specs.Records.{IsLiving}
-use Rattle.proc_rules.specs.Attempts.{after_attempt}
-use Rattle.proc_rules.specs.CallResult.{CallResult, refused}
-use Rattle.proc_rules.specs.Ready.{act_of, attempts}
+use Rattle.proc_model.specs.Records.{IsLiving}
+use Rattle.proc_model.specs.Attempts.{after_attempt}
+use Rattle.proc_model.specs.CallResult.{CallResult, refused}
+use Rattle.proc_model.specs.Ready.{act_of, attempts}
 use Rattle.lock_model.specs.History.{put}
 use Rattle.lock_model.specs.Locks.{request_of}
 use Rattle.lock_model.specs.Records.{Records, written_by}

@@ -2,7 +2,7 @@
 use Rattle.std.specs.Prelude.{◌≡◌, length}
 use Rattle.lock_model.specs.declared.lock.Grant.{Grant}
 use Rattle.lock_model.specs.declared.lock.Request.{Request}
-use Rattle.io_rules.specs.Step.{IoStep}
+use Rattle.io_model.specs.Step.{IoStep}
 use Rattle.file_rules.specs.Attempts.{file_step}
 use Rattle.file_rules.specs.Locking.{answer_to}
 use Rattle.file_rules.specs.Step.{as_io, deed_of}

@@ -1,14 +1,14 @@
 -- Calls that are refused for a deadlock, or for a lock (Level Two manual, RBF record locking).
 use Rattle.std.specs.Prelude.{◌≡◌, ℕ, Some}
 use Rattle.os9_base.specs.declared.registers.TimePacket.{TimePacket}
-use Rattle.proc_rules.specs.Ready.{attempts, act_of}
+use Rattle.proc_model.specs.Ready.{attempts, act_of}
 use Rattle.file_rules.specs.Files.{OneFailed}
 use Rattle.file_rules.specs.declared.path_call.PathCall.{PathCall}
 use Rattle.time_rules.specs.Clock.{IsNow}
 use Rattle.file_laws.specs.Claims.{ClosesCycle, IsLockedOut, Made}
 use Rattle.machine_model.specs.Services.{on_paths, service_of}
 use Rattle.machine_model.specs.State.{State}
-use Rattle.refusal_laws.specs.RefusedEvents.{IsRefused, made_by}
+use Rattle.call_laws.specs.RefusedEvents.{IsRefused, made_by}
 
 -- the chosen process attempts a call on paths, and this is so of the attempt
 pub record AttemptsSo (IsSo : Made → Type 0) (s : State) : Type 0 where

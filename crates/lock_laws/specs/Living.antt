@@ -1,7 +1,7 @@
 -- Path numbers of processes (Level Two manual, "Path descriptors").
 use Rattle.std.specs.Prelude.{◌≡◌, ℕ, ◌≤◌, false, None, List, length}
 use Rattle.std.specs.List.{AllByRecursion}
-use Rattle.proc_rules.specs.Records.{is_living}
+use Rattle.proc_model.specs.Records.{is_living}
 use Rattle.io_model.specs.Path.{numbers_of, slot_of}
 use Rattle.io_model.specs.declared.path.TheConstants.{PROCESS_PATHS}
 use Rattle.machine_model.specs.State.{State}

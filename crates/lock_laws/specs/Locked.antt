@@ -1,8 +1,8 @@
 -- What holds of record locks in every state of a run (Level Two manual, RBF record locking).
 use Rattle.std.specs.Prelude.{◌≡◌, ◌≢◌, ◌⊎◌, ℕ, true, Some, List, length}
 use Rattle.std.specs.List.{AllByRecursion}
-use Rattle.proc_rules.specs.Records.{IsLiving}
-use Rattle.proc_rules.specs.Processes.{regs_at}
+use Rattle.proc_model.specs.Records.{IsLiving}
+use Rattle.proc_model.specs.Processes.{regs_at}
 use Rattle.io_model.specs.Path.{holds_path}
 use Rattle.lock_model.specs.Locks.{lock_of, request_of}
 use Rattle.lock_model.specs.Records.{AreRecords}
@@ -12,7 +12,7 @@ use Rattle.lock_model.specs.declared.lock.TheConstants.{PATH_PLACES}
 use Rattle.file_rules.specs.Codes.{path_call_of}
 use Rattle.file_rules.specs.Files.{Files}
 use Rattle.file_rules.specs.declared.path_call.PathCall.{PathCall}
-use Rattle.wait_laws.specs.Running.{IsRunning}
+use Rattle.call_laws.specs.Running.{IsRunning}
 use Rattle.machine_model.specs.State.{State}
 use Rattle.file_laws.specs.Claims.{CoversCall}
 use Rattle.lock_laws.specs.Contents.{IsPathOn}

@@ -3,9 +3,9 @@
 use Rattle.std.specs.Prelude.{◌≡◌, ◌≢◌, ℕ, ◌<◌, true, false, Option, Some, None}
 use Rattle.os9_base.specs.declared.registers.TimePacket.{TimePacket}
 use Rattle.os9_sched.specs.declared.member.Cause.{Cause}
-use Rattle.proc_rules.specs.Records.{is_living}
-use Rattle.proc_rules.specs.Ready.{act_of, attempts, delivers}
-use Rattle.proc_rules.specs.declared.proc_call.ProcCall.TheVariants.{Fork}
+use Rattle.proc_model.specs.Records.{is_living}
+use Rattle.proc_model.specs.Ready.{act_of, attempts, delivers}
+use Rattle.proc_model.specs.declared.proc_call.ProcCall.TheVariants.{Fork}
 use Rattle.lock_model.specs.Locks.{lock_of, request_of}
 use Rattle.lock_model.specs.Waits.{is_late}
 use Rattle.lock_model.specs.declared.lock.Held.{Held}
@@ -13,8 +13,8 @@ use Rattle.lock_model.specs.declared.lock.Request.{Request}
 use Rattle.io_model.specs.Terminal.{reader}
 use Rattle.io_model.specs.declared.path.Target.{Target}
 use Rattle.io_model.specs.declared.path.Target.TheVariants.{File, Folder, Term, Pipe}
-use Rattle.io_rules.specs.Io.{Io, OpenPath, open_path, terminal_at}
-use Rattle.io_rules.specs.Waiting.{pid}
+use Rattle.io_model.specs.Io.{Io, OpenPath, open_path, terminal_at}
+use Rattle.io_model.specs.Waiting.{pid}
 use Rattle.file_rules.specs.Attempts.{asker_of}
 use Rattle.file_rules.specs.Locking.{files_may_go, wait_cause}
 use Rattle.file_rules.specs.declared.path_call.PathCall.{PathCall}

@@ -2,7 +2,7 @@
 
 ghost use Rattle.std.specs.Prelude.{◌≡◌, ◌⊎◌, ◌↔◌, ℕ, length};
 ghost use Rattle.os9_base.specs.declared.errors.TheConstants.{E_DEADLK, E_LOCK};
-ghost use Rattle.proc_rules.specs.CallResult.{refused};
+ghost use Rattle.proc_model.specs.CallResult.{refused};
 ghost use Rattle.lock_model.specs.declared.lock.Grant.TheVariants.{Deadlock, Locked};
 ghost use Rattle.lock_model.specs.declared.lock.TheConstants.{LOCK_PROCESSES};
 ghost use Rattle.lock_model.specs.declared.place.FilePlace.{FilePlace};

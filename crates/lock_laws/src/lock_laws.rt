@@ -16,7 +16,7 @@ ghost use Rattle.machine_model.specs.Event.{Event};
 ghost use Rattle.machine_model.specs.Run.{Choose, Run, Slice, Tick};
 ghost use Rattle.machine_model.specs.Start.{Boot, Starts};
 ghost use Rattle.machine_model.specs.State.{State};
-ghost use Rattle.refusal_laws.specs.RefusedEvents.{IsRefused};
+ghost use Rattle.call_laws.specs.RefusedEvents.{IsRefused};
 ghost use Rattle.lock_laws.specs.Changed.{ChangesLocks};
 ghost use Rattle.lock_laws.specs.Cycles.{ClosesCycleIn, IsFaulted, IsLockedOutIn};
 ghost use Rattle.lock_laws.specs.Locked.{AllAgreed, AllRunLocked, AreOnFiles, IsAgreed, IsRunLocked, LeavesLocks};

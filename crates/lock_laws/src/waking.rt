@@ -8,7 +8,7 @@ ghost use Rattle.machine_model.specs.declared.ends.SliceEnd.{SliceEnd};
 ghost use Rattle.file_rules.specs.Locking.{files_may_go};
 ghost use Rattle.io_model.specs.Path.{ArePaths};
 ghost use Rattle.io_model.specs.declared.pending.PendingCall.{PendingCall};
-ghost use Rattle.io_rules.specs.Io.{pending_at};
+ghost use Rattle.io_model.specs.Io.{pending_at};
 ghost use Rattle.machine_model.specs.Event.{Event};
 ghost use Rattle.machine_model.specs.Run.{Choose, Run, Slice, Tick};
 ghost use Rattle.machine_model.specs.Start.{Boot, Starts};

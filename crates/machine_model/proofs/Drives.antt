@@ -1,7 +1,7 @@
 -- The drives only gain: where none failed, where one failed, and over two steps.
 use Rattle.std.proofs.Common.{◌≡◌, ◌⊎◌, ℕ, ◌≤◌, Option, List, refl, sym, ap, ◌∙◌, inl, inr, subst, arith}
 use Rattle.std.proofs.lemmas.Bool.{cases_eq}
-use Rattle.proc_rules.specs.CallResult.{CallResult}
+use Rattle.proc_model.specs.CallResult.{CallResult}
 use Rattle.file_rules.specs.Files.{DriveState, Files, NoneFailed, OneFailed, drive_at}
 use Rattle.file_laws.specs.Touch.{FaultAnswers, NoVolumeChanges, OneDriveFails, OneVolumeChanges}
 use Rattle.machine_model.specs.Devices.{DrivesOnlyGain}

@@ -4,12 +4,12 @@ use Rattle.std.specs.Prelude.{MatchBool, MatchOption}
 use Rattle.os9_base.specs.declared.registers.TimePacket.{TimePacket}
 use Rattle.os9_outer.specs.TerminalState.{TerminalState}
 use Rattle.cpu_model.specs.Step.{Outcome, Done, Calls, Aborts}
-use Rattle.proc_rules.specs.declared.proc_call.ProcCall.TheVariants as Call
-use Rattle.proc_rules.specs.Attempts.{attempted}
-use Rattle.proc_rules.specs.CallResult.{CallResult, done, refused, waits, ends}
-use Rattle.proc_rules.specs.Delivery.{delivered}
-use Rattle.proc_rules.specs.Processes.{Processes}
-use Rattle.proc_rules.specs.Ready.{Act, attempts, delivers, executes, act_of}
+use Rattle.proc_model.specs.declared.proc_call.ProcCall.TheVariants as Call
+use Rattle.proc_model.specs.Attempts.{attempted}
+use Rattle.proc_model.specs.CallResult.{CallResult, done, refused, waits, ends}
+use Rattle.proc_model.specs.Delivery.{delivered}
+use Rattle.proc_model.specs.Processes.{Processes}
+use Rattle.proc_model.specs.Ready.{Act, attempts, delivers, executes, act_of}
 use Rattle.file_rules.specs.declared.path_call.PathCall.{PathCall}
 use Rattle.file_rules.specs.Attempts.{asker_of}
 use Rattle.file_rules.specs.Files.{Files}

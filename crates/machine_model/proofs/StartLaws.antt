@@ -6,7 +6,7 @@ use Rattle.proc_model.specs.ModuleList.{ModuleEntry, module_entry_at, answers_to
 use Rattle.proc_model.specs.Loading.{no_entries}
 use Rattle.proc_model.proofs.LoadingLemmas.{Enters-one, Enters-some}
 use Rattle.proc_model.proofs.ModuleListLaws.{found_entry}
-use Rattle.proc_rules.specs.Processes.{Processes}
+use Rattle.proc_model.specs.Processes.{Processes}
 use Rattle.machine_model.specs.declared.ends.BootFault.{BootFault}
 use Rattle.machine_model.specs.declared.ends.BootFault.TheVariants.{OutOfMemory, BadModule, NoFirst, TooLarge}
 use Rattle.proc_model.specs.declared.memory.MemoryFault.{MemoryFault}

@@ -3,7 +3,7 @@ use Rattle.std.proofs.Common.{◌≡◌, ◌⊎◌, ℕ, None, List, [], ◌∷�
 use Rattle.std.specs.List.{AllZip}
 use Rattle.rbf_model.specs.Volume.{DiskVolume, Vol}
 use Rattle.rbf_model.proofs.Unique.{vol_is_unique}
-use Rattle.proc_rules.specs.Processes.{Processes}
+use Rattle.proc_model.specs.Processes.{Processes}
 use Rattle.file_rules.specs.Files.{DriveState, Files}
 use Rattle.file_rules.specs.Processes.{StartsOn, first_files}
 use Rattle.machine_model.specs.declared.ends.BootFault.{BootFault}

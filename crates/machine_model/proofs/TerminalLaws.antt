@@ -5,18 +5,18 @@ use Rattle.std.proofs.lemmas.Option.{none-some, same_Some}
 use Rattle.os9_base.specs.declared.registers.Pid.{Pid}
 use Rattle.os9_outer.specs.Stream.{stream_with, emptied}
 use Rattle.os9_outer.specs.TerminalState.{TerminalState, ChangesOneTerminal}
-use Rattle.proc_rules.specs.CallResult.{CallResult}
+use Rattle.proc_model.specs.CallResult.{CallResult}
 use Rattle.io_model.specs.declared.terminal.Arrival.{Arrival}
 use Rattle.io_model.specs.declared.terminal.Progress.{Progress}
 use Rattle.io_model.specs.declared.terminal.Reading.{Reading}
 use Rattle.io_model.specs.Terminal.{Terminal, Arrives, Reads, Writes, BreaksOff, Attempted, IsCutShort, IsWritten, LeavesDriver, read_attempt, is_refused}
-use Rattle.io_rules.specs.declared.io_call.IoCall.{IoCall}
-use Rattle.io_rules.specs.Arrivals.{Desk, ArrivesFrom}
-use Rattle.io_rules.specs.Attempts.{Does, IoAttempts}
-use Rattle.io_rules.specs.Io.{Io, terminal_at}
-use Rattle.proc_rules.specs.Processes.{Processes}
-use Rattle.io_rules.specs.Step.{Caller, IoEffect, IoStep, refused, comes, reads, writes}
-use Rattle.io_rules.specs.Terminals.{request_of}
+use Rattle.io_model.specs.declared.io_call.IoCall.{IoCall}
+use Rattle.io_model.specs.Arrivals.{Desk, ArrivesFrom}
+use Rattle.io_model.specs.Attempts.{Does, IoAttempts}
+use Rattle.io_model.specs.Io.{Io, terminal_at}
+use Rattle.proc_model.specs.Processes.{Processes}
+use Rattle.io_model.specs.Step.{Caller, IoEffect, IoStep, refused, comes, reads, writes}
+use Rattle.io_model.specs.Terminals.{request_of}
 use Rattle.machine_model.specs.Console.{terminals_emptied, without_bytes}
 use Rattle.machine_model.specs.Terminals.{OnlyGains, TerminalsOnlyGain}
 

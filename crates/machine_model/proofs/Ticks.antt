@@ -10,39 +10,39 @@ use Rattle.proc_model.specs.declared.module.ModId.{ModId}
 use Rattle.proc_model.specs.Memory.{MemoryState, map_at}
 use Rattle.proc_model.specs.MemoryChanges.{has_most_links, started, stored}
 use Rattle.proc_model.specs.Slots.{group_slot}
-use Rattle.proc_rules.specs.declared.own.Own.{Own}
-use Rattle.proc_rules.specs.declared.record.Reap.{Reap}
-use Rattle.proc_rules.specs.declared.record.Reap.TheVariants.{NoChild, NotYet}
-use Rattle.proc_rules.specs.declared.record.SendFault.{SendFault}
-use Rattle.proc_rules.specs.declared.record.SendFault.TheVariants.{NoProcess, Pending}
-use Rattle.proc_rules.specs.Ends.{reaped, after_reap}
-use Rattle.proc_rules.specs.Records.{record_at, free_process, is_waiting, with_priority}
-use Rattle.proc_rules.specs.Signals.{is_reached, send_fault, wake_signal, with_sent}
+use Rattle.proc_model.specs.declared.own.Own.{Own}
+use Rattle.proc_model.specs.declared.record.Reap.{Reap}
+use Rattle.proc_model.specs.declared.record.Reap.TheVariants.{NoChild, NotYet}
+use Rattle.proc_model.specs.declared.record.SendFault.{SendFault}
+use Rattle.proc_model.specs.declared.record.SendFault.TheVariants.{NoProcess, Pending}
+use Rattle.proc_model.specs.Ends.{reaped, after_reap}
+use Rattle.proc_model.specs.Records.{record_at, free_process, is_waiting, with_priority}
+use Rattle.proc_model.specs.Signals.{is_reached, send_fault, wake_signal, with_sent}
 use Rattle.os9_base.specs.declared.name_fault.NameFault.{NameFault}
 use Rattle.os9_base.specs.declared.name_fault.NameFault.TheVariants.{Unreadable, NoName}
 use Rattle.os9_base.specs.UserNames.{name_at, user_cell}
-use Rattle.proc_rules.specs.declared.proc_call.ProcCall.{ProcCall}
-use Rattle.proc_rules.specs.declared.proc_call.ProcCall.TheVariants as Call
-use Rattle.proc_rules.specs.Attempts.{attempted, after_attempt}
-use Rattle.proc_rules.specs.CallResult.{CallResult, done, refused, waits, ends, needs, refuses, changes, reads_name}
-use Rattle.proc_rules.specs.Chain.{f_chain, begun_anew, with_program}
-use Rattle.proc_rules.specs.CmpNam.{f_cmpnam, same_names}
-use Rattle.proc_rules.specs.Crc.{f_crc, crc_continued}
-use Rattle.proc_rules.specs.End.{ended}
-use Rattle.proc_rules.specs.Fork.{f_fork, with_child, forked_regs}
-use Rattle.proc_rules.specs.Processes.{Processes, own_at, regs_at, user_at, cells_at, with_memory, with_records, with_regs_of, with_own}
-use Rattle.proc_rules.specs.Link.{f_link, mapped_group, links_at, after_link}
-use Rattle.proc_rules.specs.Mem.{f_mem, sets_pages, resized, with_size, size_regs}
-use Rattle.proc_rules.specs.ModuleLinks.{found_entry, module_at, without_module_link, without_primary_link, Entered}
-use Rattle.proc_rules.specs.Program.{Program, is_unreadable, module_name, name_at_x, asks_for_program, program_kind, area_pages, page_count, most_pages, blocks_of_pages}
-use Rattle.proc_rules.specs.PrsNam.{f_prsnam, past_slash, name_regs}
-use Rattle.proc_rules.specs.SPrior.{f_sprior}
-use Rattle.proc_rules.specs.Send.{f_send, is_asleep, woken, after_signal}
-use Rattle.proc_rules.specs.Sleep.{f_sleep, falls_asleep, may_wake, ticks_left}
-use Rattle.proc_rules.specs.UnLink.{f_unlink, after_unlink, without_group_link}
-use Rattle.proc_rules.specs.UnLoad.{f_unload}
-use Rattle.proc_rules.specs.UserBytes.{user_bytes, d_of}
-use Rattle.proc_rules.specs.Wait.{f_wait, reaped_regs}
+use Rattle.proc_model.specs.declared.proc_call.ProcCall.{ProcCall}
+use Rattle.proc_model.specs.declared.proc_call.ProcCall.TheVariants as Call
+use Rattle.proc_model.specs.Attempts.{attempted, after_attempt}
+use Rattle.proc_model.specs.CallResult.{CallResult, done, refused, waits, ends, needs, refuses, changes, reads_name}
+use Rattle.proc_model.specs.Chain.{f_chain, begun_anew, with_program}
+use Rattle.proc_model.specs.CmpNam.{f_cmpnam, same_names}
+use Rattle.proc_model.specs.Crc.{f_crc, crc_continued}
+use Rattle.proc_model.specs.End.{ended}
+use Rattle.proc_model.specs.Fork.{f_fork, with_child, forked_regs}
+use Rattle.proc_model.specs.Processes.{Processes, own_at, regs_at, user_at, cells_at, with_memory, with_records, with_regs_of, with_own}
+use Rattle.proc_model.specs.Link.{f_link, mapped_group, links_at, after_link}
+use Rattle.proc_model.specs.Mem.{f_mem, sets_pages, resized, with_size, size_regs}
+use Rattle.proc_model.specs.ModuleLinks.{found_entry, module_at, without_module_link, without_primary_link, Entered}
+use Rattle.proc_model.specs.Program.{Program, is_unreadable, module_name, name_at_x, asks_for_program, program_kind, area_pages, page_count, most_pages, blocks_of_pages}
+use Rattle.proc_model.specs.PrsNam.{f_prsnam, past_slash, name_regs}
+use Rattle.proc_model.specs.SPrior.{f_sprior}
+use Rattle.proc_model.specs.Send.{f_send, is_asleep, woken, after_signal}
+use Rattle.proc_model.specs.Sleep.{f_sleep, falls_asleep, may_wake, ticks_left}
+use Rattle.proc_model.specs.UnLink.{f_unlink, after_unlink, without_group_link}
+use Rattle.proc_model.specs.UnLoad.{f_unload}
+use Rattle.proc_model.specs.UserBytes.{user_bytes, d_of}
+use Rattle.proc_model.specs.Wait.{f_wait, reaped_regs}
 
 -- the processes that a call leaves have the same tick
 abbrev KeepsTick : Processes → CallResult → Type 0

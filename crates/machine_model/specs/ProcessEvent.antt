@@ -3,10 +3,10 @@
 use Rattle.std.specs.Prelude.{ℕ, Option, Some, None, Result, Ok, Err}
 use Rattle.cpu_model.specs.Step.{Outcome, Done, Calls, Aborts, step_of}
 use Rattle.proc_model.specs.MemoryChanges.{written}
-use Rattle.proc_rules.specs.CallResult.{CallResult, done, refused, waits, ends}
-use Rattle.proc_rules.specs.End.{ended}
-use Rattle.proc_rules.specs.Processes.{Processes, own_at, regs_at, cells_at, with_memory, with_regs_of, with_own}
-use Rattle.proc_rules.specs.Ready.{Act, attempts, delivers, executes}
+use Rattle.proc_model.specs.CallResult.{CallResult, done, refused, waits, ends}
+use Rattle.proc_model.specs.End.{ended}
+use Rattle.proc_model.specs.Processes.{Processes, own_at, regs_at, cells_at, with_memory, with_regs_of, with_own}
+use Rattle.proc_model.specs.Ready.{Act, attempts, delivers, executes}
 use Rattle.machine_model.specs.declared.ends.EventEnd.{EventEnd}
 use Rattle.machine_model.specs.declared.ends.EventEnd.TheVariants.{Ran, Waits, Ended}
 

@@ -9,10 +9,10 @@ use Rattle.proc_model.specs.Memory.{MemoryState, first_memory}
 use Rattle.proc_model.specs.MemoryChanges.{linked, started}
 use Rattle.proc_model.specs.ModuleList.{ModuleEntry, module_entry_at, found_module}
 use Rattle.proc_model.specs.Objects.{file_blocks, file_objects}
-use Rattle.proc_rules.specs.Records.{after_make, with_regs}
-use Rattle.proc_rules.specs.Turns.{with_turn}
-use Rattle.proc_rules.specs.Processes.{Processes, no_own}
-use Rattle.proc_rules.specs.Program.{Program, program_kind, area_pages, blocks_of_pages, start_regs, start_own}
+use Rattle.proc_model.specs.Records.{after_make, with_regs}
+use Rattle.proc_model.specs.Turns.{with_turn}
+use Rattle.proc_model.specs.Processes.{Processes, no_own}
+use Rattle.proc_model.specs.Program.{Program, program_kind, area_pages, blocks_of_pages, start_regs, start_own}
 use Rattle.machine_model.specs.declared.ends.BootFault.{BootFault}
 use Rattle.machine_model.specs.declared.ends.BootFault.TheVariants.{OutOfMemory, BadModule, NoFirst, TooLarge}
 

@@ -2,11 +2,11 @@
 use Rattle.std.specs.Prelude.{◌≡◌, ℕ, ◌+◌, ◌-◌, ◌<◌, Bool, true, false, option_map, List, [], ◌∷◌, ◌++◌, if◌then◌else◌, MatchBool, MatchOption}
 use Rattle.os9_base.specs.declared.registers.Pid.{Pid}
 use Rattle.os9_outer.specs.TerminalState.{TerminalState, ChangesOneTerminal}
-use Rattle.proc_rules.specs.Choice.{choice_of, after_choice}
+use Rattle.proc_model.specs.Choice.{choice_of, after_choice}
 use Rattle.io_model.specs.Terminal.{Terminal, Arrives}
 use Rattle.io_model.specs.declared.terminal.Arrival.{Arrival}
-use Rattle.io_rules.specs.Arrivals.{Desk, Arrivals, ArrivesFrom}
-use Rattle.io_rules.specs.Io.{terminal_at}
+use Rattle.io_model.specs.Arrivals.{Desk, Arrivals, ArrivesFrom}
+use Rattle.io_model.specs.Io.{terminal_at}
 use Rattle.file_rules.specs.Files.{with_io}
 use Rattle.file_rules.specs.Locking.{files_may_go}
 use Rattle.machine_model.specs.declared.ends.EventEnd.{EventEnd}

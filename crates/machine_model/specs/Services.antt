@@ -4,12 +4,12 @@ use Rattle.std.specs.Option.{option_map_or}
 use Rattle.os9_base.specs.declared.calls.TheConstants.{F_LOAD}
 use Rattle.os9_base.specs.declared.errors.TheConstants.{E_UNKSVC}
 use Rattle.os9_base.specs.declared.registers.TimePacket.{TimePacket}
-use Rattle.proc_rules.specs.Attempts.{attempted}
-use Rattle.proc_rules.specs.CallResult.{CallResult, done, refused, waits, ends}
-use Rattle.proc_rules.specs.Codes.{call_of}
-use Rattle.proc_rules.specs.Processes.{regs_at}
-use Rattle.proc_rules.specs.declared.proc_call.ProcCall.{ProcCall}
-use Rattle.proc_rules.specs.declared.proc_call.ProcCall.TheVariants as Call
+use Rattle.proc_model.specs.Attempts.{attempted}
+use Rattle.proc_model.specs.CallResult.{CallResult, done, refused, waits, ends}
+use Rattle.proc_model.specs.Codes.{call_of}
+use Rattle.proc_model.specs.Processes.{regs_at}
+use Rattle.proc_model.specs.declared.proc_call.ProcCall.{ProcCall}
+use Rattle.proc_model.specs.declared.proc_call.ProcCall.TheVariants as Call
 use Rattle.file_rules.specs.Attempts.{FileAttempts, asker_of}
 use Rattle.file_rules.specs.Codes.{path_call_of}
 use Rattle.file_rules.specs.Files.{Files}

@@ -7,16 +7,16 @@ use Rattle.os9_base.specs.declared.registers.Pid.{Pid}
 use Rattle.os9_base.specs.declared.registers.Regs.{Regs}
 use Rattle.os9_base.specs.declared.registers.TimePacket.{TimePacket}
 use Rattle.time_rules.specs.CivilRows.{at}
-use Rattle.proc_rules.specs.Records.{zero_regs, with_record}
-use Rattle.proc_rules.specs.Signals.{intercept_of, with_intercept, with_signal}
-use Rattle.proc_rules.specs.Turns.{with_turn}
-use Rattle.proc_rules.specs.Attempts.{attempted, after_attempt}
-use Rattle.proc_rules.specs.CallResult.{CallResult, refused}
-use Rattle.proc_rules.specs.Choice.{choice_of, after_choice}
-use Rattle.proc_rules.specs.Delivery.{delivered, after_delivery}
-use Rattle.proc_rules.specs.Processes.{Processes, no_own, with_records, with_own}
-use Rattle.proc_rules.specs.Ready.{Act, attempts, delivers, executes, act_of}
-use Rattle.proc_rules.specs.Rows.{one_process, two_processes, running_with, next_tick}
+use Rattle.proc_model.specs.Records.{zero_regs, with_record}
+use Rattle.proc_model.specs.Signals.{intercept_of, with_intercept, with_signal}
+use Rattle.proc_model.specs.Turns.{with_turn}
+use Rattle.proc_model.specs.Attempts.{attempted, after_attempt}
+use Rattle.proc_model.specs.CallResult.{CallResult, refused}
+use Rattle.proc_model.specs.Choice.{choice_of, after_choice}
+use Rattle.proc_model.specs.Delivery.{delivered, after_delivery}
+use Rattle.proc_model.specs.Processes.{Processes, no_own, with_records, with_own}
+use Rattle.proc_model.specs.Ready.{Act, attempts, delivers, executes, act_of}
+use Rattle.proc_model.specs.Rows.{one_process, two_processes, running_with, next_tick}
 use Rattle.file_rules.specs.Locking.{files_may_go}
 use Rattle.file_rules.specs.Processes.{first_files}
 use Rattle.time_rules.specs.Attempts.{clock_after, result_of, time_step}

@@ -2,7 +2,7 @@
 -- which process was chosen, and the terminals.
 use Rattle.std.specs.Prelude.{ℕ, ◌==◌, not, Bool, Option, List}
 use Rattle.os9_outer.specs.TerminalState.{TerminalState}
-use Rattle.proc_rules.specs.Processes.{Processes}
+use Rattle.proc_model.specs.Processes.{Processes}
 use Rattle.file_rules.specs.Files.{Files}
 use Rattle.machine_model.specs.Living.{living_count}
 use Rattle.time_rules.specs.declared.clock.Clock.{Clock}

@@ -1,7 +1,7 @@
 //! The start of a boot file, as laws over all of them.
 
 ghost use Rattle.std.specs.Prelude.{◌≡◌, ◌⊎◌, ℕ, List};
-ghost use Rattle.proc_rules.specs.Processes.{Processes};
+ghost use Rattle.proc_model.specs.Processes.{Processes};
 ghost use Rattle.machine_model.specs.declared.ends.BootFault.{BootFault};
 ghost use Rattle.machine_model.specs.ProcessStart.{StartsProcesses, Refuses};
 

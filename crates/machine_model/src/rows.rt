@@ -2,7 +2,7 @@
 
 ghost use Rattle.std.specs.Prelude.{◌≡◌};
 ghost use Rattle.os9_base.specs.declared.calls.TheConstants.{F_FORK, F_LOAD, F_STIME, F_TIME, I_DUP, I_READ, F_PERR};
-ghost use Rattle.proc_rules.specs.declared.proc_call.ProcCall.TheVariants as ProcCall;
+ghost use Rattle.proc_model.specs.declared.proc_call.ProcCall.TheVariants as ProcCall;
 ghost use Rattle.file_rules.specs.declared.path_call.PathCall.TheVariants as PathCall;
 ghost use Rattle.time_rules.specs.declared.time_call.TimeCall.TheVariants as TimeCall;
 ghost use Rattle.machine_model.specs.Services.{loads, no_call, on_paths, on_processes, on_time, service_of};

@@ -2,7 +2,7 @@
 use Rattle.std.proofs.Common.{◌≡◌, ℕ, ◌*◌, ◌<◌, map, get_or, List, refl, ap, ◌∙◌, arith}
 use Rattle.std.specs.List.{range_with_len}
 use Rattle.std.proofs.lemmas.List.FromFn.{get_or-map-range_with_len}
-use Rattle.proc_model.specs.Crc.{divided_once, divided, bits_of}
+use Rattle.proc_model.specs.CrcModel.{divided_once, divided, bits_of}
 use Rattle.module_format.specs.declared.crc.TheConstants.{TABLE}
 
 abbrev word : ℕ → ℕ

@@ -1,5 +1,5 @@
 ghost use Rattle.std.specs.Prelude.{◌≡◌, ◌<◌, ◌*◌};
-ghost use Rattle.proc_model.specs.Crc.{bits_of, divided, crc_register, crc_of};
+ghost use Rattle.proc_model.specs.CrcModel.{bits_of, divided, crc_register, crc_of};
 
 /// The register before the first byte.
 const START: u32 = 0xff_ffff;

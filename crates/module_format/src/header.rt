@@ -1,6 +1,6 @@
 ghost use Rattle.std.specs.Prelude.{◌≡◌, ◌+◌, ◌<◌, ◌≤◌, ◌&&◌, length, take, true, is_some, IfOk, IfSome, Option, Some};
 ghost use Rattle.std.specs.Result.{result_err};
-ghost use Rattle.proc_model.specs.Crc.{crc_register};
+ghost use Rattle.proc_model.specs.CrcModel.{crc_register};
 ghost use Rattle.proc_model.specs.Module as model;
 ghost use Rattle.proc_model.specs.Module.{header_word, module_size, module_name, module_entry, has_sync, has_size, has_module_name, crc_offset, keeps_header_rule, keeps_parity_rule, keeps_crc_rule, module_fault, info_at, IsModule};
 

@@ -4,9 +4,9 @@ use Rattle.os9_base.specs.declared.call.CallEnd.{CallEnd}
 use Rattle.os9_base.specs.declared.call.CallEnd.TheVariants.{Done, Error}
 use Rattle.os9_base.specs.declared.registers.TimePacket.{TimePacket}
 use Rattle.os9_outer.specs.TerminalState.{TerminalState}
-use Rattle.proc_rules.specs.Processes.{Processes, regs_at, with_regs_of}
-use Rattle.io_rules.specs.Io.{Io, with_call}
-use Rattle.io_rules.specs.Step.{answers, fails}
+use Rattle.proc_model.specs.Processes.{Processes, regs_at, with_regs_of}
+use Rattle.io_model.specs.Io.{Io, with_call}
+use Rattle.io_model.specs.Step.{answers, fails}
 use Rattle.proc_state.specs.Tie.{Represents}
 use Rattle.proc_state.specs.declared.state.ProcState.{ProcState}
 use Rattle.file_drives.specs.Drives.{DriveView}

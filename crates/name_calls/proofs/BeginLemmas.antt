@@ -5,15 +5,15 @@ use Rattle.os9_base.specs.declared.call.CallEnd.TheVariants.{Done, Error}
 use Rattle.os9_base.specs.declared.errors.TheConstants.{E_PTHFUL}
 use Rattle.os9_base.specs.declared.registers.Regs.{Regs}
 use Rattle.os9_base.specs.declared.registers.TimePacket.{TimePacket}
-use Rattle.proc_rules.specs.Processes.{Processes, regs_at, with_regs_of}
+use Rattle.proc_model.specs.Processes.{Processes, regs_at, with_regs_of}
 use Rattle.std.specs.Option.{option_map_or}
 use Rattle.io_model.specs.Path.{PathTable, free_number, free_path, new_number, paths_after_begin, with_path}
 use Rattle.io_model.specs.declared.path.Desc.{Desc}
 use Rattle.io_model.specs.declared.path.Target.{Target}
-use Rattle.io_rules.specs.Io.{Io, new_desc, with_call, with_paths}
-use Rattle.io_rules.specs.Open.{opened_regs}
-use Rattle.io_rules.specs.PathList.{PathList}
-use Rattle.io_rules.specs.Step.{answers}
+use Rattle.io_model.specs.Io.{Io, new_desc, with_call, with_paths}
+use Rattle.io_model.specs.Open.{opened_regs}
+use Rattle.io_model.specs.PathList.{PathList}
+use Rattle.io_model.specs.Step.{answers}
 use Rattle.proc_state.specs.Tie.{Represents}
 use Rattle.proc_state.specs.declared.state.ProcState.{ProcState}
 use Rattle.file_rules.specs.Attempts.{asker_of}

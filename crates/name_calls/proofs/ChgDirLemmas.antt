@@ -4,12 +4,12 @@ use Rattle.os9_base.specs.declared.errors.TheConstants.{E_FNA}
 use Rattle.os9_base.specs.declared.registers.Regs.{Regs}
 use Rattle.os9_base.specs.declared.name_fault.NameFault.{NameFault}
 use Rattle.os9_base.specs.declared.name_fault.NameFault.TheVariants.{Unreadable, NoName}
-use Rattle.io_rules.specs.Modes.{is_mode}
-use Rattle.io_rules.specs.PathList.{PathList}
+use Rattle.io_model.specs.Modes.{is_mode}
+use Rattle.io_model.specs.PathList.{PathList}
 use Rattle.file_rules.specs.ChgDir.{goes_on_route, goes_to, i_chgdir, may_go_to}
-use Rattle.proc_rules.specs.Processes.{Processes, regs_at, with_regs_of}
-use Rattle.io_rules.specs.Io.{Io, with_call}
-use Rattle.io_rules.specs.Step.{answers}
+use Rattle.proc_model.specs.Processes.{Processes, regs_at, with_regs_of}
+use Rattle.io_model.specs.Io.{Io, with_call}
+use Rattle.io_model.specs.Step.{answers}
 use Rattle.proc_state.specs.Tie.{Represents}
 use Rattle.proc_state.specs.declared.state.ProcState.{ProcState}
 use Rattle.file_rules.specs.Attempts.{files_kept}

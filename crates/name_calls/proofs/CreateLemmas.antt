@@ -6,11 +6,11 @@ use Rattle.os9_base.specs.Cells.{Cells}
 use Rattle.os9_base.specs.declared.call.CallEnd.{CallEnd}
 use Rattle.os9_base.specs.declared.registers.TimePacket.{TimePacket}
 use Rattle.os9_outer.specs.TerminalState.{TerminalState}
-use Rattle.proc_rules.specs.Processes.{Processes}
+use Rattle.proc_model.specs.Processes.{Processes}
 use Rattle.os9_base.specs.declared.name_fault.NameFault.{NameFault}
 use Rattle.io_model.specs.Path.{new_number}
-use Rattle.io_rules.specs.Modes.{can_write}
-use Rattle.io_rules.specs.PathList.{PathList, ends_in_dots}
+use Rattle.io_model.specs.Modes.{can_write}
+use Rattle.io_model.specs.PathList.{PathList, ends_in_dots}
 use Rattle.proc_state.specs.declared.state.ProcState.{ProcState}
 use Rattle.device_paths.specs.Standing.{NamesFrom, NamesStand}
 use Rattle.rbf_model.specs.Volume.{DiskVolume}

@@ -4,8 +4,8 @@ use Rattle.os9_base.specs.declared.errors.TheConstants.{E_FNA}
 use Rattle.os9_base.specs.declared.registers.Regs.{Regs}
 use Rattle.os9_base.specs.declared.name_fault.NameFault.{NameFault}
 use Rattle.os9_base.specs.declared.name_fault.NameFault.TheVariants.{Unreadable, NoName}
-use Rattle.io_rules.specs.Modes.{is_mode}
-use Rattle.io_rules.specs.PathList.{PathList}
+use Rattle.io_model.specs.Modes.{is_mode}
+use Rattle.io_model.specs.PathList.{PathList}
 use Rattle.file_rules.specs.Delete.{deletes_by, deletes_in, deletes_named, i_deletx}
 use Rattle.file_rules.specs.Files.{Asker, Files}
 use Rattle.file_rules.specs.Open.{is_for_execution, tests_mode}

@@ -23,7 +23,7 @@ use Rattle.file_rules.specs.MakDir.{past_list}
 use Rattle.file_rules.specs.Sharing.{is_open}
 use Rattle.file_rules.specs.Step.{FileStep, Step, VolumeChange, comes, changes, deed_of, drive_of, leaves, leaves_so, needs, refuses, refuses_so}
 use Rattle.lock_model.specs.declared.place.FilePlace.{FilePlace}
-use Rattle.io_rules.specs.Step.{answers}
+use Rattle.io_model.specs.Step.{answers}
 use Rattle.file_drives.specs.Calls as drives
 use Rattle.file_drives.specs.Changed.{Asked, ChangesVolume, file_answer}
 use Rattle.file_drives.specs.Drives.{DriveView, drive_states}

@@ -7,12 +7,12 @@ use Rattle.os9_outer.specs.declared.drive.BlockDriver.{Ghosts}
 use Rattle.os9_base.specs.declared.call.CallEnd.{CallEnd}
 use Rattle.os9_base.specs.declared.registers.TimePacket.{TimePacket}
 use Rattle.os9_outer.specs.TerminalState.{TerminalState}
-use Rattle.proc_rules.specs.CallResult.{CallResult}
-use Rattle.proc_rules.specs.Processes.{Processes}
-use Rattle.io_rules.specs.Attempts.{Does, caller_of, io_after, io_step}
-use Rattle.io_rules.specs.Io.{Io}
-use Rattle.io_rules.specs.Step.{IoEffect, IoStep}
-use Rattle.io_rules.specs.declared.io_call.IoCall.{IoCall}
+use Rattle.proc_model.specs.CallResult.{CallResult}
+use Rattle.proc_model.specs.Processes.{Processes}
+use Rattle.io_model.specs.Attempts.{Does, caller_of, io_after, io_step}
+use Rattle.io_model.specs.Io.{Io}
+use Rattle.io_model.specs.Step.{IoEffect, IoStep}
+use Rattle.io_model.specs.declared.io_call.IoCall.{IoCall}
 use Rattle.io_state.specs.Attempt as io_attempt
 use Rattle.proc_state.specs.Tie.{Comes}
 use Rattle.proc_state.specs.declared.state.ProcState.{ProcState}

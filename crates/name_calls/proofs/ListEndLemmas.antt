@@ -5,8 +5,8 @@ use Rattle.os9_base.specs.declared.call.CallEnd.TheVariants.{Done}
 use Rattle.os9_base.specs.declared.registers.Regs.{Regs}
 use Rattle.os9_base.specs.declared.registers.TimePacket.{TimePacket}
 use Rattle.os9_outer.specs.TerminalState.{TerminalState}
-use Rattle.proc_rules.specs.Processes.{Processes, with_regs_of}
-use Rattle.io_rules.specs.Step.{answers}
+use Rattle.proc_model.specs.Processes.{Processes, with_regs_of}
+use Rattle.io_model.specs.Step.{answers}
 use Rattle.proc_state.specs.Tie.{Represents}
 use Rattle.proc_state.specs.declared.state.ProcState.{ProcState}
 use Rattle.file_drives.specs.Drives.{DriveView, drive_states}

@@ -3,7 +3,7 @@ use Rattle.std.proofs.Common.{◌≡◌, ◌∙◌, ℕ, ◌≤◌, Bool, IfOk, 
 use Rattle.os9_base.specs.Cells.{Cells}
 use Rattle.os9_base.specs.declared.errors.TheConstants.{E_FNA}
 use Rattle.os9_base.specs.declared.name_fault.NameFault.{NameFault}
-use Rattle.io_rules.specs.PathList.{PathList}
+use Rattle.io_model.specs.PathList.{PathList}
 use Rattle.rbf_model.specs.Volume.{DiskVolume}
 use Rattle.rbf_walk.specs.Walk.{walk_calls}
 use Rattle.rbf_walk.specs.declared.error.DirError.{DirError}

@@ -6,14 +6,14 @@ use Rattle.os9_base.specs.declared.call.CallEnd.TheVariants.{Done, Error}
 use Rattle.os9_base.specs.declared.errors.TheConstants.{E_CEF, E_FNA, E_FULL, E_SLF}
 use Rattle.os9_base.specs.declared.registers.TimePacket.{TimePacket}
 use Rattle.os9_outer.specs.TerminalState.{TerminalState}
-use Rattle.proc_rules.specs.Processes.{Processes, regs_at, user_at}
-use Rattle.io_rules.specs.Attempts.{result_of}
+use Rattle.proc_model.specs.Processes.{Processes, regs_at, user_at}
+use Rattle.io_model.specs.Attempts.{result_of}
 use Rattle.io_model.specs.Path.{new_number, paths_after_begin}
 use Rattle.io_model.specs.declared.path.Target.TheVariants.{File as FileTarget}
-use Rattle.io_rules.specs.Io.{new_desc}
-use Rattle.io_rules.specs.Open.{opened_regs}
-use Rattle.io_rules.specs.PathList.{PathList}
-use Rattle.io_rules.specs.Step.{answers}
+use Rattle.io_model.specs.Io.{new_desc}
+use Rattle.io_model.specs.Open.{opened_regs}
+use Rattle.io_model.specs.PathList.{PathList}
+use Rattle.io_model.specs.Step.{answers}
 use Rattle.proc_state.specs.Tie.{Comes}
 use Rattle.proc_state.specs.declared.state.ProcState.{ProcState}
 use Rattle.rbf_model.specs.File.{DiskFile}

@@ -24,7 +24,7 @@ use Rattle.file_rules.specs.Files.{Asker, Files, volume_at}
 use Rattle.file_rules.specs.MakDir.{new_directory_size, past_list}
 use Rattle.file_rules.specs.Step.{FileStep, Step, VolumeChange, comes, changes, deed_of, drive_of, leaves, leaves_so, refuses, refuses_so}
 use Rattle.lock_model.specs.declared.place.FilePlace.{FilePlace}
-use Rattle.io_rules.specs.Step.{answers}
+use Rattle.io_model.specs.Step.{answers}
 use Rattle.file_drives.specs.Calls as drives
 use Rattle.file_drives.specs.Changed.{Asked, ChangesVolume, is_refused}
 use Rattle.file_drives.specs.Drives.{DriveView}

@@ -6,7 +6,7 @@ use Rattle.os9_base.specs.declared.errors.TheConstants.{E_BPNAM, E_FNA}
 use Rattle.os9_base.specs.Cells.{Cells}
 use Rattle.os9_base.specs.UserNames.{name_at}
 use Rattle.os9_base.specs.declared.name_fault.NameFault.{NameFault}
-use Rattle.io_rules.specs.PathList.{Behind, Names, PathList, a_slash, another, behind, ends_in_dots, name_before, names_at, names_behind, names_with, nothing, unreadable}
+use Rattle.io_model.specs.PathList.{Behind, Names, PathList, a_slash, another, behind, ends_in_dots, name_before, names_at, names_behind, names_with, nothing, unreadable}
 use Rattle.rbf_change.specs.Names.{is_dots}
 use Rattle.rbf_model.specs.Volume.{DiskVolume}
 use Rattle.rbf_walk.specs.Walk.{walk_calls}

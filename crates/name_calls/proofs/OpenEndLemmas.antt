@@ -5,11 +5,11 @@ use Rattle.os9_base.specs.declared.call.CallEnd.TheVariants.{Done, Error}
 use Rattle.os9_base.specs.declared.registers.Regs.{Regs}
 use Rattle.os9_base.specs.declared.registers.TimePacket.{TimePacket}
 use Rattle.os9_outer.specs.TerminalState.{TerminalState}
-use Rattle.proc_rules.specs.Processes.{Processes, user_at, with_regs_of}
+use Rattle.proc_model.specs.Processes.{Processes, user_at, with_regs_of}
 use Rattle.rbf_model.specs.Volume.{DiskVolume}
-use Rattle.io_rules.specs.Io.{Io, with_call}
-use Rattle.io_rules.specs.Step.{answers}
-use Rattle.proc_rules.specs.Records.{record_at}
+use Rattle.io_model.specs.Io.{Io, with_call}
+use Rattle.io_model.specs.Step.{answers}
+use Rattle.proc_model.specs.Records.{record_at}
 use Rattle.proc_state.specs.Tie.{Represents}
 use Rattle.proc_state.specs.declared.state.ProcState.{ProcState}
 use Rattle.file_rules.specs.Attempts.{asker_of, file_step}

@@ -5,16 +5,16 @@ use Rattle.os9_base.specs.Cells.{Cells}
 use Rattle.os9_base.specs.declared.registers.Regs.{Regs}
 use Rattle.io_model.specs.Path.{PathTable, new_number, paths_after_begin}
 use Rattle.io_model.specs.declared.path.Target.{Target}
-use Rattle.io_rules.specs.Io.{new_desc}
-use Rattle.io_rules.specs.Modes.{is_mode}
-use Rattle.io_rules.specs.Open.{opened_regs}
-use Rattle.io_rules.specs.PathList.{PathList}
-use Rattle.io_rules.specs.Step.{answers}
+use Rattle.io_model.specs.Io.{new_desc}
+use Rattle.io_model.specs.Modes.{is_mode}
+use Rattle.io_model.specs.Open.{opened_regs}
+use Rattle.io_model.specs.PathList.{PathList}
+use Rattle.io_model.specs.Step.{answers}
 use Rattle.rbf_model.specs.File.{DiskFile}
 use Rattle.rbf_model.specs.Volume.{DiskVolume}
 use Rattle.rbf_model.specs.Walk.{WalkEnd, arrives, not_allowed, not_found, walk}
-use Rattle.proc_rules.specs.Processes.{Processes, regs_at, user_at}
-use Rattle.proc_rules.specs.Records.{record_at}
+use Rattle.proc_model.specs.Processes.{Processes, regs_at, user_at}
+use Rattle.proc_model.specs.Records.{record_at}
 use Rattle.proc_state.specs.Tie.{Represents}
 use Rattle.proc_state.specs.declared.state.ProcState.{ProcState}
 use Rattle.file_rules.specs.Files.{Asker, DriveState, Files, target_on, volume_at, with_drives, with_path_table}

@@ -1,11 +1,11 @@
 -- Processes and their memory, as the calls on names of files need them.
 use Rattle.std.proofs.Common.{◌≡◌, ◌∙◌, ℕ, ◌<◌, Option, refl, ap, sym, subst}
 use Rattle.io_state.specs.declared.requester.Requester.{Requester}
-use Rattle.proc_rules.specs.Processes.{Processes, cells_at, regs_at, user_at}
+use Rattle.proc_model.specs.Processes.{Processes, cells_at, regs_at, user_at}
 use Rattle.guest_memory.proofs.Seen.{cells_of-seen}
 use Rattle.guest_memory.specs.Tie.{cells_of}
 use Rattle.os9_base.specs.Cells.{Cells}
-use Rattle.proc_rules.specs.Records.{record_at}
+use Rattle.proc_model.specs.Records.{record_at}
 use Rattle.proc_state.proofs.Entered.{represented}
 use Rattle.proc_state.proofs.UserBytes.{same-then}
 use Rattle.proc_state.specs.Tie.{IsSame, Represents, processes_of}

@@ -10,8 +10,8 @@ use Rattle.os9_base.specs.declared.registers.Regs.{Regs}
 use Rattle.device_paths.specs.Standing.{NamesFrom, NamesStand}
 use Rattle.proc_state.specs.Tie.{Represents}
 use Rattle.proc_state.specs.declared.state.ProcState.{ProcState}
-use Rattle.proc_rules.specs.Processes.{Processes, cells_at, regs_at, user_at}
-use Rattle.io_rules.specs.Io.{Io, with_call}
+use Rattle.proc_model.specs.Processes.{Processes, cells_at, regs_at, user_at}
+use Rattle.io_model.specs.Io.{Io, with_call}
 use Rattle.rbf_model.specs.File.{DiskFile}
 use Rattle.rbf_model.specs.Volume.{DiskVolume}
 use Rattle.rbf_access.specs.declared.faults.FileFault.TheVariants.{Device, NoCluster, TooManyRuns}

@@ -4,8 +4,8 @@ use Rattle.std.specs.Prelude.{◌≡◌, ℕ, ◌+◌, false, Option, None, List
 use Rattle.os9_base.specs.declared.call.CallEnd.{CallEnd}
 use Rattle.os9_base.specs.declared.registers.TimePacket.{TimePacket}
 use Rattle.os9_outer.specs.TerminalState.{TerminalState}
-use Rattle.proc_rules.specs.Processes.{Processes, cells_at}
-use Rattle.io_rules.specs.PathList.{PathList, ends_in_dots}
+use Rattle.proc_model.specs.Processes.{Processes, cells_at}
+use Rattle.io_model.specs.PathList.{PathList, ends_in_dots}
 use Rattle.device_paths.specs.Standing.{NamesFrom}
 use Rattle.proc_state.specs.Tie.{Represents}
 use Rattle.rbf_change.specs.Names.{is_dots}

@@ -1,7 +1,7 @@
 -- I$ChgDir in two parts: the search for the directory, and what is done with it.
 use Rattle.std.specs.Prelude.{ℕ, not}
 use Rattle.os9_base.specs.declared.errors.TheConstants.{E_FNA}
-use Rattle.io_rules.specs.Modes.{is_mode}
+use Rattle.io_model.specs.Modes.{is_mode}
 use Rattle.file_rules.specs.ChgDir.{may_go_to}
 use Rattle.file_rules.specs.Files.{Asker, Files, directories_at, with_directories_of, with_directory}
 use Rattle.file_rules.specs.MakDir.{past_list}

@@ -1,7 +1,7 @@
 -- The file that the path list of a call names.
 use Rattle.std.specs.Prelude.{◌≡◌, ℕ, Bool, Option, Some, List, Result, Ok, Err}
 use Rattle.os9_base.specs.declared.errors.TheConstants.{E_FNA}
-use Rattle.io_rules.specs.PathList.{PathList}
+use Rattle.io_model.specs.PathList.{PathList}
 use Rattle.file_rules.specs.Files.{Asker, Files, volume_at}
 use Rattle.file_rules.specs.Step.{Step, refused, comes, drive_of}
 use Rattle.file_rules.specs.Route.{Route, along, to_device, nowhere, Found, list_of, reads_list, walks, route_of}

@@ -1,7 +1,7 @@
 -- A part of a call that may reach a drive and changes no volume: its result, and what it leaves of the kernel's files.
 use Rattle.std.specs.Prelude.{◌≡◌, ◌⊎◌, ℕ, Some, None, List, Result, Ok, Err}
 use Rattle.os9_base.specs.declared.registers.TimePacket.{TimePacket}
-use Rattle.proc_rules.specs.Processes.{Processes}
+use Rattle.proc_model.specs.Processes.{Processes}
 use Rattle.proc_state.specs.Tie.{Represents}
 use Rattle.rbf_model.specs.Volume.{DiskVolume}
 use Rattle.file_rules.specs.Attempts.{asker_of}

@@ -2,7 +2,7 @@
 use Rattle.std.specs.Prelude.{◌≡◌, ℕ, Bool, false, Option, Some, None, List, Result, Ok, Err}
 use Rattle.os9_base.specs.declared.errors.TheConstants.{E_BPNAM, E_FNA}
 use Rattle.rbf_change.specs.Names.{is_dots}
-use Rattle.io_rules.specs.PathList.{PathList}
+use Rattle.io_model.specs.PathList.{PathList}
 use Rattle.file_rules.specs.Files.{Asker, Files}
 use Rattle.file_rules.specs.Step.{Step, refused, comes, drive_of}
 use Rattle.file_rules.specs.Route.{Route, along, to_device, nowhere, Found, before_last, last_of, list_of, reads_list, walks}

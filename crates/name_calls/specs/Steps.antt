@@ -4,10 +4,10 @@ use Rattle.os9_base.specs.declared.errors.TheConstants.{E_BPNAM, E_PTHFUL}
 use Rattle.os9_base.specs.declared.registers.Pid.{Pid}
 use Rattle.io_model.specs.Path.{new_number, paths_after_begin}
 use Rattle.io_model.specs.declared.path.Target.{Target}
-use Rattle.io_rules.specs.Io.{new_desc}
-use Rattle.io_rules.specs.Open.{opened_regs}
-use Rattle.io_rules.specs.PathList.{PathList}
-use Rattle.proc_rules.specs.Records.{record_at}
+use Rattle.io_model.specs.Io.{new_desc}
+use Rattle.io_model.specs.Open.{opened_regs}
+use Rattle.io_model.specs.PathList.{PathList}
+use Rattle.proc_model.specs.Records.{record_at}
 use Rattle.proc_state.specs.declared.state.ProcState.{ProcState}
 use Rattle.file_rules.specs.Create.{creates_in}
 use Rattle.file_rules.specs.Files.{Asker, Files, volume_at, with_path_table}

@@ -5,8 +5,8 @@ use Rattle.os9_base.specs.declared.call.CallEnd.TheVariants.{Done, Error}
 use Rattle.os9_base.specs.declared.registers.Regs.{Regs}
 use Rattle.os9_base.specs.declared.registers.TimePacket.{TimePacket}
 use Rattle.os9_outer.specs.TerminalState.{TerminalState}
-use Rattle.proc_rules.specs.Processes.{Processes}
-use Rattle.io_rules.specs.Step.{IoEnd, answers, fails}
+use Rattle.proc_model.specs.Processes.{Processes}
+use Rattle.io_model.specs.Step.{IoEnd, answers, fails}
 use Rattle.proc_state.specs.Tie.{Represents}
 use Rattle.file_drives.specs.Drives.{DriveView}
 use Rattle.file_rules.specs.Attempts.{asker_of}

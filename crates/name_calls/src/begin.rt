@@ -1,8 +1,8 @@
 //! New paths on files.
 
 ghost use Rattle.std.specs.Prelude.{◌≡◌, List};
-ghost use Rattle.proc_rules.specs.Processes.{Processes};
-ghost use Rattle.proc_rules.specs.Records.{IsLiving};
+ghost use Rattle.proc_model.specs.Processes.{Processes};
+ghost use Rattle.proc_model.specs.Records.{IsLiving};
 ghost use Rattle.file_drives.specs.Drives.{DriveView};
 ghost use Rattle.file_state.specs.Context.{InFirstAttempt};
 ghost use Rattle.name_calls.specs.Ends.{EndsQuietly};
@@ -10,7 +10,7 @@ ghost use Rattle.name_calls.specs.Steps.{begins};
 ghost use Rattle.file_rules.specs.Attempts.{asker_of};
 ghost use Rattle.file_rules.specs.Files.{Files};
 ghost use Rattle.file_state.specs.Tie.{StandsFor};
-ghost use Rattle.io_rules.specs.PathList.{PathList};
+ghost use Rattle.io_model.specs.PathList.{PathList};
 ghost use Rattle.io_state.specs.Files.{IsOnDisk};
 ghost use Rattle.os9_base.specs.declared.registers.TimePacket.{TimePacket};
 ghost use Rattle.proc_state.specs.Tie.{Represents};

@@ -1,7 +1,7 @@
 //! The ends of calls that return the address past their path list.
 
 ghost use Rattle.std.specs.Prelude.{ℕ, List};
-ghost use Rattle.proc_rules.specs.Processes.{Processes};
+ghost use Rattle.proc_model.specs.Processes.{Processes};
 ghost use Rattle.file_drives.specs.Drives.{DriveView};
 ghost use Rattle.file_rules.specs.Attempts.{asker_of};
 ghost use Rattle.file_rules.specs.Files.{Files};
@@ -11,7 +11,7 @@ ghost use Rattle.file_state.specs.Context.{InFirstAttempt};
 ghost use Rattle.name_calls.specs.Tries.{Tries};
 ghost use Rattle.os9_base.specs.declared.registers.TimePacket.{TimePacket};
 ghost use Rattle.os9_outer.specs.TerminalState.{TerminalState};
-ghost use Rattle.proc_rules.specs.Records.{IsLiving};
+ghost use Rattle.proc_model.specs.Records.{IsLiving};
 ghost use Rattle.proc_state.specs.Tie.{Represents};
 
 use device_paths::ends::{answer, refuse};

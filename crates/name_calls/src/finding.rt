@@ -1,7 +1,7 @@
 //! The routes of calls' path lists.
 
 ghost use Rattle.std.specs.Prelude.{◌≡◌, ◌<◌, vec_len};
-ghost use Rattle.proc_rules.specs.Processes.{Processes, cells_at};
+ghost use Rattle.proc_model.specs.Processes.{Processes, cells_at};
 ghost use Rattle.io_state.specs.Context.{InCall};
 ghost use Rattle.file_drives.specs.Drives.{drives_seen};
 ghost use Rattle.name_calls.specs.Steps.{walker_at};

@@ -1,7 +1,7 @@
 //! I$Open (System Programmer's Manual, I$Open).
 
 ghost use Rattle.std.specs.Prelude.{◌≡◌, List, length, vec_len};
-ghost use Rattle.proc_rules.specs.Processes.{Processes};
+ghost use Rattle.proc_model.specs.Processes.{Processes};
 ghost use Rattle.io_state.specs.Context.{SameTerminals};
 ghost use Rattle.file_state.specs.Context.{machine_seen};
 ghost use Rattle.file_drives.specs.Drives.{DriveView, drives_seen};
@@ -19,10 +19,10 @@ ghost use Rattle.file_state.specs.Counted.{AttemptsWithin};
 ghost use Rattle.file_state.specs.Tie.{IsSound, StandsFor};
 ghost use Rattle.file_routes.specs.Walks.{SomeFrom};
 ghost use Rattle.guest_memory.specs.Tie.{cells_of};
-ghost use Rattle.io_rules.specs.PathList.{PathList};
+ghost use Rattle.io_model.specs.PathList.{PathList};
 ghost use Rattle.os9_base.specs.declared.registers.TimePacket.{TimePacket};
 ghost use Rattle.os9_outer.specs.TerminalState.{TerminalState};
-ghost use Rattle.proc_rules.specs.Records.{IsLiving};
+ghost use Rattle.proc_model.specs.Records.{IsLiving};
 ghost use Rattle.proc_state.specs.Tie.{Represents};
 ghost use Rattle.rbf_access.specs.Reading.{IsFdOf};
 

@@ -2,9 +2,9 @@
 use Rattle.std.proofs.Common.{◌≡◌, ℕ, Some, option_map, List, refl, sym, ap, ◌∙◌, subst}
 use Rattle.os9_base.specs.declared.registers.Pid.{Pid}
 use Rattle.os9_outer.specs.TerminalState.{TerminalState}
-use Rattle.proc_rules.specs.Records.{IsLiving, IsProcess}
-use Rattle.proc_rules.specs.Processes.{Processes}
-use Rattle.proc_rules.specs.Ready.{Act as MachineAct, act_of}
+use Rattle.proc_model.specs.Records.{IsLiving, IsProcess}
+use Rattle.proc_model.specs.Processes.{Processes}
+use Rattle.proc_model.specs.Ready.{Act as MachineAct, act_of}
 use Rattle.file_rules.specs.Files.{Files}
 use Rattle.file_state.specs.Tie.{StandsFor}
 use Rattle.proc_state.specs.Tie.{Represents as RepresentsProcesses}

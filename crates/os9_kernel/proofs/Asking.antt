@@ -4,14 +4,14 @@ use Rattle.std.specs.Prelude.{IfSome}
 use Rattle.std.proofs.lemmas.Option.{none-some, same_Some}
 use Rattle.os9_base.specs.declared.registers.Pid.{Pid}
 use Rattle.os9_outer.specs.TerminalState.{TerminalState}
-use Rattle.proc_rules.specs.Ready.{attempts, act_of}
+use Rattle.proc_model.specs.Ready.{attempts, act_of}
 use Rattle.lock_model.specs.Locks.{request_of}
 use Rattle.lock_model.specs.Records.{Records}
 use Rattle.lock_model.specs.declared.lock.Request.{Request}
 use Rattle.io_model.specs.declared.pending.PendingCall.{PendingCall}
-use Rattle.io_rules.specs.Codes.{io_call_of}
-use Rattle.io_rules.specs.Io.{Io, pending_at}
-use Rattle.io_rules.specs.declared.io_call.IoCall.{IoCall}
+use Rattle.io_model.specs.Codes.{io_call_of}
+use Rattle.io_model.specs.Io.{Io, pending_at}
+use Rattle.io_model.specs.declared.io_call.IoCall.{IoCall}
 use Rattle.call_dispatch.proofs.RunningCalls.{may-attempt}
 use Rattle.call_laws.proofs.Codes.{attempts-code}
 use Rattle.proc_state.specs.Tie.{Represents}
@@ -24,7 +24,7 @@ use Rattle.file_rules.specs.declared.path_call.PathCall.{PathCall}
 use Rattle.file_state.specs.Asking.{IsPendingRequest, KeepsRequest}
 use Rattle.file_state.specs.declared.state.FileState.{FileState}
 use Rattle.machine_model.specs.State.{State}
-use Rattle.wait_laws.specs.Running.{IsRunning}
+use Rattle.call_laws.specs.Running.{IsRunning}
 use Rattle.os9_kernel.specs.declared.act.Act.TheVariants.{Attempt}
 use Rattle.os9_kernel.specs.declared.kernel.Kernel.{Kernel}
 use Rattle.os9_kernel.specs.Next.{DoesNext}

@@ -4,9 +4,9 @@ use Rattle.std.specs.Prelude.{not, slice_set}
 use Rattle.std.proofs.lemmas.List.{get_or-set_same, set-set, set-get_or}
 use Rattle.os9_base.specs.declared.registers.Regs.{Regs}
 use Rattle.proc_model.specs.Memory.{MemoryState}
-use Rattle.proc_rules.specs.declared.record.Record.{Record}
-use Rattle.proc_rules.specs.Records.{IsLiving, record_at, record_passes, has_ended, with_record, with_regs}
-use Rattle.proc_rules.specs.Processes.{Processes, regs_at, with_memory, with_regs_of}
+use Rattle.proc_model.specs.declared.record.Record.{Record}
+use Rattle.proc_model.specs.Records.{IsLiving, record_at, record_passes, has_ended, with_record, with_regs}
+use Rattle.proc_model.specs.Processes.{Processes, regs_at, with_memory, with_regs_of}
 pub use Rattle.call_laws.proofs.OthersKept.{living-record, living-within, record-put}
 
 module _ (records : List (Option Record)) (p : ℕ) (lives : IsLiving records p) where

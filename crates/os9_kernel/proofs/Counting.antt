@@ -4,7 +4,7 @@ use Rattle.std.specs.Option.{option_map_or}
 use Rattle.os9_base.specs.declared.registers.Pid.{Pid}
 use Rattle.os9_base.specs.declared.registers.TimePacket.{TimePacket}
 use Rattle.os9_outer.specs.TerminalState.{TerminalState}
-use Rattle.proc_rules.specs.Ready.{Act as MachineAct, act_of}
+use Rattle.proc_model.specs.Ready.{Act as MachineAct, act_of}
 use Rattle.time_rules.proofs.Days.{same-packet}
 use Rattle.file_drives.specs.Drives.{DriveView}
 use Rattle.file_state.proofs.CountLemmas.{called-more, called-none}

@@ -5,16 +5,16 @@ use Rattle.std.proofs.lemmas.List.{get_or-set_same, length-set}
 use Rattle.os9_base.specs.declared.call.CallEnd.{CallEnd}
 use Rattle.os9_base.specs.declared.errors.TheConstants.{E_PRCABT}
 use Rattle.os9_base.specs.declared.registers.Regs.{Regs}
-use Rattle.proc_rules.specs.declared.record.Intercept.{Intercept}
-use Rattle.proc_rules.specs.declared.own.Own.{Own}
-use Rattle.proc_rules.specs.declared.record.Life.TheVariants.{Running}
-use Rattle.proc_rules.specs.declared.record.Record.{Record}
-use Rattle.proc_rules.specs.Records.{record_at, is_waiting, with_regs}
-use Rattle.proc_rules.specs.Signals.{with_signal}
-use Rattle.proc_rules.specs.Attempts.{goes_on}
-use Rattle.proc_rules.specs.Delivery.{delivered, after_delivery, interrupted, routine_regs, interrupted_regs, with_frame, routine_begun, has_no_room, stack_top}
-use Rattle.proc_rules.specs.Processes.{Processes, no_own, own_at, regs_at, with_records}
-use Rattle.proc_rules.specs.Ready.{next_act, delivers}
+use Rattle.proc_model.specs.declared.record.Intercept.{Intercept}
+use Rattle.proc_model.specs.declared.own.Own.{Own}
+use Rattle.proc_model.specs.declared.record.Life.TheVariants.{Running}
+use Rattle.proc_model.specs.declared.record.Record.{Record}
+use Rattle.proc_model.specs.Records.{record_at, is_waiting, with_regs}
+use Rattle.proc_model.specs.Signals.{with_signal}
+use Rattle.proc_model.specs.Attempts.{goes_on}
+use Rattle.proc_model.specs.Delivery.{delivered, after_delivery, interrupted, routine_regs, interrupted_regs, with_frame, routine_begun, has_no_room, stack_top}
+use Rattle.proc_model.specs.Processes.{Processes, no_own, own_at, regs_at, with_records}
+use Rattle.proc_model.specs.Ready.{next_act, delivers}
 use Rattle.proc_state.specs.Delivery.{delivery_end as call_end}
 use Rattle.file_rules.specs.Files.{Files}
 use Rattle.file_rules.specs.Locking.{files_interrupted}

@@ -12,10 +12,10 @@ use Rattle.io_model.specs.declared.path.SysPath.{SysPath}
 use Rattle.io_model.specs.declared.path.Target.{Target}
 use Rattle.io_model.specs.declared.path.Target.TheVariants.{File, Folder, Term, Pipe}
 use Rattle.io_model.specs.declared.path.TheConstants.{PROCESS_PATHS}
-use Rattle.io_rules.specs.Close.{without_path, without_target}
-use Rattle.io_rules.specs.Io.{Io, terminal_at, with_call, with_paths}
-use Rattle.io_rules.specs.Processes.{closed_below, closed_if_open, io_ended, without_user}
-use Rattle.io_rules.specs.Waiting.{io_interrupted, pid, wait_target, without_unfinished}
+use Rattle.io_model.specs.Close.{without_path, without_target}
+use Rattle.io_model.specs.Io.{Io, terminal_at, with_call, with_paths}
+use Rattle.io_model.specs.Processes.{closed_below, closed_if_open, io_ended, without_user}
+use Rattle.io_model.specs.Waiting.{io_interrupted, pid, wait_target, without_unfinished}
 
 -- ---- paths are closed whatever stands at the terminals and is kept of calls
 

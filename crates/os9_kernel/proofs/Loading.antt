@@ -7,19 +7,19 @@ use Rattle.os9_base.specs.declared.call.CallEnd.TheVariants.{Done, Error, Wait}
 use Rattle.os9_base.specs.declared.errors.TheConstants.{E_MEMFUL}
 use Rattle.os9_base.specs.declared.registers.TimePacket.{TimePacket}
 use Rattle.proc_model.specs.declared.memory.TheConstants.{MOST_LINKS}
-use Rattle.proc_rules.specs.Records.{IsLiving, free_process, record_at}
+use Rattle.proc_model.specs.Records.{IsLiving, free_process, record_at}
 use Rattle.proc_state.specs.Tie.{Comes, Represents}
 use Rattle.proc_state.specs.declared.state.ProcState.{ProcState}
-use Rattle.proc_rules.specs.Attempts.{after_attempt}
-use Rattle.proc_rules.specs.CallResult.{CallResult, done, refused, waits, ends}
+use Rattle.proc_model.specs.Attempts.{after_attempt}
+use Rattle.proc_model.specs.CallResult.{CallResult, done, refused, waits, ends}
 use Rattle.call_dispatch.specs.Waits.{waits_for}
-use Rattle.proc_rules.specs.Codes.{call_of}
-use Rattle.proc_rules.specs.Processes.{Processes, no_own, own_at, regs_at}
-use Rattle.proc_rules.specs.declared.proc_call.ProcCall.{ProcCall}
-use Rattle.proc_rules.specs.declared.proc_call.ProcCall.TheVariants as Call
-use Rattle.proc_rules.specs.Link.{links_at, mapped_group}
+use Rattle.proc_model.specs.Codes.{call_of}
+use Rattle.proc_model.specs.Processes.{Processes, no_own, own_at, regs_at}
+use Rattle.proc_model.specs.declared.proc_call.ProcCall.{ProcCall}
+use Rattle.proc_model.specs.declared.proc_call.ProcCall.TheVariants as Call
+use Rattle.proc_model.specs.Link.{links_at, mapped_group}
 use Rattle.io_model.specs.declared.pending.PendingCall.{PendingCall}
-use Rattle.io_rules.specs.Io.{Io, pending_at}
+use Rattle.io_model.specs.Io.{Io, pending_at}
 use Rattle.file_rules.specs.Locking.{call_wait}
 use Rattle.os9_sched.specs.Members.{member_of, wait_at}
 use Rattle.os9_sched.specs.declared.member.Wait.{Wait as Waiting}
@@ -34,8 +34,8 @@ use Rattle.file_state.specs.Attempt.{Standing}
 use Rattle.file_laws.proofs.Loads.{fork-leaves}
 use Rattle.machine_model.specs.Services.{Serves, files_after_fork, service_of, with_files}
 use Rattle.machine_model.specs.State.{State}
-use Rattle.wait_laws.proofs.Loads.{Child, chain-over, fork-over, load-over}
-use Rattle.wait_laws.proofs.Over.{IsOver, of-needs, of-refuses, over-by}
+use Rattle.call_laws.proofs.Loads.{Child, chain-over, fork-over, load-over}
+use Rattle.call_laws.proofs.Over.{IsOver, of-needs, of-refuses, over-by}
 use Rattle.os9_kernel.specs.Causes.{wait_by, wait_for}
 use Rattle.os9_kernel.specs.Loads.{AttemptsLoad, LoadsSo}
 use Rattle.os9_kernel.specs.Paths.{MayBegin, files_begun, number_in_a}

@@ -8,16 +8,16 @@ use Rattle.os9_sched.specs.Members.{is_active_in}
 use Rattle.os9_sched.specs.declared.member.Cause.{Cause}
 use Rattle.os9_sched.specs.declared.member.Wait.{Wait as Waiting}
 use Rattle.proc_model.specs.Memory.{first_memory}
-use Rattle.proc_rules.specs.Ends.{ended_child}
-use Rattle.proc_rules.specs.Records.{IsLiving, is_living, is_waiting, record_at}
-use Rattle.proc_rules.specs.declared.own.Own.{Own}
-use Rattle.proc_rules.specs.Processes.{Processes, no_own, own_at}
-use Rattle.proc_rules.specs.Ready.{is_ready, may_go_on}
-use Rattle.proc_rules.specs.Send.{is_call}
-use Rattle.proc_rules.specs.Sleep.{may_wake}
-use Rattle.proc_rules.specs.IoReady.{has_io}
-use Rattle.io_rules.specs.Io.{Io}
-use Rattle.io_rules.specs.Waiting.{io_may_go, io_waits_for}
+use Rattle.proc_model.specs.Ends.{ended_child}
+use Rattle.proc_model.specs.Records.{IsLiving, is_living, is_waiting, record_at}
+use Rattle.proc_model.specs.declared.own.Own.{Own}
+use Rattle.proc_model.specs.Processes.{Processes, no_own, own_at}
+use Rattle.proc_model.specs.Ready.{is_ready, may_go_on}
+use Rattle.proc_model.specs.Send.{is_call}
+use Rattle.proc_model.specs.Sleep.{may_wake}
+use Rattle.proc_model.specs.IoReady.{has_io}
+use Rattle.io_model.specs.Io.{Io}
+use Rattle.io_model.specs.Waiting.{io_may_go, io_waits_for}
 use Rattle.lock_model.specs.Locks.{Locks, request_of}
 use Rattle.lock_model.specs.Conflict.{conflicts}
 use Rattle.lock_model.specs.Waits.{is_late, lock_may_go, request_may_go}

@@ -4,13 +4,13 @@ use Rattle.std.specs.Prelude.{option_and_then}
 use Rattle.std.proofs.lemmas.Bool.{false≢true}
 use Rattle.os9_base.specs.declared.registers.TimePacket.{TimePacket}
 use Rattle.os9_sched.specs.declared.member.Cause.{Cause}
-use Rattle.proc_rules.specs.Records.{IsLiving}
-use Rattle.proc_rules.specs.IoReady.{has_io}
-use Rattle.proc_rules.specs.Ready.{act_of, attempts, delivers}
-use Rattle.proc_rules.specs.declared.proc_call.ProcCall.TheVariants.{Fork}
+use Rattle.proc_model.specs.Records.{IsLiving}
+use Rattle.proc_model.specs.IoReady.{has_io}
+use Rattle.proc_model.specs.Ready.{act_of, attempts, delivers}
+use Rattle.proc_model.specs.declared.proc_call.ProcCall.TheVariants.{Fork}
 use Rattle.io_model.specs.Path.{ArePaths}
-use Rattle.io_rules.specs.Io.{Io, OpenPath}
-use Rattle.io_rules.specs.Waiting.{io_may_go}
+use Rattle.io_model.specs.Io.{Io, OpenPath}
+use Rattle.io_model.specs.Waiting.{io_may_go}
 use Rattle.lock_model.specs.Waits.{lock_may_go}
 use Rattle.file_rules.specs.Attempts.{asker_of}
 use Rattle.file_rules.specs.Locking.{wait_cause}

@@ -4,14 +4,14 @@ use Rattle.os9_base.specs.declared.call.CallEnd.{CallEnd}
 use Rattle.os9_base.specs.declared.call.CallEnd.TheVariants.{Done, Error, Wait, Ended, NoMemory}
 use Rattle.os9_base.specs.declared.registers.TimePacket.{TimePacket}
 use Rattle.os9_outer.specs.TerminalState.{TerminalState}
-use Rattle.proc_rules.specs.declared.record.Record.{Record}
-use Rattle.proc_rules.specs.Records.{IsLiving}
+use Rattle.proc_model.specs.declared.record.Record.{Record}
+use Rattle.proc_model.specs.Records.{IsLiving}
 use Rattle.proc_calls.specs.Telling.{LivesOn}
-use Rattle.proc_rules.specs.Attempts.{after_attempt, attempt_end}
-use Rattle.proc_rules.specs.CallResult.{CallResult}
-use Rattle.proc_rules.specs.Processes.{Processes}
-use Rattle.io_rules.specs.Attempts.{result_by, result_of}
-use Rattle.io_rules.specs.Step.{IoEffect, IoEnd, answers, fails, keeps}
+use Rattle.proc_model.specs.Attempts.{after_attempt, attempt_end}
+use Rattle.proc_model.specs.CallResult.{CallResult}
+use Rattle.proc_model.specs.Processes.{Processes}
+use Rattle.io_model.specs.Attempts.{result_by, result_of}
+use Rattle.io_model.specs.Step.{IoEffect, IoEnd, answers, fails, keeps}
 use Rattle.machine_model.specs.declared.ends.EventEnd.TheVariants as Event
 use Rattle.file_rules.specs.Attempts.{FileAttempts, io_effect}
 use Rattle.file_rules.specs.Files.{Files}

@@ -2,9 +2,9 @@
 use Rattle.std.proofs.Common.{◌≡◌, ℕ, ◌+◌, ◌*◌, ◌<◌, ◌≤◌, Bool, true, false, Option, Some, None, refl, ap, ◌∙◌, arith}
 use Rattle.std.specs.Prelude.{is_some, slice_index_or}
 use Rattle.os9_base.specs.declared.registers.Pid.{Pid}
-use Rattle.proc_rules.specs.Records.{record_at, is_waiting}
-use Rattle.proc_rules.specs.Processes.{no_own}
-use Rattle.proc_rules.specs.Ready.{attempts, delivers, next_act}
+use Rattle.proc_model.specs.Records.{record_at, is_waiting}
+use Rattle.proc_model.specs.Processes.{no_own}
+use Rattle.proc_model.specs.Ready.{attempts, delivers, next_act}
 use Rattle.proc_state.specs.declared.state.ProcState.{ProcState}
 use Rattle.os9_kernel.specs.declared.act.Act.TheVariants.{Attempt, Delivery}
 use Rattle.os9_kernel.specs.declared.kernel.Kernel.{Kernel}

@@ -3,11 +3,11 @@ use Rattle.std.proofs.Common.{◌≡◌, ℕ, ◌<◌, false, None, List, length
 use Rattle.std.specs.Prelude.{slice_index_or}
 use Rattle.std.proofs.lemmas.List.{get_or-set_same, length-set}
 use Rattle.os9_base.specs.declared.registers.Regs.{Regs}
-use Rattle.proc_rules.specs.declared.own.Own.{Own}
-use Rattle.proc_rules.specs.Records.{IsLiving}
-use Rattle.proc_rules.specs.Attempts.{goes_on}
-use Rattle.proc_rules.specs.Processes.{Processes, no_own, own_at}
-use Rattle.proc_rules.specs.Ready.{act_of}
+use Rattle.proc_model.specs.declared.own.Own.{Own}
+use Rattle.proc_model.specs.Records.{IsLiving}
+use Rattle.proc_model.specs.Attempts.{goes_on}
+use Rattle.proc_model.specs.Processes.{Processes, no_own, own_at}
+use Rattle.proc_model.specs.Ready.{act_of}
 use Rattle.proc_state.specs.declared.state.ProcState.{ProcState}
 use Rattle.proc_state.specs.Tie.{Represents}
 use Rattle.machine_model.specs.Console.{terminals_emptied}

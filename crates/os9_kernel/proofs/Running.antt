@@ -5,9 +5,9 @@ use Rattle.cpu_model.specs.Effects.{Effect}
 use Rattle.cpu_model.specs.Step.{Outcome, Done}
 use Rattle.proc_model.specs.Memory.{MemoryState}
 use Rattle.proc_model.specs.MemoryChanges.{written}
-use Rattle.proc_rules.specs.Records.{IsLiving, record_at, is_waiting}
-use Rattle.proc_rules.specs.Processes.{Processes, own_at, regs_at}
-use Rattle.proc_rules.specs.Ready.{Act as MachineAct, executes, act_of, next_act}
+use Rattle.proc_model.specs.Records.{IsLiving, record_at, is_waiting}
+use Rattle.proc_model.specs.Processes.{Processes, own_at, regs_at}
+use Rattle.proc_model.specs.Ready.{Act as MachineAct, executes, act_of, next_act}
 use Rattle.machine_model.specs.declared.ends.EventEnd.{EventEnd}
 use Rattle.machine_model.specs.declared.ends.EventEnd.TheVariants.{Ran}
 use Rattle.machine_model.specs.ProcessEvent.{next_instruction, after_instruction, instruction_end}

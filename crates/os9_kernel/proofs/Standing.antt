@@ -1,7 +1,7 @@
 -- The files of the kernel stand for those of the machine where a process ends whose call was broken off.
 use Rattle.std.proofs.Common.{◌≡◌, ℕ, None, ap, ◌∙◌}
-use Rattle.io_rules.specs.Io.{Io}
-use Rattle.io_rules.specs.Processes.{io_ended}
+use Rattle.io_model.specs.Io.{Io}
+use Rattle.io_model.specs.Processes.{io_ended}
 use Rattle.lock_model.specs.Records.{Records, with_waiting}
 use Rattle.file_rules.specs.Files.{Files, no_directories, with_directories_of, with_io, with_records}
 use Rattle.file_rules.specs.Locking.{files_interrupted}

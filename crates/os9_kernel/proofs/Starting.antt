@@ -1,7 +1,7 @@
 -- The start of a kernel is one of the machine.
 use Rattle.std.proofs.Common.{◌≡◌, ℕ, ◌<◌, ◌≤◌, true, Ok, Err, None, option_map, List, length, refl, sym, subst, arith}
 use Rattle.os9_base.specs.declared.registers.Pid.{Pid}
-use Rattle.proc_rules.specs.Processes.{Processes}
+use Rattle.proc_model.specs.Processes.{Processes}
 use Rattle.time_rules.specs.CivilTime.{is_time_packet}
 use Rattle.file_drives.specs.Drives.{DriveView}
 use Rattle.cold_start.specs.Start.{StartedOn, StartsDrives}

@@ -1,9 +1,9 @@
 -- A tick of the kernel is one of the machine.
 use Rattle.std.proofs.Common.{◌≡◌, ℕ, ◌+◌, Bool, List, refl, sym, ap, subst, arith}
 use Rattle.os9_outer.specs.TerminalState.{TerminalState}
-use Rattle.proc_rules.specs.Processes.{Processes}
-use Rattle.io_rules.specs.Arrivals.{Arrivals, ArrivesFrom, Desk}
-use Rattle.io_rules.specs.Io.{Io}
+use Rattle.proc_model.specs.Processes.{Processes}
+use Rattle.io_model.specs.Arrivals.{Arrivals, ArrivesFrom, Desk}
+use Rattle.io_model.specs.Io.{Io}
 use Rattle.device_io.specs.Keys.{PollBreaks, desk}
 use Rattle.proc_state.specs.Tie.{Represents as RepresentsProcesses, processes_of}
 use Rattle.proc_state.specs.declared.state.ProcState.{ProcState}

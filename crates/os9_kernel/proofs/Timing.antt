@@ -1,9 +1,9 @@
 -- Attempts of calls on the time.
 use Rattle.std.proofs.Common.{◌≡◌, ◌∙◌, ℕ, refl, sym, ap}
 use Rattle.os9_base.specs.declared.registers.TimePacket.{TimePacket}
-use Rattle.proc_rules.specs.Attempts.{after_attempt, attempt_end}
-use Rattle.proc_rules.specs.CallResult.{CallResult}
-use Rattle.proc_rules.specs.Processes.{Processes}
+use Rattle.proc_model.specs.Attempts.{after_attempt, attempt_end}
+use Rattle.proc_model.specs.CallResult.{CallResult}
+use Rattle.proc_model.specs.Processes.{Processes}
 use Rattle.machine_model.specs.declared.ends.EventEnd.TheVariants.{Waits}
 use Rattle.time_rules.specs.Attempts.{TimeAttempts, result_of, time_step}
 use Rattle.time_rules.specs.Step.{TimeStep, refused, tells, sets}

@@ -6,11 +6,11 @@ use Rattle.cpu_model.specs.declared.stop.Stop.TheVariants.{Next, Call, Abort}
 use Rattle.cpu_model.specs.Step.{Outcome, Done, Calls, Aborts}
 use Rattle.cpu6809.specs.declared.execution.Ran.{Ran as RanOn}
 use Rattle.proc_model.specs.Memory.{MemoryState}
-use Rattle.proc_rules.specs.Records.{IsLiving}
+use Rattle.proc_model.specs.Records.{IsLiving}
 use Rattle.guest_memory.specs.Running.{LeavesMemory, FollowInMemory, EndsInMemory, RunsInMemory}
-use Rattle.proc_rules.specs.End.{ended}
-use Rattle.proc_rules.specs.Processes.{Processes, own_at, regs_at, with_own}
-use Rattle.proc_rules.specs.Ready.{executes, act_of}
+use Rattle.proc_model.specs.End.{ended}
+use Rattle.proc_model.specs.Processes.{Processes, own_at, regs_at, with_own}
+use Rattle.proc_model.specs.Ready.{executes, act_of}
 use Rattle.file_rules.specs.Processes.{files_ended}
 use Rattle.machine_model.specs.declared.ends.EventEnd.{EventEnd}
 use Rattle.machine_model.specs.declared.ends.EventEnd.TheVariants.{Ran, Ended}

@@ -9,14 +9,14 @@ use Rattle.os9_sched.specs.Members.{member_at, member_of, wait_at}
 use Rattle.os9_sched.specs.Schedule.{Schedule, after_wait}
 use Rattle.os9_sched.specs.declared.member.Standing.TheVariants.{Resting}
 use Rattle.os9_sched.specs.declared.member.Wait.{Wait as Waiting}
-use Rattle.proc_rules.specs.Records.{IsLiving, record_at, is_waiting}
+use Rattle.proc_model.specs.Records.{IsLiving, record_at, is_waiting}
 use Rattle.proc_calls.specs.Telling.{WaitsFor}
 use Rattle.proc_state.specs.Tie.{Comes}
 use Rattle.proc_state.specs.declared.state.ProcState.{ProcState}
-use Rattle.proc_rules.specs.Processes.{Processes}
-use Rattle.proc_rules.specs.Ready.{attempts, next_act}
-use Rattle.io_rules.specs.Attempts.{result_by, result_of}
-use Rattle.io_rules.specs.Step.{IoEffect, IoEnd, answers, fails, keeps}
+use Rattle.proc_model.specs.Processes.{Processes}
+use Rattle.proc_model.specs.Ready.{attempts, next_act}
+use Rattle.io_model.specs.Attempts.{result_by, result_of}
+use Rattle.io_model.specs.Step.{IoEffect, IoEnd, answers, fails, keeps}
 use Rattle.machine_model.specs.declared.ends.EventEnd.TheVariants as Event
 use Rattle.os9_kernel.specs.Ends.{event_end_of}
 

@@ -1,8 +1,8 @@
 -- Events that are broken off.
 use Rattle.std.specs.Prelude.{◌≡◌, ◌⊎◌, ℕ, Some}
 use Rattle.os9_base.specs.declared.registers.TimePacket.{TimePacket}
-use Rattle.proc_rules.specs.Records.{IsLiving}
-use Rattle.proc_rules.specs.Ready.{attempts, act_of}
+use Rattle.proc_model.specs.Records.{IsLiving}
+use Rattle.proc_model.specs.Ready.{attempts, act_of}
 use Rattle.file_rules.specs.Memory.{LacksEntry, LacksMemory}
 use Rattle.file_rules.specs.Codes.{path_call_of}
 use Rattle.file_rules.specs.Files.{Files}

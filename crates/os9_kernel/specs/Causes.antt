@@ -3,11 +3,11 @@ use Rattle.std.specs.Prelude.{◌≡◌, ℕ, false, Option, None, Some, IfSome,
 use Rattle.os9_base.specs.declared.registers.Pid.{Pid}
 use Rattle.os9_sched.specs.Members.{member_of, wait_at}
 use Rattle.os9_sched.specs.declared.member.Wait.{Wait}
-use Rattle.proc_rules.specs.Records.{record_at, is_waiting}
-use Rattle.proc_rules.specs.declared.own.Own.{Own}
-use Rattle.proc_rules.specs.Codes.{call_of}
-use Rattle.proc_rules.specs.Processes.{no_own}
-use Rattle.proc_rules.specs.declared.proc_call.ProcCall.{ProcCall}
+use Rattle.proc_model.specs.Records.{record_at, is_waiting}
+use Rattle.proc_model.specs.declared.own.Own.{Own}
+use Rattle.proc_model.specs.Codes.{call_of}
+use Rattle.proc_model.specs.Processes.{no_own}
+use Rattle.proc_model.specs.declared.proc_call.ProcCall.{ProcCall}
 use Rattle.call_dispatch.specs.Waits.{waits_for}
 use Rattle.file_rules.specs.Locking.{call_wait}
 use Rattle.file_state.specs.declared.state.FileState.{FileState}

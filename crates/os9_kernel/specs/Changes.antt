@@ -2,7 +2,7 @@
 -- Manual, "I/O service requests").
 use Rattle.std.specs.Prelude.{◌≡◌, ℕ, Some, List, ◌∷◌, ◌++◌, length}
 use Rattle.os9_base.specs.declared.registers.TimePacket.{TimePacket}
-use Rattle.proc_rules.specs.Ready.{attempts, act_of}
+use Rattle.proc_model.specs.Ready.{attempts, act_of}
 use Rattle.file_drives.specs.Drives.{DriveView, media_at}
 use Rattle.file_rules.specs.Attempts.{asker_of, file_step}
 use Rattle.file_rules.specs.Step.{FileStep, VolumeChange, changes, deed_of, drive_of}

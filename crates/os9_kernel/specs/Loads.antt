@@ -2,8 +2,8 @@
 use Rattle.std.specs.Prelude.{ℕ}
 use Rattle.os9_base.specs.declared.call.CallEnd.{CallEnd}
 use Rattle.os9_base.specs.declared.registers.TimePacket.{TimePacket}
-use Rattle.proc_rules.specs.CallResult.{CallResult}
-use Rattle.proc_rules.specs.Processes.{Processes}
+use Rattle.proc_model.specs.CallResult.{CallResult}
+use Rattle.proc_model.specs.Processes.{Processes}
 use Rattle.file_rules.specs.Attempts.{asker_of}
 use Rattle.file_rules.specs.Files.{Asker, Files}
 use Rattle.file_rules.specs.Load.{LoadAttempts}

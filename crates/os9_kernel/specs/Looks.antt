@@ -1,7 +1,7 @@
 -- Until when who is Ready does not change.
 use Rattle.std.specs.Prelude.{ℕ, ◌<◌, ◌≤◌, ◌||◌, Bool, Option, IfSome}
 use Rattle.file_state.specs.declared.state.FileState.{FileState}
-use Rattle.io_rules.specs.Waiting.{io_may_go}
+use Rattle.io_model.specs.Waiting.{io_may_go}
 use Rattle.lock_model.specs.Waits.{lock_may_go}
 
 -- the waiting call of a process may go on in a tick, by the kernel's data

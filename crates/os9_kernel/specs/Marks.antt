@@ -1,7 +1,7 @@
 -- Whom the last calls on paths concern (this project's own).
 use Rattle.std.specs.Prelude.{◌≡◌, ◌⊎◌, ℕ, ⊤, Option, Some, option_and_then}
 use Rattle.os9_sched.specs.declared.member.Cause.{Cause}
-use Rattle.io_rules.specs.Io.{Io, open_path}
+use Rattle.io_model.specs.Io.{Io, open_path}
 use Rattle.lock_laws.specs.Touches.{cause_on}
 use Rattle.os9_kernel.specs.declared.marks.Marks.{Marks}
 use Rattle.os9_kernel.specs.declared.marks.Marks.TheVariants.{Nobody, Waiters, Everyone}

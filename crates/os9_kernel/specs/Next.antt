@@ -1,9 +1,9 @@
 -- What the chosen process does next, and what a turn of it leaves.
 use Rattle.std.specs.Prelude.{◌≡◌, ◌≢◌, ℕ, ◌+◌, ◌-◌, ◌*◌, ◌<◌, ◌≤◌, Some, slice_index_or}
 use Rattle.os9_base.specs.declared.registers.Pid.{Pid}
-use Rattle.proc_rules.specs.Records.{IsLiving, IsProcess, record_at, is_waiting}
-use Rattle.proc_rules.specs.Processes.{no_own}
-use Rattle.proc_rules.specs.Ready.{Act as MachineAct, attempts, delivers, executes, next_act}
+use Rattle.proc_model.specs.Records.{IsLiving, IsProcess, record_at, is_waiting}
+use Rattle.proc_model.specs.Processes.{no_own}
+use Rattle.proc_model.specs.Ready.{Act as MachineAct, attempts, delivers, executes, next_act}
 use Rattle.proc_state.specs.declared.state.ProcState.{ProcState}
 use Rattle.machine_model.specs.declared.ends.EventEnd.{EventEnd}
 use Rattle.machine_model.specs.State.{State}

@@ -2,9 +2,9 @@
 use Rattle.std.specs.Prelude.{◌≡◌, ℕ, ◌<◌, None, List, Option}
 use Rattle.os9_base.specs.declared.call.CallEnd.{CallEnd}
 use Rattle.os9_base.specs.declared.call.CallEnd.TheVariants.{Done, Error, Wait, Ended, NoMemory}
-use Rattle.proc_rules.specs.declared.record.Record.{Record}
-use Rattle.proc_rules.specs.Records.{record_at}
-use Rattle.io_rules.specs.Io.{Io, pending_at}
+use Rattle.proc_model.specs.declared.record.Record.{Record}
+use Rattle.proc_model.specs.Records.{record_at}
+use Rattle.io_model.specs.Io.{Io, pending_at}
 use Rattle.file_rules.specs.Files.{Files}
 use Rattle.file_rules.specs.Processes.{files_ended, files_started}
 use Rattle.os9_kernel.specs.declared.service.LoadCall.{LoadCall}

@@ -1,7 +1,7 @@
 -- What the codes of calls ask for, as the kernel distinguishes them.
 use Rattle.std.specs.Prelude.{⊤}
-use Rattle.proc_rules.specs.declared.proc_call.ProcCall.{ProcCall}
-use Rattle.proc_rules.specs.declared.proc_call.ProcCall.TheVariants as Call
+use Rattle.proc_model.specs.declared.proc_call.ProcCall.{ProcCall}
+use Rattle.proc_model.specs.declared.proc_call.ProcCall.TheVariants as Call
 use Rattle.machine_model.specs.Services.{Service as MachineService, loads, on_processes, on_time, on_paths, no_call}
 use Rattle.os9_kernel.specs.declared.service.LoadCall.{LoadCall}
 use Rattle.os9_kernel.specs.declared.service.LoadCall.TheVariants as Loading

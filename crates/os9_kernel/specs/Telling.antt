@@ -1,9 +1,9 @@
 -- The end of a call, as its process has it.
 use Rattle.std.specs.Prelude.{◌≡◌, ℕ}
 use Rattle.os9_base.specs.declared.call.CallEnd.{CallEnd}
-use Rattle.proc_rules.specs.Attempts.{after_attempt, attempt_end}
-use Rattle.proc_rules.specs.CallResult.{CallResult}
-use Rattle.proc_rules.specs.Processes.{Processes}
+use Rattle.proc_model.specs.Attempts.{after_attempt, attempt_end}
+use Rattle.proc_model.specs.CallResult.{CallResult}
+use Rattle.proc_model.specs.Processes.{Processes}
 use Rattle.proc_state.specs.Tie.{Comes, Represents}
 use Rattle.proc_state.specs.declared.state.ProcState.{ProcState}
 

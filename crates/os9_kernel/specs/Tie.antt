@@ -1,9 +1,9 @@
 -- The relation of the running kernel to the abstract machine.
 use Rattle.std.specs.Prelude.{◌≡◌, ◌<◌, ◌≤◌, ℕ, ◌+◌, ◌*◌, is_some, Bool, true, false, Option, Some, None, option_map, slice_index_or}
 use Rattle.os9_base.specs.declared.registers.Pid.{Pid}
-use Rattle.proc_rules.specs.Records.{IsLiving, record_at}
-use Rattle.proc_rules.specs.Processes.{no_own}
-use Rattle.proc_rules.specs.IoReady.{has_io}
+use Rattle.proc_model.specs.Records.{IsLiving, record_at}
+use Rattle.proc_model.specs.Processes.{no_own}
+use Rattle.proc_model.specs.IoReady.{has_io}
 use Rattle.os9_sched.specs.declared.member.Cause.{Cause}
 use Rattle.file_rules.specs.Locking.{wait_cause}
 use Rattle.proc_state.specs.declared.state.ProcState.{ProcState}

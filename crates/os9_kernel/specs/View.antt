@@ -1,9 +1,9 @@
 -- The observable part of a process.
 use Rattle.std.specs.Prelude.{ℕ, ◌&&◌, ◌||◌, nat_lt, is_some, Bool, false, Option, Some, None, if◌then◌else◌}
 use Rattle.os9_base.specs.declared.registers.Regs.{Regs}
-use Rattle.proc_rules.specs.Records.{is_living}
-use Rattle.proc_rules.specs.Processes.{Processes, own_at, regs_at}
-use Rattle.proc_rules.specs.Send.{is_asleep}
+use Rattle.proc_model.specs.Records.{is_living}
+use Rattle.proc_model.specs.Processes.{Processes, own_at, regs_at}
+use Rattle.proc_model.specs.Send.{is_asleep}
 use Rattle.lock_model.specs.Locks.{request_of}
 use Rattle.lock_model.specs.declared.lock.Request.{Request}
 use Rattle.machine_model.specs.State.{State}

@@ -1,12 +1,12 @@
 //! What a process does next.
 
 ghost use Rattle.std.specs.Prelude.{◌≡◌};
-ghost use Rattle.proc_rules.specs.Records.{IsLiving, IsProcess};
+ghost use Rattle.proc_model.specs.Records.{IsLiving, IsProcess};
 ghost use Rattle.os9_kernel.specs.Next.{act_in_machine, next_of};
 
 use crate::kernel::Kernel;
 use os9_base::registers::Pid;
-use proc_rules::record::Life;
+use proc_model::record::Life;
 
 /// What a process does next.
 #[derive(Clone, Copy, Debug, PartialEq, Eq)]

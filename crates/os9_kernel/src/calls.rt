@@ -20,7 +20,7 @@ use machine_model::ends::EventEnd;
 use os9_base::call::CallEnd;
 use os9_base::errors::E_UNKSVC;
 use os9_base::registers::Pid;
-use proc_rules::proc_call::ProcCall;
+use proc_model::proc_call::ProcCall;
 
 impl Kernel {
     /// An attempt of a call on processes and modules that loads nothing.

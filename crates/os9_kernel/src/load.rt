@@ -4,7 +4,7 @@ ghost use Rattle.std.specs.Prelude.{◌≡◌, ◌<◌, List, vec_len};
 ghost use Rattle.file_state.specs.Context.{machine_seen};
 ghost use Rattle.os9_base.specs.declared.registers.TimePacket.{TimePacket};
 ghost use Rattle.proc_calls.specs.Telling.{LivesOn};
-ghost use Rattle.proc_rules.specs.Records.{IsLiving};
+ghost use Rattle.proc_model.specs.Records.{IsLiving};
 ghost use Rattle.file_drives.specs.Drives.{DriveView, drives_seen};
 ghost use Rattle.file_rules.specs.Files.{Files};
 ghost use Rattle.file_state.specs.Tie.{IsSound, StandsFor};

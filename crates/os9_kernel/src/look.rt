@@ -1,8 +1,8 @@
 //! Who is Ready: whom a choice looks at.
 
 ghost use Rattle.std.specs.Prelude.{◌≡◌, ◌<◌, ◌^◌, ℕ, true, IfNone, IfSome, option_and_then, slice_index_or};
-ghost use Rattle.proc_rules.specs.Processes.{no_own};
-ghost use Rattle.proc_rules.specs.IoReady.{has_io};
+ghost use Rattle.proc_model.specs.Processes.{no_own};
+ghost use Rattle.proc_model.specs.IoReady.{has_io};
 ghost use Rattle.file_rules.specs.Locking.{files_may_go};
 ghost use Rattle.machine_model.specs.State.{State};
 ghost use Rattle.os9_kernel.specs.Causes.{awaited};
@@ -17,7 +17,7 @@ use crate::marks::{Known, Marks, with};
 use os9_base::limits::PROCESS_PLACES;
 use os9_base::registers::Pid;
 use os9_sched::{Cause, Wait};
-use proc_rules::io_ready::IoReady;
+use proc_model::io_ready::IoReady;
 use proc_state::choice::settle;
 
 impl Kernel {

@@ -1,13 +1,13 @@
 //! Whose waiting calls on paths may go on, as far as the kernel knows it without asking.
 
 ghost use Rattle.std.specs.Prelude.{◌≡◌, ◌≢◌, ◌↔◌, ◌<◌, ℕ, false, Some, IsTrue};
-ghost use Rattle.proc_rules.specs.IoReady.{has_io};
+ghost use Rattle.proc_model.specs.IoReady.{has_io};
 ghost use Rattle.os9_kernel.specs.Marks.{Concerns};
 ghost use Rattle.os9_sched.specs.declared.member.Cause.{Cause as CauseModel};
 
 use os9_base::registers::Pid;
 use os9_sched::Cause;
-use proc_rules::io_ready::IoReady;
+use proc_model::io_ready::IoReady;
 
 /// Whom the attempts since the last look concern.
 #[derive(Clone, Copy, Debug)]

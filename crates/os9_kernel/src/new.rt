@@ -18,7 +18,7 @@ use machine_model::ends::BootFault;
 use os9_base::registers::TimePacket;
 use os9_outer::drive::BlockDriver;
 use os9_outer::terminal::CharDriver;
-use proc_rules::io_ready::IoReady;
+use proc_model::io_ready::IoReady;
 use std::alloc::Global;
 use time_rules::clock::Clock;
 

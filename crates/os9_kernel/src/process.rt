@@ -1,11 +1,11 @@
 //! Changes of one process: it begins a call, its call is broken off, or it ends.
 
 ghost use Rattle.std.specs.Prelude.{◌≡◌, ◌<◌, List, Some};
-ghost use Rattle.proc_rules.specs.Records.{IsLiving, record_at};
+ghost use Rattle.proc_model.specs.Records.{IsLiving, record_at};
 ghost use Rattle.proc_state.specs.Tie.{Represents};
-ghost use Rattle.proc_rules.specs.End.{ended};
-ghost use Rattle.proc_rules.specs.Processes.{Processes, own_at, with_own};
-ghost use Rattle.io_rules.specs.Waiting.{interrupted_count};
+ghost use Rattle.proc_model.specs.End.{ended};
+ghost use Rattle.proc_model.specs.Processes.{Processes, own_at, with_own};
+ghost use Rattle.io_model.specs.Waiting.{interrupted_count};
 ghost use Rattle.file_drives.specs.Drives.{DriveView};
 ghost use Rattle.file_rules.specs.Files.{Files};
 ghost use Rattle.file_rules.specs.Locking.{files_interrupted};
@@ -16,7 +16,7 @@ ghost use Rattle.os9_kernel.specs.Tie.{executed};
 
 use crate::kernel::Kernel;
 use os9_base::registers::{Pid, Regs};
-use proc_rules::own::Own;
+use proc_model::own::Own;
 
 impl Kernel {
     /// A process has executed a system call with this code.

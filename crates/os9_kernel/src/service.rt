@@ -7,7 +7,7 @@ ghost use Rattle.os9_kernel.specs.Services.{IsPlainService, service_in_machine};
 
 use file_rules::path_call::{PathCall, path_call};
 use os9_base::calls::F_LOAD;
-use proc_rules::proc_call::{ProcCall, proc_call};
+use proc_model::proc_call::{ProcCall, proc_call};
 use time_rules::time_call::{TimeCall, time_call};
 
 /// A call that may load a file of modules.

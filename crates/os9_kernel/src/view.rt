@@ -2,8 +2,8 @@
 //! record locks, and of each process the registers, the bytes and whether a tick ends its wait.
 
 ghost use Rattle.std.specs.Prelude.{◌≡◌, ◌<◌, option_map};
-ghost use Rattle.proc_rules.specs.Processes.{cells_at};
-ghost use Rattle.proc_rules.specs.Send.{is_call as is_call_model};
+ghost use Rattle.proc_model.specs.Processes.{cells_at};
+ghost use Rattle.proc_model.specs.Send.{is_call as is_call_model};
 ghost use Rattle.lock_model.specs.History.{AtomicPairs};
 ghost use Rattle.machine_model.specs.State.{State};
 ghost use Rattle.os9_kernel.specs.Outside.{Outside};
@@ -16,7 +16,7 @@ use lock_model::history::Entry;
 use lock_model::lock::Request;
 use os9_base::calls::F_SLEEP;
 use os9_base::registers::{Pid, Regs};
-use proc_rules::record::Life;
+use proc_model::record::Life;
 use record_locks::records::Records;
 
 impl Kernel {

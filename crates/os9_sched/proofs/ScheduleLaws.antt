@@ -3,14 +3,14 @@ use Rattle.std.proofs.Common.{subst, replicate, ◌≡◌, ℕ, zero, suc, ◌<�
 use Rattle.std.proofs.lemmas.List.{length-set, get_or_past, length_push, length-replicate}
 use Rattle.std.proofs.lemmas.Bool.Decides.{nat_tests}
 use Rattle.std.proofs.lemmas.Grind.{common_steps}
-use Rattle.proc_rules.specs.declared.turn.Turn.{Turn}
+use Rattle.proc_model.specs.declared.turn.Turn.{Turn}
 use Rattle.os9_base.specs.declared.registers.Pid.{Pid}
-use Rattle.proc_rules.specs.Turns.{aged, with_turn, without_turn, has_turn, AreOnce, ready_turns, eldest, after_choice}
+use Rattle.proc_model.specs.Turns.{aged, with_turn, without_turn, has_turn, AreOnce, ready_turns, eldest, after_choice}
 use Rattle.os9_sched.specs.declared.member.Member.{Member}
 use Rattle.os9_sched.specs.Members.{member_of, is_active_in, priority_in}
 use Rattle.os9_sched.specs.Schedule.{Schedule, IsSchedule, after_dispatch}
 use Rattle.os9_sched.specs.Dispatch.{grown_older, with_last}
-use Rattle.proc_rules.proofs.TurnLaws.{has_turn-push, has_turn-without, has_turn-aged, AreOnce-push, AreOnce-without, AreOnce-aged, without-aged, length-turns}
+use Rattle.proc_model.proofs.TurnLaws.{has_turn-push, has_turn-without, has_turn-aged, AreOnce-push, AreOnce-without, AreOnce-aged, without-aged, length-turns}
 
 -- who is a member if one place is written
 is_some-set : (members : List (Option Member)) (p q : ℕ) (place : Option Member) → p < length members

@@ -1,7 +1,7 @@
 -- The two steps of a dispatch: the ages change, and the chosen process moves after the others.
 use Rattle.std.specs.Prelude.{map}
 use Rattle.os9_base.specs.declared.registers.Pid.{Pid}
-use Rattle.proc_rules.specs.Turns.{aged, with_turn, without_turn}
+use Rattle.proc_model.specs.Turns.{aged, with_turn, without_turn}
 use Rattle.os9_sched.specs.Members.{is_active_in, priority_in}
 use Rattle.os9_sched.specs.Schedule.{Schedule}
 

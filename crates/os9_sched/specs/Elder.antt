@@ -1,6 +1,6 @@
 -- The elder of turns (Level Two manual, process scheduling; the exact rule of ages is this project's own).
 use Rattle.std.specs.Prelude.{nat_lt, Option, Some, None, if◌then◌else◌}
-use Rattle.proc_rules.specs.declared.turn.Turn.{Turn}
+use Rattle.proc_model.specs.declared.turn.Turn.{Turn}
 
 -- the elder of two turns, if there are two; of equals the first one
 abbrev pub elder : Option Turn → Turn → Option Turn

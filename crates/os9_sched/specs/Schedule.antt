@@ -2,8 +2,8 @@
 use Rattle.std.specs.Prelude.{◌≡◌, ℕ, Option, Some, None, is_some, option_map, List, length, map, slice_set}
 use Rattle.os9_base.specs.declared.limits.TheConstants.{PROCESS_PLACES}
 use Rattle.os9_base.specs.declared.registers.Pid.{Pid}
-use Rattle.proc_rules.specs.declared.turn.Turn.{Turn}
-use Rattle.proc_rules.specs.Turns.{with_turn, without_turn, has_turn, AreOnce, choose}
+use Rattle.proc_model.specs.declared.turn.Turn.{Turn}
+use Rattle.proc_model.specs.Turns.{with_turn, without_turn, has_turn, AreOnce, choose}
 use Rattle.os9_sched.specs.declared.member.Wait.{Wait}
 use Rattle.os9_sched.specs.declared.member.Standing.{Standing}
 use Rattle.os9_sched.specs.declared.member.Standing.TheVariants.{Going, Resting}

@@ -1,6 +1,6 @@
 ghost use Rattle.std.specs.Prelude.{◌≡◌, ◌==◌, Some, None, IfOk, IfSome, IfNone, option_map, map, length, replicate};
 ghost use Rattle.std.specs.List.{find};
-ghost use Rattle.proc_rules.specs.Turns.{age_in as age_in_model, ready_turns, greatest_age as greatest_age_model, eldest as eldest_model, aged};
+ghost use Rattle.proc_model.specs.Turns.{age_in as age_in_model, ready_turns, greatest_age as greatest_age_model, eldest as eldest_model, aged};
 ghost use Rattle.os9_sched.specs.Elder.{elder as elder_model};
 ghost use Rattle.os9_sched.specs.Waits.{woken_at as woken_at_model};
 ghost use Rattle.os9_sched.specs.Members.{IsMember, is_active_in as is_active_in_model, priority_in as priority_in_model, IsNextWaiting, NobodyWaits};
@@ -8,7 +8,7 @@ ghost use Rattle.os9_sched.specs.Members.{IsMember, is_active_in as is_active_in
 use crate::member::{Cause, Member, is_active, waits_for, woken_at};
 use os9_base::limits::PROCESS_PLACES;
 use os9_base::registers::Pid;
-use proc_rules::turn::Turn;
+use proc_model::turn::Turn;
 use std::alloc::{AllocError, Global};
 
 /// Places without members.

@@ -1,8 +1,8 @@
 ghost use Rattle.std.specs.Prelude.{◌≡◌, ◌<◌, ◌≤◌, ◌++◌, ◌∷◌, [], None, Some, IfOk, IfSome, IfNone, length, replicate, slice_set, vec_len};
 ghost use Rattle.std.specs.Vec.{vec_capacity};
-ghost use Rattle.proc_rules.specs.Records.{IsProcess};
-ghost use Rattle.proc_rules.specs.Turns as model;
-ghost use Rattle.proc_rules.specs.Turns.{without_turn};
+ghost use Rattle.proc_model.specs.Records.{IsProcess};
+ghost use Rattle.proc_model.specs.Turns as model;
+ghost use Rattle.proc_model.specs.Turns.{without_turn};
 ghost use Rattle.os9_sched.specs.Members.{member_of, member_at, IsMember, HasWait, HasNoWait, IsNextWaiting, NobodyWaits};
 ghost use Rattle.os9_sched.specs.Schedule.{IsSchedule, with_priority, with_standing, after_add, after_remove, after_wait, after_wake, after_rest, after_go, after_tick, chosen, after_dispatch};
 ghost use Rattle.os9_sched.specs.Dispatch.{grown_older, with_last};
@@ -12,7 +12,7 @@ use crate::member::{Cause, Member, Standing, Wait, rested, woken};
 use os9_base::call::OutOfMemory;
 use os9_base::limits::PROCESS_PLACES;
 use os9_base::registers::Pid;
-use proc_rules::turn::Turn;
+use proc_model::turn::Turn;
 use std::alloc::Global;
 use std::marker::Model;
 

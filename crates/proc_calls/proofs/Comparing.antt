@@ -4,7 +4,7 @@ use Rattle.std.proofs.lemmas.Bool.{cond-true, cond-false}
 use Rattle.std.proofs.lemmas.Bool.Decides.{nat_tests}
 use Rattle.os9_base.specs.Cells.{Cells}
 use Rattle.os9_base.specs.UserNames.{user_cell}
-use Rattle.proc_rules.specs.CmpNam.{agrees, same_with, same_names}
+use Rattle.proc_model.specs.CmpNam.{agrees, same_with, same_names}
 
 module _ (cells : Cells) (one other length place : ℕ) (below : place < length) where
   -- the names from this place on, and from the next one

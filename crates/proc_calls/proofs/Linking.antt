@@ -4,10 +4,10 @@ use Rattle.std.proofs.lemmas.Option.{none-some, same_Some}
 use Rattle.os9_base.specs.declared.errors.TheConstants.{E_MEMFUL}
 use Rattle.proc_model.specs.declared.memory.TheConstants.{MOST_LINKS}
 use Rattle.proc_model.specs.MemoryChanges.{has_most_links}
-use Rattle.proc_rules.specs.CallResult.{CallResult, done, refused, needs, refuses}
-use Rattle.proc_rules.specs.Processes.{Processes, own_at}
-use Rattle.proc_rules.specs.Link.{Mapped, mapped_group, links_at, after_link}
-use Rattle.proc_rules.specs.ModuleLinks.{Entered}
+use Rattle.proc_model.specs.CallResult.{CallResult, done, refused, needs, refuses}
+use Rattle.proc_model.specs.Processes.{Processes, own_at}
+use Rattle.proc_model.specs.Link.{Mapped, mapped_group, links_at, after_link}
+use Rattle.proc_model.specs.ModuleLinks.{Entered}
 use Rattle.proc_calls.specs.Linked.{links_entered}
 use Rattle.proc_calls.specs.Named.{link_slot}
 

@@ -6,9 +6,9 @@ use Rattle.proc_model.proofs.ModuleListLaws.{found_entry}
 use Rattle.os9_base.specs.declared.name_fault.NameFault.{NameFault}
 use Rattle.os9_base.specs.declared.name_fault.NameFault.TheVariants.{Unreadable, NoName}
 use Rattle.os9_base.specs.UserNames.{name_at}
-use Rattle.proc_rules.specs.CallResult.{CallResult, refused, needs, reads_name}
-use Rattle.proc_rules.specs.Processes.{Processes, regs_at, cells_at}
-use Rattle.proc_rules.specs.ModuleLinks.{Entered, entered_at}
+use Rattle.proc_model.specs.CallResult.{CallResult, refused, needs, reads_name}
+use Rattle.proc_model.specs.Processes.{Processes, regs_at, cells_at}
+use Rattle.proc_model.specs.ModuleLinks.{Entered, entered_at}
 use Rattle.proc_calls.specs.Named.{name_or_error, names_module, IsNamed, IsUnnamed}
 
 -- there is no name

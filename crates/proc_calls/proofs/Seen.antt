@@ -2,8 +2,8 @@
 use Rattle.std.proofs.Common.{◌≡◌, ℕ, ◌<◌, sym, ap}
 use Rattle.guest_memory.specs.Tie.{cells_of}
 use Rattle.guest_memory.proofs.Seen.{cells_of-seen}
-use Rattle.proc_rules.specs.Processes.{Processes, cells_at, regs_at}
-use Rattle.proc_rules.specs.Records.{record_at}
+use Rattle.proc_model.specs.Processes.{Processes, cells_at, regs_at}
+use Rattle.proc_model.specs.Records.{record_at}
 use Rattle.proc_state.specs.declared.state.ProcState.{ProcState}
 use Rattle.proc_state.specs.Tie.{Represents}
 

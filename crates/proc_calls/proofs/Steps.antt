@@ -2,8 +2,8 @@
 use Rattle.std.proofs.Common.{◌≡◌, ℕ, Bool, false, Result, Ok, Err, refl, sym, ap, subst, ◌∙◌}
 use Rattle.proc_model.specs.declared.memory.MemoryFault.{MemoryFault}
 use Rattle.proc_model.specs.Memory.{MemoryState}
-use Rattle.proc_rules.specs.CallResult.{CallResult, done, refused, refuses, changes}
-use Rattle.proc_rules.specs.Processes.{Processes, with_memory}
+use Rattle.proc_model.specs.CallResult.{CallResult, done, refused, refuses, changes}
+use Rattle.proc_model.specs.Processes.{Processes, with_memory}
 use Rattle.proc_state.specs.declared.state.ProcState.{ProcState}
 use Rattle.proc_state.specs.Tie.{Represents, Answers}
 

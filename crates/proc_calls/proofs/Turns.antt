@@ -6,10 +6,10 @@ use Rattle.std.proofs.lemmas.Grind.{common_steps}
 use Rattle.std.proofs.lemmas.List.{get_or_past}
 use Rattle.std.proofs.lemmas.List.Quantifiers.{position-Some}
 use Rattle.os9_sched.specs.Schedule.{Schedule}
-use Rattle.proc_rules.specs.declared.record.Record.{Record}
-use Rattle.proc_rules.specs.Ends.{is_ended_child, ended_child, after_reap}
-use Rattle.proc_rules.specs.Records.{AreRecords, IsLiving, is_living, is_waiting, has_ended, record_at, record_of, record_passes, with_record, without_record}
-use Rattle.proc_rules.specs.Signals.{wake_signal, send_fault, with_signal, with_sent, after_send}
+use Rattle.proc_model.specs.declared.record.Record.{Record}
+use Rattle.proc_model.specs.Ends.{is_ended_child, ended_child, after_reap}
+use Rattle.proc_model.specs.Records.{AreRecords, IsLiving, is_living, is_waiting, has_ended, record_at, record_of, record_passes, with_record, without_record}
+use Rattle.proc_model.specs.Signals.{wake_signal, send_fault, with_signal, with_sent, after_send}
 use Rattle.proc_state.specs.Sound.{AreTurns}
 
 -- a process that lives has a place

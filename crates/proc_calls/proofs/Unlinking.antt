@@ -5,10 +5,10 @@ use Rattle.os9_base.specs.declared.errors.TheConstants.{E_MNF}
 use Rattle.proc_model.specs.Memory.{map_at, group_at}
 use Rattle.proc_model.specs.ModuleList.{ModuleEntry, passes}
 use Rattle.proc_model.proofs.ModuleListLaws.{found_entry}
-use Rattle.proc_rules.specs.CallResult.{done, needs}
-use Rattle.proc_rules.specs.Processes.{Processes, regs_at}
-use Rattle.proc_rules.specs.ModuleLinks.{entered_at, is_at}
-use Rattle.proc_rules.specs.UnLink.{f_unlink, after_unlink}
+use Rattle.proc_model.specs.CallResult.{done, needs}
+use Rattle.proc_model.specs.Processes.{Processes, regs_at}
+use Rattle.proc_model.specs.ModuleLinks.{entered_at, is_at}
+use Rattle.proc_model.specs.UnLink.{f_unlink, after_unlink}
 
 -- a link to this module is given up
 pub record IsUnlinked (m : Processes) (p number : ℕ) : Type 0 where

@@ -5,10 +5,10 @@ use Rattle.proc_model.specs.declared.memory.TheConstants.{MOST_LINKS}
 use Rattle.proc_model.specs.declared.module.ModId.{ModId}
 use Rattle.proc_model.specs.MemoryChanges.{has_most_links}
 use Rattle.proc_model.specs.ModuleList.{ModuleEntry}
-use Rattle.proc_rules.specs.CallResult.{CallResult, done, needs, refuses}
-use Rattle.proc_rules.specs.Processes.{Processes, own_at}
-use Rattle.proc_rules.specs.Link.{mapped_group, links_at, after_link}
-use Rattle.proc_rules.specs.ModuleLinks.{Entered}
+use Rattle.proc_model.specs.CallResult.{CallResult, done, needs, refuses}
+use Rattle.proc_model.specs.Processes.{Processes, own_at}
+use Rattle.proc_model.specs.Link.{mapped_group, links_at, after_link}
+use Rattle.proc_model.specs.ModuleLinks.{Entered}
 
 -- the entered module of a number, by its entry
 abbrev pub entered_as : ModId → ModuleEntry → Entered

@@ -7,10 +7,10 @@ use Rattle.proc_model.specs.ModuleList.{ModuleEntry, module_entry_at}
 use Rattle.os9_base.specs.declared.name_fault.NameFault.{NameFault}
 use Rattle.os9_base.specs.declared.name_fault.NameFault.TheVariants.{Unreadable, NoName}
 use Rattle.os9_base.specs.UserNames.{name_at}
-use Rattle.proc_rules.specs.CallResult.{CallResult, refused, needs, reads_name}
-use Rattle.proc_rules.specs.Processes.{Processes, own_at, regs_at, cells_at}
-use Rattle.proc_rules.specs.Link.{links_at, mapped_group}
-use Rattle.proc_rules.specs.ModuleLinks.{Entered, found_entry}
+use Rattle.proc_model.specs.CallResult.{CallResult, refused, needs, reads_name}
+use Rattle.proc_model.specs.Processes.{Processes, own_at, regs_at, cells_at}
+use Rattle.proc_model.specs.Link.{links_at, mapped_group}
+use Rattle.proc_model.specs.ModuleLinks.{Entered, found_entry}
 
 -- the name that a call reads, or the number of the error
 abbrev pub name_or_error : Result (List ℕ) NameFault → Result (List ℕ) ℕ

@@ -4,8 +4,8 @@ use Rattle.os9_base.specs.declared.call.CallEnd.{CallEnd}
 use Rattle.os9_base.specs.declared.call.CallEnd.TheVariants.{Done, Error, Wait, Ended, NoMemory}
 use Rattle.os9_sched.specs.declared.member.Wait.{Wait as Waiting}
 use Rattle.os9_sched.specs.Schedule.{after_wait}
-use Rattle.proc_rules.specs.declared.record.Record.{Record}
-use Rattle.proc_rules.specs.Records.{IsLiving, record_at, is_waiting}
+use Rattle.proc_model.specs.declared.record.Record.{Record}
+use Rattle.proc_model.specs.Records.{IsLiving, record_at, is_waiting}
 use Rattle.proc_state.specs.declared.state.ProcState.{ProcState}
 
 -- a process lives, unless its call ended it

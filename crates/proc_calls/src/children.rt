@@ -1,18 +1,18 @@
 //! Calls on the ends of processes.
 
 ghost use Rattle.std.specs.Prelude.{◌≡◌, OnErr};
-ghost use Rattle.proc_rules.specs.Ends.{reaped, after_reap};
-ghost use Rattle.proc_rules.specs.Records.{IsLiving, record_at};
-ghost use Rattle.proc_rules.specs.Exit.{f_exit as f_exit_model};
-ghost use Rattle.proc_rules.specs.Processes.{Processes, with_records};
-ghost use Rattle.proc_rules.specs.Wait.{f_wait as f_wait_model};
+ghost use Rattle.proc_model.specs.Ends.{reaped, after_reap};
+ghost use Rattle.proc_model.specs.Records.{IsLiving, record_at};
+ghost use Rattle.proc_model.specs.Exit.{f_exit as f_exit_model};
+ghost use Rattle.proc_model.specs.Processes.{Processes, with_records};
+ghost use Rattle.proc_model.specs.Wait.{f_wait as f_wait_model};
 ghost use Rattle.proc_state.specs.Tie.{Represents, Comes};
 ghost use Rattle.proc_calls.specs.Telling.{KeepsTurns};
 
 use os9_base::call::CallEnd;
 use os9_base::errors::E_NOCHLD;
 use os9_base::registers::{Pid, Regs};
-use proc_rules::record::Reap;
+use proc_model::record::Reap;
 use proc_state::state::ProcState;
 
 /// F$Wait: waits for the end of a child (System Programmer's Manual, F$Wait). Returns the number of

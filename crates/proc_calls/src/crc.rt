@@ -4,13 +4,13 @@ ghost use Rattle.std.specs.Prelude.{◌≡◌, ◌<◌, OnSome, IfSome, option_m
 ghost use Rattle.byteorder.specs.Endian.{big_number};
 ghost use Rattle.os9_base.specs.Cells.{FitsIn};
 ghost use Rattle.guest_memory.specs.Tie.{cells_of};
-ghost use Rattle.proc_model.specs.Crc.{crc_register};
+ghost use Rattle.proc_model.specs.CrcModel.{crc_register};
 ghost use Rattle.proc_model.specs.MemoryChanges.{stored};
-ghost use Rattle.proc_rules.specs.Records.{IsLiving};
-ghost use Rattle.proc_rules.specs.Crc as model;
-ghost use Rattle.proc_rules.specs.Crc.{crc_bytes};
-ghost use Rattle.proc_rules.specs.Processes.{Processes, cells_at, with_memory};
-ghost use Rattle.proc_rules.specs.UserBytes.{user_bytes};
+ghost use Rattle.proc_model.specs.Records.{IsLiving};
+ghost use Rattle.proc_model.specs.Crc as model;
+ghost use Rattle.proc_model.specs.Crc.{crc_bytes};
+ghost use Rattle.proc_model.specs.Processes.{Processes, cells_at, with_memory};
+ghost use Rattle.proc_model.specs.UserBytes.{user_bytes};
 ghost use Rattle.proc_state.specs.Tie.{Represents, Answers, Comes, IsSame};
 
 use byteorder::{BigEndian, ByteOrder};

@@ -1,11 +1,11 @@
 //! The size of the data area.
 
 ghost use Rattle.std.specs.Prelude.{◌≡◌, ◌*◌, ◌+◌, ◌≤◌, ◌<◌};
-ghost use Rattle.proc_rules.specs.Records.{IsLiving};
-ghost use Rattle.proc_rules.specs.CallResult.{changes, done};
-ghost use Rattle.proc_rules.specs.Processes.{Processes, with_memory};
-ghost use Rattle.proc_rules.specs.Mem.{f_mem as f_mem_model, size_regs as size_regs_model, resized, sets_pages, with_size};
-ghost use Rattle.proc_rules.specs.UserBytes.{d_of as d_of_model};
+ghost use Rattle.proc_model.specs.Records.{IsLiving};
+ghost use Rattle.proc_model.specs.CallResult.{changes, done};
+ghost use Rattle.proc_model.specs.Processes.{Processes, with_memory};
+ghost use Rattle.proc_model.specs.Mem.{f_mem as f_mem_model, size_regs as size_regs_model, resized, sets_pages, with_size};
+ghost use Rattle.proc_model.specs.UserBytes.{d_of as d_of_model};
 ghost use Rattle.proc_state.specs.Tie.{Represents, Answers, Comes};
 
 use crate::errors::memory_error;
@@ -13,7 +13,7 @@ use crate::program::{MOST_PAGES, PAGE_BYTES, blocks_of_pages};
 use os9_base::call::CallEnd;
 use os9_base::errors::E_MEMFUL;
 use os9_base::registers::{Pid, Regs};
-use proc_rules::own::Own;
+use proc_model::own::Own;
 use proc_state::outcome::call_end;
 use proc_state::state::ProcState;
 

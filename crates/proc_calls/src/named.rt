@@ -3,9 +3,9 @@
 ghost use Rattle.std.specs.Prelude.{◌≡◌, ◌<◌, IsSome, IfOk, MatchResult};
 ghost use Rattle.guest_memory.specs.Tie.{modules_of};
 ghost use Rattle.proc_model.specs.ModuleList.{module_entry_at};
-ghost use Rattle.proc_rules.specs.Records.{IsLiving};
+ghost use Rattle.proc_model.specs.Records.{IsLiving};
 ghost use Rattle.os9_base.specs.UserNames.{name_at};
-ghost use Rattle.proc_rules.specs.Processes.{Processes, cells_at};
+ghost use Rattle.proc_model.specs.Processes.{Processes, cells_at};
 ghost use Rattle.proc_state.specs.Tie.{Represents, IsSame};
 ghost use Rattle.proc_calls.specs.Named.{name_or_error, IsNamed, IsUnnamed};
 

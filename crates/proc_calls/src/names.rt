@@ -2,10 +2,10 @@
 
 ghost use Rattle.std.specs.Prelude.{◌≡◌, ◌<◌, IfNone, IfSome};
 ghost use Rattle.os9_base.specs.Name.{lower as lower_model};
-ghost use Rattle.proc_rules.specs.Records.{IsLiving};
-ghost use Rattle.proc_rules.specs.CmpNam.{f_cmpnam as f_cmpnam_model, agrees as agrees_model, same_names as same_names_model};
-ghost use Rattle.proc_rules.specs.Processes.{Processes, cells_at, regs_at};
-ghost use Rattle.proc_rules.specs.PrsNam.{f_prsnam as f_prsnam_model, past_slash as past_slash_model, parses_name as parses_name_model};
+ghost use Rattle.proc_model.specs.Records.{IsLiving};
+ghost use Rattle.proc_model.specs.CmpNam.{f_cmpnam as f_cmpnam_model, agrees as agrees_model, same_names as same_names_model};
+ghost use Rattle.proc_model.specs.Processes.{Processes, cells_at, regs_at};
+ghost use Rattle.proc_model.specs.PrsNam.{f_prsnam as f_prsnam_model, past_slash as past_slash_model, parses_name as parses_name_model};
 ghost use Rattle.guest_memory.specs.Tie.{cells_of};
 ghost use Rattle.proc_state.specs.Tie.{Represents, Comes};
 

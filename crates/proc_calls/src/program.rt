@@ -1,7 +1,7 @@
 //! Sizes of programs that are started.
 
 ghost use Rattle.std.specs.Prelude.{◌≡◌, ◌≤◌};
-ghost use Rattle.proc_rules.specs.Program as model;
+ghost use Rattle.proc_model.specs.Program as model;
 
 /// Bytes in a page (Level Two manual, "Memory management").
 pub const PAGE_BYTES: u16 = 256;

@@ -1,18 +1,18 @@
 //! Calls that read and change the record of a process.
 
 ghost use Rattle.std.specs.Prelude.{◌≡◌};
-ghost use Rattle.proc_rules.specs.Records.{IsLiving, is_living};
-ghost use Rattle.proc_rules.specs.Signals.{is_reached};
-ghost use Rattle.proc_rules.specs.Processes.{Processes};
-ghost use Rattle.proc_rules.specs.Id.{f_id as f_id_model};
-ghost use Rattle.proc_rules.specs.SPrior.{f_sprior as f_sprior_model};
-ghost use Rattle.proc_rules.specs.SUser.{f_suser as f_suser_model};
+ghost use Rattle.proc_model.specs.Records.{IsLiving, is_living};
+ghost use Rattle.proc_model.specs.Signals.{is_reached};
+ghost use Rattle.proc_model.specs.Processes.{Processes};
+ghost use Rattle.proc_model.specs.Id.{f_id as f_id_model};
+ghost use Rattle.proc_model.specs.SPrior.{f_sprior as f_sprior_model};
+ghost use Rattle.proc_model.specs.SUser.{f_suser as f_suser_model};
 ghost use Rattle.proc_state.specs.Tie.{Represents, Comes};
 
 use os9_base::call::CallEnd;
 use os9_base::errors::E_IPRCID;
 use os9_base::registers::{Pid, Regs};
-use proc_rules::record::Life;
+use proc_model::record::Life;
 use proc_state::state::ProcState;
 use process_table::Table;
 

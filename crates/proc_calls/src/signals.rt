@@ -1,18 +1,18 @@
 //! Calls on signals.
 
 ghost use Rattle.std.specs.Prelude.{◌≡◌};
-ghost use Rattle.proc_rules.specs.Records.{IsLiving};
-ghost use Rattle.proc_rules.specs.Processes.{Processes};
-ghost use Rattle.proc_rules.specs.Icpt.{f_icpt as f_icpt_model};
-ghost use Rattle.proc_rules.specs.Send.{f_send as f_send_model, is_call as is_call_model, woken};
+ghost use Rattle.proc_model.specs.Records.{IsLiving};
+ghost use Rattle.proc_model.specs.Processes.{Processes};
+ghost use Rattle.proc_model.specs.Icpt.{f_icpt as f_icpt_model};
+ghost use Rattle.proc_model.specs.Send.{f_send as f_send_model, is_call as is_call_model, woken};
 ghost use Rattle.proc_state.specs.Tie.{Represents, Comes};
 
 use os9_base::call::CallEnd;
 use os9_base::calls::F_SLEEP;
 use os9_base::errors::{E_IPRCID, E_USIGP};
 use os9_base::registers::Pid;
-use proc_rules::own::Own;
-use proc_rules::record::{Life, SendFault};
+use proc_model::own::Own;
+use proc_model::record::{Life, SendFault};
 use proc_state::state::ProcState;
 
 /// The signal that ends a sleep, S$Wake. It is never pending.

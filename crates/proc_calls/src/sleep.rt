@@ -2,17 +2,17 @@
 
 ghost use Rattle.std.specs.Prelude.{◌≡◌, ◌+◌, ◌≤◌};
 ghost use Rattle.std.specs.Option.{ForSome};
-ghost use Rattle.proc_rules.specs.Records.{IsLiving};
-ghost use Rattle.proc_rules.specs.Processes.{Processes};
-ghost use Rattle.proc_rules.specs.Sleep as model;
+ghost use Rattle.proc_model.specs.Records.{IsLiving};
+ghost use Rattle.proc_model.specs.Processes.{Processes};
+ghost use Rattle.proc_model.specs.Sleep as model;
 ghost use Rattle.os9_base.specs.declared.limits.TheConstants.{LAST_TICK};
 ghost use Rattle.proc_state.specs.Tie.{Represents, Comes};
 ghost use Rattle.proc_calls.specs.Telling.{KeepsTurns};
 
 use os9_base::call::CallEnd;
 use os9_base::registers::{Pid, Regs};
-use proc_rules::own::Own;
-use proc_rules::record::Life;
+use proc_model::own::Own;
+use proc_model::record::Life;
 use proc_state::state::ProcState;
 
 /// F$Sleep: sleeps for the ticks in X, or for ever if X is 0 (System Programmer's Manual, F$Sleep).

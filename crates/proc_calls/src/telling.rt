@@ -2,9 +2,9 @@
 
 ghost use Rattle.std.specs.Prelude.{◌≡◌};
 ghost use Rattle.os9_base.specs.declared.call.CallEnd.TheVariants.{Wait};
-ghost use Rattle.proc_rules.specs.Attempts.{after_attempt, attempt_end};
-ghost use Rattle.proc_rules.specs.CallResult.{CallResult};
-ghost use Rattle.proc_rules.specs.Processes.{Processes};
+ghost use Rattle.proc_model.specs.Attempts.{after_attempt, attempt_end};
+ghost use Rattle.proc_model.specs.CallResult.{CallResult};
+ghost use Rattle.proc_model.specs.Processes.{Processes};
 ghost use Rattle.proc_state.specs.Tie.{Represents, Comes};
 ghost use Rattle.proc_calls.specs.Telling.{LivesOn, WaitsFor};
 

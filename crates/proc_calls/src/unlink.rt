@@ -7,10 +7,10 @@ ghost use Rattle.guest_memory.specs.Tie.{modules_of};
 ghost use Rattle.proc_model.specs.Memory.{map_at, group_at};
 ghost use Rattle.proc_model.specs.ModuleList.{module_entry_at, passes};
 ghost use Rattle.proc_model.specs.Slots.{group_slot};
-ghost use Rattle.proc_rules.specs.Records.{IsLiving};
-ghost use Rattle.proc_rules.specs.Processes.{Processes, with_memory};
-ghost use Rattle.proc_rules.specs.ModuleLinks.{is_at as is_at_model};
-ghost use Rattle.proc_rules.specs.UnLink.{f_unlink as f_unlink_model, with_links_left, without_group_link};
+ghost use Rattle.proc_model.specs.Records.{IsLiving};
+ghost use Rattle.proc_model.specs.Processes.{Processes, with_memory};
+ghost use Rattle.proc_model.specs.ModuleLinks.{is_at as is_at_model};
+ghost use Rattle.proc_model.specs.UnLink.{f_unlink as f_unlink_model, with_links_left, without_group_link};
 ghost use Rattle.proc_state.specs.Tie.{Represents, Answers, Comes};
 
 use os9_base::call::CallEnd;

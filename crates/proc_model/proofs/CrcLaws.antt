@@ -8,7 +8,7 @@ use Rattle.std.specs.List.{range_with_len, flat_map}
 use Rattle.std.proofs.lemmas.Grind.{flat_map-append, fold-append}
 use Rattle.std.proofs.lemmas.List.{get_or-replicate}
 use Rattle.std.proofs.lemmas.List.FromFn.{get_or-map-range_with_len}
-use Rattle.proc_model.specs.Crc.{polynomial, divided_once, divided, bits_of, crc_register}
+use Rattle.proc_model.specs.CrcModel.{polynomial, divided_once, divided, bits_of, crc_register}
 
 -- the polynomial where the bits differ
 abbrev pub subtracted : ℕ → ℕ

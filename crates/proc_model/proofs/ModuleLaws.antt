@@ -5,7 +5,7 @@ use Rattle.std.proofs.Math.Seq.{take-add}
 use Rattle.std.proofs.lemmas.Bool.{cases_lt, eqb-true, and_parts, and_from, leb-true, le-leb}
 use Rattle.byteorder.specs.Endian.{big_number}
 use Rattle.os9_base.specs.Name.{stored_name}
-use Rattle.proc_model.specs.Crc.{crc_of, crc_register}
+use Rattle.proc_model.specs.CrcModel.{crc_of, crc_register}
 use Rattle.proc_model.proofs.CrcLaws.{residue, crc_register-append, crc_register_lt}
 use Rattle.proc_model.specs.Module.{header_word, module_size, name_offset, module_kind, is_program, header_length, program_word, module_entry, crc_offset, module_name, has_sync, has_size, has_module_name, has_entry, keeps_header_rule, keeps_parity_rule, crc_field, keeps_crc_rule, module_fault, IsModule}
 use Rattle.proc_model.specs.declared.module.ModuleFault.TheVariants.{BadSync, BadParity, BadCrc}

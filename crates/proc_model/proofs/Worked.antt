@@ -1,6 +1,6 @@
 -- Worked values of the definitions, from outside.
 use Rattle.std.proofs.Common.{◌≡◌, ℕ, Some, List, [], ◌∷◌, refl}
-use Rattle.proc_model.specs.Crc.{divided_once, crc_of}
+use Rattle.proc_model.specs.CrcModel.{divided_once, crc_of}
 use Rattle.proc_model.specs.Module.{module_name, module_entry, module_storage, module_fault, IsModule}
 use Rattle.proc_model.specs.declared.module.ModuleFault.TheVariants.{BadSync, BadParity, BadCrc}
 

@@ -6,12 +6,12 @@ use Rattle.os9_sched.specs.declared.member.Member.{Member}
 use Rattle.os9_sched.specs.declared.member.Standing.TheVariants.{Going}
 use Rattle.os9_sched.specs.Members.{member_of, is_active_in, priority_in}
 use Rattle.os9_sched.specs.Schedule.{Schedule}
-use Rattle.proc_rules.specs.declared.record.Record.{Record}
-use Rattle.proc_rules.specs.Records.{is_living, record_at}
-use Rattle.proc_rules.specs.Turns.{choose}
-use Rattle.proc_rules.specs.Choice.{choice_of, turn_priority}
-use Rattle.proc_rules.specs.Processes.{Processes}
-use Rattle.proc_rules.specs.Ready.{is_ready}
+use Rattle.proc_model.specs.declared.record.Record.{Record}
+use Rattle.proc_model.specs.Records.{is_living, record_at}
+use Rattle.proc_model.specs.Turns.{choose}
+use Rattle.proc_model.specs.Choice.{choice_of, turn_priority}
+use Rattle.proc_model.specs.Processes.{Processes}
+use Rattle.proc_model.specs.Ready.{is_ready}
 use Rattle.proc_state.specs.Sound.{AreTurns}
 use Rattle.proc_state.specs.Tie.{Represents}
 use Rattle.proc_state.specs.declared.state.ProcState.{ProcState}

@@ -8,13 +8,13 @@ use Rattle.os9_base.specs.declared.errors.TheConstants.{E_PRCABT}
 use Rattle.os9_base.specs.declared.registers.Regs.{Regs}
 use Rattle.proc_model.specs.Memory.{MemoryState}
 use Rattle.proc_model.specs.MemoryChanges.{stored}
-use Rattle.proc_rules.specs.declared.record.Intercept.{Intercept}
-use Rattle.proc_rules.specs.Records.{record_at, is_waiting}
-use Rattle.proc_rules.specs.Signals.{with_signal}
-use Rattle.proc_rules.specs.Attempts.{goes_on, refused_regs}
-use Rattle.proc_rules.specs.Delivery.{frame_bytes, stack_top, has_no_room, interrupted, interrupted_regs, routine_begun, routine_regs, with_frame}
-use Rattle.proc_rules.specs.Processes.{Processes, cells_at, regs_at, with_memory, with_records, with_regs_of}
-use Rattle.proc_rules.specs.UserBytes.{user_bytes}
+use Rattle.proc_model.specs.declared.record.Intercept.{Intercept}
+use Rattle.proc_model.specs.Records.{record_at, is_waiting}
+use Rattle.proc_model.specs.Signals.{with_signal}
+use Rattle.proc_model.specs.Attempts.{goes_on, refused_regs}
+use Rattle.proc_model.specs.Delivery.{frame_bytes, stack_top, has_no_room, interrupted, interrupted_regs, routine_begun, routine_regs, with_frame}
+use Rattle.proc_model.specs.Processes.{Processes, cells_at, regs_at, with_memory, with_records, with_regs_of}
+use Rattle.proc_model.specs.UserBytes.{user_bytes}
 use Rattle.proc_state.specs.Delivery.{frame_place}
 use Rattle.proc_state.proofs.UserBytes.{user_bytes-fits, user_bytes-None}
 

@@ -6,10 +6,10 @@ use Rattle.std.proofs.lemmas.List.{length-replicate}
 use Rattle.std.proofs.lemmas.Option.{none-some, same_Some}
 use Rattle.os9_sched.specs.declared.member.Member.{Member}
 use Rattle.proc_model.specs.ModuleList.{ModuleEntry}
-use Rattle.proc_rules.specs.declared.own.Own.{Own}
-use Rattle.proc_rules.specs.declared.record.Record.{Record}
-use Rattle.proc_rules.specs.Records.{AreRecords, IsLiving, record_passes, has_ended}
-use Rattle.proc_rules.specs.Processes.{no_own}
+use Rattle.proc_model.specs.declared.own.Own.{Own}
+use Rattle.proc_model.specs.declared.record.Record.{Record}
+use Rattle.proc_model.specs.Records.{AreRecords, IsLiving, record_passes, has_ended}
+use Rattle.proc_model.specs.Processes.{no_own}
 use Rattle.proc_state.specs.Sound.{AreTurns, ArePrimaries}
 
 nothing : {X : Type 0} (n p : ℕ) → get_or {A = Option X} (replicate n None) p None ≡ None

@@ -6,8 +6,8 @@ use Rattle.std.proofs.lemmas.List.Quantifiers.{position-Some}
 use Rattle.std.proofs.lemmas.Option.{none-some, same_Some}
 use Rattle.os9_sched.specs.Members.{member_of}
 use Rattle.os9_sched.specs.Schedule.{Schedule}
-use Rattle.proc_rules.specs.declared.record.Record.{Record}
-use Rattle.proc_rules.specs.Records.{free_process, record_of, record_passes, has_ended}
+use Rattle.proc_model.specs.declared.record.Record.{Record}
+use Rattle.proc_model.specs.Records.{free_process, record_of, record_passes, has_ended}
 use Rattle.proc_state.specs.Sound.{AreTurns}
 
 is_nothing : {X : Type 0} (place : Option X) → is_none place ≡ true → place ≡ None

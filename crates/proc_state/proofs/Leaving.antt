@@ -8,9 +8,9 @@ use Rattle.os9_sched.specs.declared.member.Member.{Member}
 use Rattle.os9_sched.specs.declared.member.Standing.TheVariants.{Going}
 use Rattle.os9_sched.specs.Members.{member_of, wait_at}
 use Rattle.os9_sched.specs.Schedule.{Schedule, after_remove}
-use Rattle.proc_rules.specs.declared.record.Record.{Record}
-use Rattle.proc_rules.specs.Ends.{is_child, ended_record, orphaned, after_exit}
-use Rattle.proc_rules.specs.Records.{IsLiving, is_living, is_waiting, record_of, record_at, record_passes, has_ended, new_record}
+use Rattle.proc_model.specs.declared.record.Record.{Record}
+use Rattle.proc_model.specs.Ends.{is_child, ended_record, orphaned, after_exit}
+use Rattle.proc_model.specs.Records.{IsLiving, is_living, is_waiting, record_of, record_at, record_passes, has_ended, new_record}
 use Rattle.proc_state.specs.Sound.{AreTurns}
 use Rattle.proc_state.proofs.Living.{place-living}
 

@@ -2,8 +2,8 @@
 use Rattle.std.proofs.Common.{◌≡◌, ℕ, ◌<◌, ◌≤◌, Option, None, List, length, sym, ap, ◌∙◌, arith, inl, inr, ◌⊎◌}
 use Rattle.std.proofs.lemmas.List.{get_or_past}
 use Rattle.std.proofs.lemmas.Bool.{false≢true, cases_lt}
-use Rattle.proc_rules.specs.declared.record.Record.{Record}
-use Rattle.proc_rules.specs.Records.{IsLiving, IsProcess, AreRecords, record_of, record_passes}
+use Rattle.proc_model.specs.declared.record.Record.{Record}
+use Rattle.proc_model.specs.Records.{IsLiving, IsProcess, AreRecords, record_of, record_passes}
 
 -- a process without a record does not live
 no_life : (records : List (Option Record)) (p : ℕ) → record_of records p ≡ None → IsLiving records p → ⊥

@@ -3,10 +3,10 @@ use Rattle.std.proofs.Common.{◌≡◌, ℕ, suc, ◌+◌, ◌<◌, ◌==◌, c
 use Rattle.std.proofs.lemmas.Bool.Decides.{nat_tests}
 use Rattle.std.proofs.lemmas.Grind.{common_steps}
 use Rattle.std.proofs.lemmas.List.Sums.{sum_by-cons, sum_by-set}
-use Rattle.proc_rules.specs.declared.record.Record.{Record}
-use Rattle.proc_rules.specs.declared.turn.Turn.{Turn}
-use Rattle.proc_rules.specs.Records.{has_ended, is_living, record_passes}
-use Rattle.proc_rules.specs.Turns.{AreOnce, has_turn}
+use Rattle.proc_model.specs.declared.record.Record.{Record}
+use Rattle.proc_model.specs.declared.turn.Turn.{Turn}
+use Rattle.proc_model.specs.Records.{has_ended, is_living, record_passes}
+use Rattle.proc_model.specs.Turns.{AreOnce, has_turn}
 use Rattle.proc_state.specs.First.{living_count}
 use Rattle.proc_state.proofs.Living.{place-living}
 

@@ -5,13 +5,13 @@ use Rattle.std.specs.List.{prefix_len}
 use Rattle.std.proofs.lemmas.List.{length-set}
 use Rattle.os9_base.specs.declared.calls.TheConstants.{F_WAIT, F_SLEEP}
 use Rattle.os9_base.specs.declared.registers.Regs.{Regs}
-use Rattle.proc_rules.specs.Ends.{is_ended_child}
-use Rattle.proc_rules.specs.declared.record.Record.{Record}
-use Rattle.proc_rules.specs.Records.{IsLiving, has_ended, is_waiting, new_record, record_at, record_of, record_passes, with_regs}
-use Rattle.proc_rules.specs.Processes.{Processes, own_at}
-use Rattle.proc_rules.specs.Ready.{is_ready}
-use Rattle.proc_rules.specs.Send.{is_call}
-use Rattle.proc_rules.specs.Sleep.{may_wake}
+use Rattle.proc_model.specs.Ends.{is_ended_child}
+use Rattle.proc_model.specs.declared.record.Record.{Record}
+use Rattle.proc_model.specs.Records.{IsLiving, has_ended, is_waiting, new_record, record_at, record_of, record_passes, with_regs}
+use Rattle.proc_model.specs.Processes.{Processes, own_at}
+use Rattle.proc_model.specs.Ready.{is_ready}
+use Rattle.proc_model.specs.Send.{is_call}
+use Rattle.proc_model.specs.Sleep.{may_wake}
 
 -- a place changes without a change of what is asked of it
 place-same : {X Y : Type 0} (ask : X → Y) (xs : List X) (n : ℕ) (y d : X) (q : ℕ) → ask y ≡ ask (get_or xs n d) → ask (get_or (slice_set xs n y) q d) ≡ ask (get_or xs q d)

@@ -5,9 +5,9 @@ use Rattle.std.proofs.lemmas.List.Elements.{All-set, All-replicate}
 use Rattle.std.proofs.lemmas.Option.{none-some}
 use Rattle.std.specs.Option.{ForSome}
 use Rattle.proc_model.specs.ModuleList.{ModuleEntry}
-use Rattle.proc_rules.specs.declared.own.Own.{Own}
-use Rattle.proc_rules.specs.Processes.{no_own}
-use Rattle.proc_rules.specs.ModuleLinks.{still_primary}
+use Rattle.proc_model.specs.declared.own.Own.{Own}
+use Rattle.proc_model.specs.Processes.{no_own}
+use Rattle.proc_model.specs.ModuleLinks.{still_primary}
 use Rattle.proc_state.specs.Sound.{AreSleeps}
 
 -- no sleep ends later than it did

@@ -5,7 +5,7 @@ use Rattle.std.proofs.lemmas.Bool.{cases_lt, cond-true, cond-false, lt-ltb, le-l
 use Rattle.std.proofs.lemmas.Option.{none-some}
 use Rattle.os9_base.specs.Cells.{Cells, FitsIn, Holds}
 use Rattle.os9_base.specs.UserNames.{user_cell}
-use Rattle.proc_rules.specs.UserBytes.{user_bytes, byte_before}
+use Rattle.proc_model.specs.UserBytes.{user_bytes, byte_before}
 use Rattle.guest_memory.specs.declared.memory.Memory.{Memory}
 use Rattle.guest_memory.specs.Tie.{IsSame}
 

@@ -2,8 +2,8 @@
 use Rattle.std.specs.Prelude.{ℕ, ◌-◌, Option, Some, None, Result, Ok, Err, if◌then◌else◌}
 use Rattle.os9_base.specs.declared.call.CallEnd.{CallEnd}
 use Rattle.os9_base.specs.declared.call.CallEnd.TheVariants.{Done, Ended}
-use Rattle.proc_rules.specs.Delivery.{stack_top, has_no_room}
-use Rattle.proc_rules.specs.Processes.{Processes}
+use Rattle.proc_model.specs.Delivery.{stack_top, has_no_room}
+use Rattle.proc_model.specs.Processes.{Processes}
 
 -- how a delivery ends: the routine has begun, or the process has ended
 abbrev pub delivery_end : Result Processes ℕ → CallEnd

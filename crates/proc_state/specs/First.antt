@@ -2,9 +2,9 @@
 use Rattle.std.specs.Prelude.{ℕ, Option, None, List, [], replicate, count_by, not}
 use Rattle.os9_base.specs.declared.limits.TheConstants.{PROCESS_PLACES}
 use Rattle.proc_model.specs.Memory.{first_memory}
-use Rattle.proc_rules.specs.declared.record.Record.{Record}
-use Rattle.proc_rules.specs.Records.{record_passes, has_ended}
-use Rattle.proc_rules.specs.Processes.{Processes, no_own}
+use Rattle.proc_model.specs.declared.record.Record.{Record}
+use Rattle.proc_model.specs.Records.{record_passes, has_ended}
+use Rattle.proc_model.specs.Processes.{Processes, no_own}
 
 -- the state of a machine with this number of blocks, without processes, before the first slice
 abbrev pub first_processes : ℕ → Processes

@@ -1,7 +1,7 @@
 -- Which processes are Ready, by the kernel's data.
 use Rattle.std.specs.Prelude.{ℕ, Bool}
 use Rattle.proc_model.specs.Memory.{first_memory}
-use Rattle.proc_rules.specs.Ready.{is_ready}
+use Rattle.proc_model.specs.Ready.{is_ready}
 use Rattle.proc_state.specs.Tie.{processes_of}
 use Rattle.proc_state.specs.declared.state.ProcState.{ProcState}
 

@@ -3,9 +3,9 @@ use Rattle.std.specs.Prelude.{◌≡◌, ℕ, ◌+◌, ◌≤◌, Option, Some, 
 use Rattle.std.specs.Option.{ForSome}
 use Rattle.proc_model.specs.declared.module.ModId.{ModId}
 use Rattle.proc_model.specs.ModuleList.{ModuleEntry, module_entry_at}
-use Rattle.proc_rules.specs.declared.own.Own.{Own}
-use Rattle.proc_rules.specs.declared.record.Record.{Record}
-use Rattle.proc_rules.specs.Records.{IsLiving, is_living, is_waiting, record_at}
+use Rattle.proc_model.specs.declared.own.Own.{Own}
+use Rattle.proc_model.specs.declared.record.Record.{Record}
+use Rattle.proc_model.specs.Records.{IsLiving, is_living, is_waiting, record_at}
 use Rattle.os9_sched.specs.Members.{member_of, priority_in, wait_at}
 use Rattle.os9_sched.specs.Schedule.{Schedule}
 

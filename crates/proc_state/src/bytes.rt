@@ -3,8 +3,8 @@
 ghost use Rattle.std.specs.Prelude.{◌≡◌, ◌<◌, ◌≤◌, ◌↔◌, IsTrue, IfSome, is_some, option_map, length, take};
 ghost use Rattle.std.specs.Bool.{OnTrue};
 ghost use Rattle.os9_base.specs.Cells.{FitsIn};
-ghost use Rattle.proc_rules.specs.Processes.{Processes, cells_at};
-ghost use Rattle.proc_rules.specs.UserBytes.{user_bytes};
+ghost use Rattle.proc_model.specs.Processes.{Processes, cells_at};
+ghost use Rattle.proc_model.specs.UserBytes.{user_bytes};
 ghost use Rattle.os9_base.specs.UserLines.{line_at};
 ghost use Rattle.guest_memory.specs.Tie.{IsSame as IsSameMemory, cells_of};
 ghost use Rattle.proc_state.specs.Tie.{Represents, IsSame, bytes_read};

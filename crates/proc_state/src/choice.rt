@@ -2,10 +2,10 @@
 
 ghost use Rattle.std.specs.Prelude.{◌≡◌, ◌≢◌, ◌<◌, ℕ, Bool, IfSome};
 ghost use Rattle.os9_sched.specs.Members.{is_active_in};
-ghost use Rattle.proc_rules.specs.Records.{IsLiving};
-ghost use Rattle.proc_rules.specs.Choice.{choice_of, after_choice};
-ghost use Rattle.proc_rules.specs.Processes.{Processes};
-ghost use Rattle.proc_rules.specs.IoReady.{has_io};
+ghost use Rattle.proc_model.specs.Records.{IsLiving};
+ghost use Rattle.proc_model.specs.Choice.{choice_of, after_choice};
+ghost use Rattle.proc_model.specs.Processes.{Processes};
+ghost use Rattle.proc_model.specs.IoReady.{has_io};
 ghost use Rattle.proc_state.specs.Ready.{ready_at};
 ghost use Rattle.proc_state.specs.Tie.{Represents};
 ghost use Rattle.proc_state.specs.Active.{AreActiveAt};
@@ -13,8 +13,8 @@ ghost use Rattle.proc_state.specs.Active.{AreActiveAt};
 use crate::state::ProcState;
 use os9_base::limits::PROCESS_PLACES;
 use os9_base::registers::Pid;
-use proc_rules::io_ready::IoReady;
-use proc_rules::record::Life;
+use proc_model::io_ready::IoReady;
+use proc_model::record::Life;
 
 /// Chooses the active process of greatest age, among equals the one that was chosen longest ago;
 /// None if no process is active. If exactly the Ready ones are active, this is the choice of the

@@ -4,13 +4,13 @@ ghost use Rattle.std.specs.Prelude.{◌≡◌, ℕ, ◌+◌, ◌<◌, ◌≤◌,
 ghost use Rattle.std.specs.Option.{ForSome};
 ghost use Rattle.guest_memory.specs.Tie.{modules_of};
 ghost use Rattle.proc_model.specs.ModuleList.{module_entry_at};
-ghost use Rattle.proc_rules.specs.Records.{IsLiving, IsProcess};
-ghost use Rattle.proc_rules.specs.Processes.{Processes, no_own, own_at, regs_at, with_regs_of, with_own};
+ghost use Rattle.proc_model.specs.Records.{IsLiving, IsProcess};
+ghost use Rattle.proc_model.specs.Processes.{Processes, no_own, own_at, regs_at, with_regs_of, with_own};
 ghost use Rattle.proc_state.specs.Tie.{Represents};
 
 use crate::state::ProcState;
 use os9_base::registers::{Pid, Regs};
-use proc_rules::own::Own;
+use proc_model::own::Own;
 
 impl ProcState {
     /// The registers as the next instruction of a process finds them.

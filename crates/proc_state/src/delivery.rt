@@ -4,10 +4,10 @@ ghost use Rattle.std.specs.Prelude.{◌≡◌, ◌<◌, ℕ, IfSome, IsSome, Som
 ghost use Rattle.guest_memory.specs.Tie.{cells_of};
 ghost use Rattle.os9_base.specs.Cells.{FitsIn};
 ghost use Rattle.proc_model.specs.MemoryChanges.{stored};
-ghost use Rattle.proc_rules.specs.Records.{IsLiving, record_at};
-ghost use Rattle.proc_rules.specs.Signals.{with_signal};
-ghost use Rattle.proc_rules.specs.Delivery.{frame_bytes as frame_bytes_model, interrupted_regs as interrupted_regs_model, interrupted, routine_begun, routine_regs as routine_regs_model, with_frame, delivered, after_delivery};
-ghost use Rattle.proc_rules.specs.Processes.{Processes, with_memory, with_records};
+ghost use Rattle.proc_model.specs.Records.{IsLiving, record_at};
+ghost use Rattle.proc_model.specs.Signals.{with_signal};
+ghost use Rattle.proc_model.specs.Delivery.{frame_bytes as frame_bytes_model, interrupted_regs as interrupted_regs_model, interrupted, routine_begun, routine_regs as routine_regs_model, with_frame, delivered, after_delivery};
+ghost use Rattle.proc_model.specs.Processes.{Processes, with_memory, with_records};
 ghost use Rattle.proc_state.specs.Delivery.{delivery_end, frame_place as frame_place_model};
 ghost use Rattle.proc_state.specs.Tie.{Represents, IsSame};
 
@@ -16,7 +16,7 @@ use crate::state::ProcState;
 use os9_base::call::CallEnd;
 use os9_base::errors::E_PRCABT;
 use os9_base::registers::{Pid, Regs};
-use proc_rules::record::Intercept;
+use proc_model::record::Intercept;
 
 impl ProcState {
     /// Delivers the pending signal of a process. Returns `Done` if the routine of its intercept

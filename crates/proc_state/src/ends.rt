@@ -4,15 +4,15 @@ ghost use Rattle.std.specs.Prelude.{◌≡◌, IsSome};
 ghost use Rattle.std.specs.Option.{ForSome};
 ghost use Rattle.guest_memory.specs.Tie.{modules_of};
 ghost use Rattle.proc_model.specs.ModuleList.{module_entry_at};
-ghost use Rattle.proc_rules.specs.Records.{IsLiving};
-ghost use Rattle.proc_rules.specs.End.{ended, without_process};
-ghost use Rattle.proc_rules.specs.Processes.{Processes, no_own};
-ghost use Rattle.proc_rules.specs.ModuleLinks.{without_primary_link};
+ghost use Rattle.proc_model.specs.Records.{IsLiving};
+ghost use Rattle.proc_model.specs.End.{ended, without_process};
+ghost use Rattle.proc_model.specs.Processes.{Processes, no_own};
+ghost use Rattle.proc_model.specs.ModuleLinks.{without_primary_link};
 ghost use Rattle.proc_state.specs.Tie.{Represents};
 
 use crate::state::ProcState;
 use os9_base::registers::Pid;
-use proc_rules::own::Own;
+use proc_model::own::Own;
 
 /// The data of a process that does not exist.
 pub(crate) const NO_OWN: Own = Own {

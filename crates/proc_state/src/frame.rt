@@ -1,11 +1,11 @@
 //! The frame of a delivery, and the registers before and after it.
 
 ghost use Rattle.std.specs.Prelude.{◌≡◌, ◌/◌, ◌%◌};
-ghost use Rattle.proc_rules.specs.Attempts.{refused_regs as refused_regs_model};
-ghost use Rattle.proc_rules.specs.Delivery.{frame_bytes as frame_bytes_model, routine_regs as routine_regs_model, stack_top as stack_top_model};
+ghost use Rattle.proc_model.specs.Attempts.{refused_regs as refused_regs_model};
+ghost use Rattle.proc_model.specs.Delivery.{frame_bytes as frame_bytes_model, routine_regs as routine_regs_model, stack_top as stack_top_model};
 
 use os9_base::registers::Regs;
-use proc_rules::record::Intercept;
+use proc_model::record::Intercept;
 
 /// The size of a frame in bytes.
 pub const FRAME_BYTES: u16 = 12;

@@ -3,15 +3,15 @@
 ghost use Rattle.std.specs.Prelude.{◌≡◌, IsSome, map};
 ghost use Rattle.guest_memory.specs.Tie.{modules_of};
 ghost use Rattle.proc_model.specs.ModuleList.{module_entry_at};
-ghost use Rattle.proc_rules.specs.Processes.{Processes};
-ghost use Rattle.proc_rules.specs.ModuleLinks as model;
-ghost use Rattle.proc_rules.specs.ModuleLinks.{without_module_link};
+ghost use Rattle.proc_model.specs.Processes.{Processes};
+ghost use Rattle.proc_model.specs.ModuleLinks as model;
+ghost use Rattle.proc_model.specs.ModuleLinks.{without_module_link};
 ghost use Rattle.proc_state.specs.Tie.{Represents};
 
 use crate::state::ProcState;
 use module_dir::Dir;
 use proc_model::module::ModId;
-use proc_rules::own::Own;
+use proc_model::own::Own;
 
 impl ProcState {
     /// Gives up one link of an entered module, if it has one (F$UnLink, F$UnLoad). If its group

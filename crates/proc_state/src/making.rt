@@ -1,8 +1,8 @@
 //! The beginning of a process.
 
 ghost use Rattle.std.specs.Prelude.{◌≡◌, ℕ, IfNone, IfSome, option_map};
-ghost use Rattle.proc_rules.specs.Records.{IsLiving, free_process};
-ghost use Rattle.proc_rules.specs.Processes.{Processes};
+ghost use Rattle.proc_model.specs.Records.{IsLiving, free_process};
+ghost use Rattle.proc_model.specs.Processes.{Processes};
 ghost use Rattle.proc_state.specs.Beginning.{with_made};
 ghost use Rattle.proc_state.specs.Tie.{Represents};
 

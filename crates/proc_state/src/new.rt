@@ -1,7 +1,7 @@
 //! The processes of a machine before the first one begins, and the number of living ones.
 
 ghost use Rattle.std.specs.Prelude.{◌≡◌, ◌≤◌, IfOk, replicate, vec_len};
-ghost use Rattle.proc_rules.specs.Processes.{Processes, no_own};
+ghost use Rattle.proc_model.specs.Processes.{Processes, no_own};
 ghost use Rattle.proc_state.specs.First.{first_processes, living_count};
 ghost use Rattle.proc_state.specs.Tie.{Represents};
 
@@ -11,7 +11,7 @@ use guest_memory::memory::Memory;
 use os9_base::call::OutOfMemory;
 use os9_base::limits::PROCESS_PLACES;
 use os9_sched::Sched;
-use proc_rules::own::Own;
+use proc_model::own::Own;
 use process_table::Table;
 use std::alloc::{AllocError, Global};
 

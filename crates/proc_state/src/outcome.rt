@@ -1,8 +1,8 @@
 //! How a call ends.
 
 ghost use Rattle.std.specs.Prelude.{◌≡◌, ℕ};
-ghost use Rattle.proc_rules.specs.CallResult.{CallResult};
-ghost use Rattle.proc_rules.specs.Processes.{Processes};
+ghost use Rattle.proc_model.specs.CallResult.{CallResult};
+ghost use Rattle.proc_model.specs.Processes.{Processes};
 ghost use Rattle.proc_state.specs.declared.state.ProcState.{ProcState};
 ghost use Rattle.proc_state.specs.Tie.{Answers, Comes, end_of};
 

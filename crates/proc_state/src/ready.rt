@@ -1,13 +1,13 @@
 //! Who is Ready (Level Two manual, process scheduling).
 
 ghost use Rattle.std.specs.Prelude.{◌≡◌, ◌<◌, is_some, length};
-ghost use Rattle.proc_rules.specs.Records.{record_of, record_passes};
-ghost use Rattle.proc_rules.specs.Ends.{ended_child, is_ended_child as is_ended_child_model};
-ghost use Rattle.proc_rules.specs.Processes.{Processes, own_at, no_own};
-ghost use Rattle.proc_rules.specs.IoReady.{has_io};
-ghost use Rattle.proc_rules.specs.Ready.{is_ready, may_go_on as may_go_on_model};
-ghost use Rattle.proc_rules.specs.Send.{is_call as is_call_model};
-ghost use Rattle.proc_rules.specs.Sleep.{may_wake as may_wake_model};
+ghost use Rattle.proc_model.specs.Records.{record_of, record_passes};
+ghost use Rattle.proc_model.specs.Ends.{ended_child, is_ended_child as is_ended_child_model};
+ghost use Rattle.proc_model.specs.Processes.{Processes, own_at, no_own};
+ghost use Rattle.proc_model.specs.IoReady.{has_io};
+ghost use Rattle.proc_model.specs.Ready.{is_ready, may_go_on as may_go_on_model};
+ghost use Rattle.proc_model.specs.Send.{is_call as is_call_model};
+ghost use Rattle.proc_model.specs.Sleep.{may_wake as may_wake_model};
 ghost use Rattle.proc_model.specs.Memory.{first_memory};
 ghost use Rattle.proc_state.specs.Ready.{ready_at};
 ghost use Rattle.proc_state.specs.Tie.{Represents, processes_of};
@@ -16,9 +16,9 @@ use crate::state::ProcState;
 use os9_base::calls::{F_SLEEP, F_WAIT};
 use os9_base::limits::PROCESS_PLACES;
 use os9_base::registers::Pid;
-use proc_rules::io_ready::IoReady;
-use proc_rules::own::Own;
-use proc_rules::record::Life;
+use proc_model::io_ready::IoReady;
+use proc_model::own::Own;
+use proc_model::record::Life;
 use process_table::Table;
 
 impl ProcState {

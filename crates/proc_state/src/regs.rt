@@ -1,8 +1,8 @@
 //! Registers of a process that change while it is chosen.
 
 ghost use Rattle.std.specs.Prelude.{◌≡◌, ℕ, Bool};
-ghost use Rattle.proc_rules.specs.Processes.{Processes, with_regs_of};
-ghost use Rattle.proc_rules.specs.Records.{IsLiving};
+ghost use Rattle.proc_model.specs.Processes.{Processes, with_regs_of};
+ghost use Rattle.proc_model.specs.Records.{IsLiving};
 ghost use Rattle.proc_state.specs.Tie.{Represents};
 ghost use Rattle.proc_state.specs.Active.{AreActiveAt};
 

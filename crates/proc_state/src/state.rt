@@ -1,12 +1,12 @@
 ghost use Rattle.std.specs.Prelude.{◌≡◌, ◌≤◌, IfOk, vec_len};
 ghost use Rattle.guest_memory.specs.Tie.{modules_of};
 ghost use Rattle.os9_base.specs.declared.limits.TheConstants.{LAST_TICK, PROCESS_PLACES};
-ghost use Rattle.proc_rules.specs.Records.{AreRecords};
+ghost use Rattle.proc_model.specs.Records.{AreRecords};
 ghost use Rattle.proc_state.specs.Sound.{AreTurns, ArePrimaries, AreSleeps};
 
 use guest_memory::memory::Memory;
 use os9_sched::Sched;
-use proc_rules::own::Own;
+use proc_model::own::Own;
 use process_table::Table;
 
 /// The processes of the machine.

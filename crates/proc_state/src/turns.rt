@@ -1,10 +1,10 @@
 //! Calls that end or wait.
 
 ghost use Rattle.std.specs.Prelude.{◌≡◌, Some, true, false};
-ghost use Rattle.proc_rules.specs.Records.{IsLiving, record_at, is_waiting, with_waiting};
-ghost use Rattle.proc_rules.specs.Attempts as model;
-ghost use Rattle.proc_rules.specs.Attempts.{done_regs, goes_on, waiting};
-ghost use Rattle.proc_rules.specs.Processes.{Processes, regs_at, with_records};
+ghost use Rattle.proc_model.specs.Records.{IsLiving, record_at, is_waiting, with_waiting};
+ghost use Rattle.proc_model.specs.Attempts as model;
+ghost use Rattle.proc_model.specs.Attempts.{done_regs, goes_on, waiting};
+ghost use Rattle.proc_model.specs.Processes.{Processes, regs_at, with_records};
 ghost use Rattle.os9_sched.specs.Schedule.{after_wait};
 ghost use Rattle.proc_state.specs.Tie.{Represents};
 
@@ -12,8 +12,8 @@ use crate::frame::refused_regs;
 use crate::state::ProcState;
 use os9_base::registers::{Pid, Regs};
 use os9_sched::Cause;
-use proc_rules::own::Own;
-use proc_rules::record::Life;
+use proc_model::own::Own;
+use proc_model::record::Life;
 
 impl ProcState {
     /// The call of a process is done: carry is clear, and the process goes on.

@@ -1,7 +1,7 @@
 //! The process table: the records of the processes, their parents, users, registers and signals.
 #![tactic(auto)]
 
-pub use proc_rules::record::{Life, Reap, SendFault};
+pub use proc_model::record::{Life, Reap, SendFault};
 pub use table::Table;
 
 mod list;

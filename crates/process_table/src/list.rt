@@ -1,11 +1,11 @@
 ghost use Rattle.std.specs.Prelude.{◌≡◌, None, option_map, IfOk, IfSome, IsSome, length, map, replicate};
-ghost use Rattle.proc_rules.specs.Records.{IsProcess, free_process as free_process_model, record_of};
-ghost use Rattle.proc_rules.specs.Ends.{has_child as has_child_model, ended_child as ended_child_model, orphaned as orphaned_model};
+ghost use Rattle.proc_model.specs.Records.{IsProcess, free_process as free_process_model, record_of};
+ghost use Rattle.proc_model.specs.Ends.{has_child as has_child_model, ended_child as ended_child_model, orphaned as orphaned_model};
 
 use crate::places::{is_child, is_ended_child, orphaned};
 use os9_base::limits::PROCESS_PLACES;
 use os9_base::registers::Pid;
-use proc_rules::record::Record;
+use proc_model::record::Record;
 use std::alloc::{AllocError, Global};
 
 /// The least number that a process has.

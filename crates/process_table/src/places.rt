@@ -1,9 +1,9 @@
 ghost use Rattle.std.specs.Prelude.{◌≡◌};
-ghost use Rattle.proc_rules.specs.Records.{record_passes, new_record as new_record_model};
-ghost use Rattle.proc_rules.specs.Ends.{is_child as is_child_model, is_ended_child as is_ended_child_model, orphaned as orphaned_model, ended_record as ended_record_model};
+ghost use Rattle.proc_model.specs.Records.{record_passes, new_record as new_record_model};
+ghost use Rattle.proc_model.specs.Ends.{is_child as is_child_model, is_ended_child as is_ended_child_model, orphaned as orphaned_model, ended_record as ended_record_model};
 
 use os9_base::registers::{Pid, Regs};
-use proc_rules::record::{Life, Record};
+use proc_model::record::{Life, Record};
 
 /// The parent number that means no process.
 const NO_PARENT: Pid = Pid(0);

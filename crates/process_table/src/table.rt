@@ -1,16 +1,16 @@
 ghost use Rattle.std.specs.Prelude.{◌≡◌, ◌<◌, IsSome, IfOk, IfSome, Some, None, option_map, is_some, map, replicate, slice_set};
 ghost use Rattle.std.specs.Result.{result_err};
-ghost use Rattle.proc_rules.specs.Records as model;
-ghost use Rattle.proc_rules.specs.Records.{IsLiving, AreRecords, record_of, record_at, after_make, with_user, with_priority, with_regs, with_waiting, IsProcess};
-ghost use Rattle.proc_rules.specs.Ends.{reaped, after_reap, after_exit, orphaned, end_status};
-ghost use Rattle.proc_rules.specs.Signals.{is_reached, send_fault, after_send, intercept_of, with_intercept, with_signal};
+ghost use Rattle.proc_model.specs.Records as model;
+ghost use Rattle.proc_model.specs.Records.{IsLiving, AreRecords, record_of, record_at, after_make, with_user, with_priority, with_regs, with_waiting, IsProcess};
+ghost use Rattle.proc_model.specs.Ends.{reaped, after_reap, after_exit, orphaned, end_status};
+ghost use Rattle.proc_model.specs.Signals.{is_reached, send_fault, after_send, intercept_of, with_intercept, with_signal};
 
 use crate::list::{empty_places, ended_child, free_process, has_child, orphan};
 use crate::places::{ended, new_record};
 use os9_base::call::OutOfMemory;
 use os9_base::limits::PROCESS_PLACES;
 use os9_base::registers::{Pid, Regs};
-use proc_rules::record::{Intercept, Life, Reap, Record, SendFault};
+use proc_model::record::{Intercept, Life, Reap, Record, SendFault};
 use std::alloc::Global;
 use std::marker::Model;
 
@@ -28,8 +28,8 @@ pub struct Table {
 
 impl Model for Table {
     ghost use Rattle.std.specs.Prelude.{List, Option};
-    ghost use Rattle.proc_rules.specs.declared.record.Record.{Record};
-    ghost use Rattle.proc_rules.specs.Records.{AreRecords};
+    ghost use Rattle.proc_model.specs.declared.record.Record.{Record};
+    ghost use Rattle.proc_model.specs.Records.{AreRecords};
 
     ghost Value = { List (Option Record) };
 

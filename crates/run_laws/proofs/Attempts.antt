@@ -3,9 +3,9 @@ use Rattle.std.proofs.Common.{◌≡◌, ℕ, Option, List, length, refl, ap, �
 use Rattle.std.specs.Prelude.{Some, slice_set}
 use Rattle.os9_base.specs.declared.registers.TimePacket.{TimePacket}
 use Rattle.os9_outer.specs.TerminalState.{TerminalState}
-use Rattle.proc_rules.specs.CallResult.{CallResult, done, refused, waits, ends}
-use Rattle.proc_rules.specs.Processes.{Processes}
-use Rattle.proc_rules.specs.declared.proc_call.ProcCall.TheVariants as Call
+use Rattle.proc_model.specs.CallResult.{CallResult, done, refused, waits, ends}
+use Rattle.proc_model.specs.Processes.{Processes}
+use Rattle.proc_model.specs.declared.proc_call.ProcCall.TheVariants as Call
 use Rattle.rbf_model.specs.Volume.{DiskVolume}
 use Rattle.file_rules.specs.Attempts.{FileAttempts, asker_of, file_step}
 use Rattle.file_rules.specs.Files.{Asker, Files}

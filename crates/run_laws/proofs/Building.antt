@@ -3,12 +3,12 @@ use Rattle.std.proofs.Common.{◌≡◌, ℕ, zero, suc, ◌+◌, ◌-◌, ◌*�
 use Rattle.std.specs.Prelude.{IfSome, MatchBool, MatchOption, option_map, ◌&&◌}
 use Rattle.os9_base.specs.declared.registers.Pid.{Pid}
 use Rattle.os9_outer.specs.TerminalState.{TerminalState, fault_counts}
-use Rattle.proc_rules.specs.Records.{IsLiving, is_living}
-use Rattle.proc_rules.specs.Turns.{IsToChoose}
-use Rattle.proc_rules.proofs.EldestLaws.{chosen_if}
-use Rattle.proc_rules.specs.Choice.{after_choice, choice_of}
-use Rattle.proc_rules.specs.Processes.{Processes}
-use Rattle.proc_rules.specs.Ready.{Act, act_of, attempts, delivers, executes, is_ready}
+use Rattle.proc_model.specs.Records.{IsLiving, is_living}
+use Rattle.proc_model.specs.Turns.{IsToChoose}
+use Rattle.proc_model.proofs.EldestLaws.{chosen_if}
+use Rattle.proc_model.specs.Choice.{after_choice, choice_of}
+use Rattle.proc_model.specs.Processes.{Processes}
+use Rattle.proc_model.specs.Ready.{Act, act_of, attempts, delivers, executes, is_ready}
 use Rattle.file_rules.specs.Locking.{files_may_go}
 use Rattle.machine_model.specs.Console.{console_bytes, terminals_emptied}
 use Rattle.machine_model.specs.ProcessEvent.{cost_of}

@@ -10,15 +10,15 @@ use Rattle.proc_model.specs.MemoryChanges.{new_numbers}
 use Rattle.proc_model.specs.ModuleList.{ModuleEntry}
 use Rattle.proc_model.specs.Objects.{file_blocks}
 use Rattle.proc_model.proofs.LoadingLemmas.{Enters-some}
-use Rattle.proc_rules.specs.Attempts.{attempted}
-use Rattle.proc_rules.specs.CallResult.{CallResult, done, ends, refused, waits}
-use Rattle.proc_rules.specs.Chain.{f_chain}
-use Rattle.proc_rules.specs.Fork.{f_fork}
-use Rattle.proc_rules.specs.Processes.{Processes}
-use Rattle.proc_rules.specs.ModuleLinks.{Entered}
-use Rattle.proc_rules.specs.Program.{Program}
-use Rattle.proc_rules.specs.declared.proc_call.ProcCall.TheVariants as Call
-use Rattle.io_rules.specs.Attempts.{result_of as io_result}
+use Rattle.proc_model.specs.Attempts.{attempted}
+use Rattle.proc_model.specs.CallResult.{CallResult, done, ends, refused, waits}
+use Rattle.proc_model.specs.Chain.{f_chain}
+use Rattle.proc_model.specs.Fork.{f_fork}
+use Rattle.proc_model.specs.Processes.{Processes}
+use Rattle.proc_model.specs.ModuleLinks.{Entered}
+use Rattle.proc_model.specs.Program.{Program}
+use Rattle.proc_model.specs.declared.proc_call.ProcCall.TheVariants as Call
+use Rattle.io_model.specs.Attempts.{result_of as io_result}
 use Rattle.file_rules.specs.Attempts.{asker_of, files_after, io_effect}
 use Rattle.file_rules.specs.Codes.{path_call_of}
 use Rattle.rbf_model.specs.Volume.{DiskVolume}

@@ -14,8 +14,8 @@ use Rattle.rbf_change.specs.Calls.{Changes, SizesFile, WritesFile, cluster_size,
 use Rattle.rbf_change.specs.Contents.{written}
 use Rattle.rbf_change.specs.Growth.{IsChoice, clusters_needed, with_clusters}
 use Rattle.rbf_change.specs.Names.{freed_entry, place_of}
-use Rattle.io_rules.specs.Attempts.{Does}
-use Rattle.io_rules.specs.Step.{IoEffect, IoEnd, IoStep, answers, fails}
+use Rattle.io_model.specs.Attempts.{Does}
+use Rattle.io_model.specs.Step.{IoEffect, IoEnd, IoStep, answers, fails}
 use Rattle.file_rules.specs.Change.{Change, FindsNoPlace, Makes, MayBeTooLong, writes, sizes, sets_attributes, creates, makes_directory, deletes}
 use Rattle.file_rules.specs.Files.{Asker, DriveState, Files, drive_at, volume_at}
 use Rattle.file_rules.specs.Step.{Deed, DoesDeed, FileDoes, FileEffect, FileStep, GoesWell, IsBroken, IsChanged, IsTooLong, VolumeChange, as_io, changes, deed_of, leaves_so, on_files, with_drives_after, with_volume_after}

@@ -11,7 +11,7 @@ use Rattle.os9_base.specs.declared.registers.Regs.{Regs}
 use Rattle.os9_outer.specs.Drive.{drive_error}
 use Rattle.os9_outer.specs.TerminalState.{TerminalState, fault_counts}
 use Rattle.os9_outer.specs.declared.drive.DriveFault.TheVariants.{NotReady}
-use Rattle.proc_rules.specs.UserBytes.{user_bytes}
+use Rattle.proc_model.specs.UserBytes.{user_bytes}
 use Rattle.rbf_model.specs.Volume.{DiskVolume}
 use Rattle.rbf_model.specs.Walk.{WalkEnd, arrives, look_up, not_allowed, not_found, walk}
 use Rattle.rbf_change.specs.Calls.{cluster_size, free_total}
@@ -27,21 +27,21 @@ use Rattle.lock_model.specs.declared.lock.Grant.{Grant}
 use Rattle.lock_model.specs.declared.lock.Grant.TheVariants.{Granted, Locked, Deadlock, Wait}
 use Rattle.lock_model.specs.declared.lock.Request.{Request}
 use Rattle.io_model.specs.Path.{new_number, paths_after_begin}
-use Rattle.io_rules.specs.Attempts.{io_step}
-use Rattle.io_rules.specs.Close.{i_close as closes_device}
-use Rattle.io_rules.specs.Io.{OpenPath, new_desc, open_path}
-use Rattle.io_rules.specs.Modes.{can_read, can_write, is_mode}
-use Rattle.io_rules.specs.Open.{opened_regs}
-use Rattle.io_rules.specs.PathList.{PathList}
-use Rattle.io_rules.specs.Pipes.{count_regs}
-use Rattle.io_rules.specs.Read.{i_read as reads_device, i_readln as reads_device_line}
-use Rattle.io_rules.specs.Status.{i_getstt as gets_of_device, i_setstt as sets_of_device, options}
-use Rattle.io_rules.specs.Step.{IoStep, answers, keeps, done as io_done, needs as io_needs, refused as io_refused}
-use Rattle.io_rules.specs.Write.{error_line, f_perr as tells_device, i_write as writes_device, i_writln as writes_device_line}
-use Rattle.io_rules.specs.declared.io_call.IoCall.{IoCall}
-use Rattle.io_rules.specs.declared.io_call.IoCall.TheVariants as Device
-use Rattle.io_rules.specs.declared.modes.TheConstants.{STANDARD_ERROR}
-use Rattle.io_rules.specs.declared.status.TheConstants.{OPTION_BYTES, SS_EOF, SS_OPT, SS_READY}
+use Rattle.io_model.specs.Attempts.{io_step}
+use Rattle.io_model.specs.Close.{i_close as closes_device}
+use Rattle.io_model.specs.Io.{OpenPath, new_desc, open_path}
+use Rattle.io_model.specs.Modes.{can_read, can_write, is_mode}
+use Rattle.io_model.specs.Open.{opened_regs}
+use Rattle.io_model.specs.PathList.{PathList}
+use Rattle.io_model.specs.Pipes.{count_regs}
+use Rattle.io_model.specs.Read.{i_read as reads_device, i_readln as reads_device_line}
+use Rattle.io_model.specs.Status.{i_getstt as gets_of_device, i_setstt as sets_of_device, options}
+use Rattle.io_model.specs.Step.{IoStep, answers, keeps, done as io_done, needs as io_needs, refused as io_refused}
+use Rattle.io_model.specs.Write.{error_line, f_perr as tells_device, i_write as writes_device, i_writln as writes_device_line}
+use Rattle.io_model.specs.declared.io_call.IoCall.{IoCall}
+use Rattle.io_model.specs.declared.io_call.IoCall.TheVariants as Device
+use Rattle.io_model.specs.declared.modes.TheConstants.{STANDARD_ERROR}
+use Rattle.io_model.specs.declared.status.TheConstants.{OPTION_BYTES, SS_EOF, SS_OPT, SS_READY}
 use Rattle.file_rules.specs.Attempts.{file_step}
 use Rattle.file_rules.specs.Change.{Change, creates, deletes, makes_directory, sets_attributes, sizes, writes}
 use Rattle.file_rules.specs.ChgDir.{goes_on_route, goes_to, may_go_to}

@@ -4,14 +4,14 @@ use Rattle.std.proofs.lemmas.Option.{same_Some}
 use Rattle.time_rules.proofs.Days.{same-packet}
 use Rattle.os9_base.specs.declared.registers.TimePacket.{TimePacket}
 use Rattle.os9_outer.specs.TerminalState.{TerminalState}
-use Rattle.proc_rules.specs.Attempts.{after_attempt}
-use Rattle.proc_rules.specs.Processes.{Processes}
-use Rattle.proc_rules.specs.CallResult.{CallResult, done, ends, refused, waits}
-use Rattle.proc_rules.specs.Ready.{Act, attempts, delivers, executes, act_of}
-use Rattle.proc_rules.specs.declared.proc_call.ProcCall.TheVariants as Call
-use Rattle.io_rules.specs.Arrivals.{Desk}
-use Rattle.io_rules.specs.Attempts.{result_by, result_of as io_result}
-use Rattle.io_rules.specs.Step.{IoEnd}
+use Rattle.proc_model.specs.Attempts.{after_attempt}
+use Rattle.proc_model.specs.Processes.{Processes}
+use Rattle.proc_model.specs.CallResult.{CallResult, done, ends, refused, waits}
+use Rattle.proc_model.specs.Ready.{Act, attempts, delivers, executes, act_of}
+use Rattle.proc_model.specs.declared.proc_call.ProcCall.TheVariants as Call
+use Rattle.io_model.specs.Arrivals.{Desk}
+use Rattle.io_model.specs.Attempts.{result_by, result_of as io_result}
+use Rattle.io_model.specs.Step.{IoEnd}
 use Rattle.file_rules.specs.Attempts.{asker_of, file_step, files_after, io_effect}
 use Rattle.file_rules.specs.Files.{DriveState, Files, with_io}
 use Rattle.file_rules.specs.Step.{FileEffect, FileStep, deed_of, drive_of, with_drives_after}

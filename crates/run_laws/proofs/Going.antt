@@ -6,19 +6,19 @@ use Rattle.std.proofs.lemmas.List.{get_or-set_same, get_or_past, length-set}
 use Rattle.os9_base.specs.declared.errors.TheConstants.{E_PRCABT}
 use Rattle.os9_base.specs.declared.registers.Regs.{Regs}
 use Rattle.cpu_model.specs.Step.{Outcome, Done, Calls, Aborts}
-use Rattle.proc_rules.specs.declared.own.Own.{Own}
-use Rattle.proc_rules.specs.declared.record.Intercept.{Intercept}
-use Rattle.proc_rules.specs.declared.record.Record.{Record}
-use Rattle.proc_rules.specs.Records.{IsLiving, record_at, record_passes, has_ended, is_waiting, with_record, with_regs}
-use Rattle.proc_rules.specs.Signals.{with_signal}
-use Rattle.proc_rules.specs.Attempts.{goes_on}
-use Rattle.proc_rules.specs.Delivery.{delivered, after_delivery, has_no_room, interrupted_regs, routine_begun, stack_top, with_frame}
-use Rattle.proc_rules.specs.Processes.{Processes, no_own, own_at, regs_at, with_own, with_records}
-use Rattle.proc_rules.specs.Ready.{Act, attempts, delivers, executes, act_of, next_act}
+use Rattle.proc_model.specs.declared.own.Own.{Own}
+use Rattle.proc_model.specs.declared.record.Intercept.{Intercept}
+use Rattle.proc_model.specs.declared.record.Record.{Record}
+use Rattle.proc_model.specs.Records.{IsLiving, record_at, record_passes, has_ended, is_waiting, with_record, with_regs}
+use Rattle.proc_model.specs.Signals.{with_signal}
+use Rattle.proc_model.specs.Attempts.{goes_on}
+use Rattle.proc_model.specs.Delivery.{delivered, after_delivery, has_no_room, interrupted_regs, routine_begun, stack_top, with_frame}
+use Rattle.proc_model.specs.Processes.{Processes, no_own, own_at, regs_at, with_own, with_records}
+use Rattle.proc_model.specs.Ready.{Act, attempts, delivers, executes, act_of, next_act}
 use Rattle.call_laws.proofs.OthersKept.{living-within, record-put}
 use Rattle.machine_model.specs.ProcessEvent.{after_instruction, broken_off, delivery_end, instruction_end}
 use Rattle.machine_model.specs.Run.{is_going}
-use Rattle.wait_laws.proofs.KeptEvents.{lives-runs}
+use Rattle.call_laws.proofs.KeptEvents.{lives-runs}
 
 -- ---- what a process does after an event, if it goes on
 

@@ -7,18 +7,18 @@ use Rattle.os9_base.specs.declared.registers.Pid.{Pid}
 use Rattle.os9_base.specs.declared.registers.TimePacket.{TimePacket}
 use Rattle.os9_outer.specs.TerminalState.{TerminalState, ChangesOneTerminal}
 use Rattle.os9_outer.specs.declared.terminal.Key.{Key}
-use Rattle.proc_rules.specs.Attempts.{after_attempt}
-use Rattle.proc_rules.specs.CallResult.{CallResult}
-use Rattle.proc_rules.specs.Processes.{Processes}
-use Rattle.proc_rules.specs.Ready.{Act, attempts, delivers, executes, act_of}
-use Rattle.proc_rules.specs.declared.proc_call.ProcCall.TheVariants as Call
+use Rattle.proc_model.specs.Attempts.{after_attempt}
+use Rattle.proc_model.specs.CallResult.{CallResult}
+use Rattle.proc_model.specs.Processes.{Processes}
+use Rattle.proc_model.specs.Ready.{Act, attempts, delivers, executes, act_of}
+use Rattle.proc_model.specs.declared.proc_call.ProcCall.TheVariants as Call
 use Rattle.io_model.specs.Terminal.{IsCutShort, IsWritten, Reads, Terminal, Writes}
 use Rattle.io_model.specs.declared.terminal.Progress.{Progress}
 use Rattle.io_model.specs.declared.terminal.Reading.{Reading}
-use Rattle.io_rules.specs.Attempts.{Does}
-use Rattle.io_rules.specs.Io.{Io, terminal_at}
-use Rattle.io_rules.specs.Step.{Caller, IoEffect, IoStep, TerminalRead, TerminalWrite, comes, reads, refused, writes}
-use Rattle.io_rules.specs.Terminals.{ReadsTerminal, WritesTerminal, request_of}
+use Rattle.io_model.specs.Attempts.{Does}
+use Rattle.io_model.specs.Io.{Io, terminal_at}
+use Rattle.io_model.specs.Step.{Caller, IoEffect, IoStep, TerminalRead, TerminalWrite, comes, reads, refused, writes}
+use Rattle.io_model.specs.Terminals.{ReadsTerminal, WritesTerminal, request_of}
 use Rattle.file_rules.specs.Attempts.{FileAttempts, asker_of, file_step}
 use Rattle.file_rules.specs.Files.{Asker, Files}
 use Rattle.file_rules.specs.Load.{LoadAttempts}

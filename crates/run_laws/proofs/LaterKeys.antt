@@ -18,8 +18,8 @@ use Rattle.io_model.specs.declared.keys.TheConstants.{BELL}
 use Rattle.io_model.specs.declared.terminal.Arrival.{Arrival}
 use Rattle.io_model.specs.declared.terminal.Progress.{Progress}
 use Rattle.io_model.specs.declared.terminal.Reading.{Reading}
-use Rattle.io_rules.specs.Arrivals.{Arrivals, ArrivesAt, ArrivesFrom, Desk}
-use Rattle.io_rules.specs.Io.{Io, terminal_at}
+use Rattle.io_model.specs.Arrivals.{Arrivals, ArrivesAt, ArrivesFrom, Desk}
+use Rattle.io_model.specs.Io.{Io, terminal_at}
 use Rattle.machine_model.specs.Run.{Choose, Tick, desk_of}
 use Rattle.machine_model.specs.State.{State}
 use Rattle.file_rules.specs.Files.{with_io}

@@ -4,12 +4,12 @@ use Rattle.std.specs.Prelude.{MatchOption}
 use Rattle.os9_base.specs.Count.{Rose}
 use Rattle.proc_model.specs.ModuleList.{ModuleEntry}
 use Rattle.proc_model.proofs.LoadingLemmas.{Enters-one}
-use Rattle.proc_rules.specs.CallResult.{CallResult, refused}
-use Rattle.proc_rules.specs.Chain.{f_chain}
-use Rattle.proc_rules.specs.Fork.{f_fork}
-use Rattle.proc_rules.specs.Processes.{Processes}
-use Rattle.proc_rules.specs.ModuleLinks.{Entered}
-use Rattle.proc_rules.specs.Program.{Program}
+use Rattle.proc_model.specs.CallResult.{CallResult, refused}
+use Rattle.proc_model.specs.Chain.{f_chain}
+use Rattle.proc_model.specs.Fork.{f_fork}
+use Rattle.proc_model.specs.Processes.{Processes}
+use Rattle.proc_model.specs.ModuleLinks.{Entered}
+use Rattle.proc_model.specs.Program.{Program}
 use Rattle.file_rules.specs.Files.{Asker, DriveState, Files, drive_at, with_drives}
 use Rattle.file_rules.specs.Load.{GoesOnLoaded, LoadAttempts, Loaded, Loads, links_first, loaded_by}
 use Rattle.file_rules.specs.Program.{ChainAttempts, ForkAttempts, StartsFile, chains, forks, named_program, starts_first, tests_program}

@@ -11,11 +11,11 @@ use Rattle.rbf_change.specs.Calls.{cluster_size, free_total, replaced}
 use Rattle.rbf_change.specs.Names.{may_change, new_entry, new_listing}
 use Rattle.rbf_change.specs.NewFiles.{IsEntered, Plan, directory_plan, entry_clusters, file_plan}
 use Rattle.io_model.specs.Path.{new_number}
-use Rattle.io_rules.specs.Attempts.{io_step}
-use Rattle.io_rules.specs.Modes.{can_write}
-use Rattle.io_rules.specs.PathList.{PathList}
-use Rattle.io_rules.specs.Step.{answers}
-use Rattle.io_rules.specs.declared.io_call.IoCall.TheVariants as Device
+use Rattle.io_model.specs.Attempts.{io_step}
+use Rattle.io_model.specs.Modes.{can_write}
+use Rattle.io_model.specs.PathList.{PathList}
+use Rattle.io_model.specs.Step.{answers}
+use Rattle.io_model.specs.declared.io_call.IoCall.TheVariants as Device
 use Rattle.file_rules.specs.Attempts.{file_step}
 use Rattle.file_rules.specs.Change.{creates, makes_directory}
 use Rattle.file_rules.specs.Create.{clusters_for, creates_in, creates_on_device, creates_on_route, creates_with_path, has_room_for, opens_new}

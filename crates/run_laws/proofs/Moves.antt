@@ -3,11 +3,11 @@ use Rattle.std.proofs.Common.{◌≡◌, ℕ, ◌<◌, ◌≤◌, true, length, 
 use Rattle.time_rules.specs.CivilTime.{is_time_packet}
 use Rattle.cpu_model.specs.Step.{Aborts, Calls, Done, Outcome}
 use Rattle.os9_base.specs.declared.registers.TimePacket.{TimePacket}
-use Rattle.proc_rules.specs.CallResult.{CallResult, done, ends, refused, waits}
-use Rattle.proc_rules.specs.Delivery.{delivered}
-use Rattle.proc_rules.specs.Processes.{Processes}
-use Rattle.proc_rules.specs.Ready.{Act, act_of, attempts, delivers, executes}
-use Rattle.proc_rules.specs.declared.proc_call.ProcCall.TheVariants as Call
+use Rattle.proc_model.specs.CallResult.{CallResult, done, ends, refused, waits}
+use Rattle.proc_model.specs.Delivery.{delivered}
+use Rattle.proc_model.specs.Processes.{Processes}
+use Rattle.proc_model.specs.Ready.{Act, act_of, attempts, delivers, executes}
+use Rattle.proc_model.specs.declared.proc_call.ProcCall.TheVariants as Call
 use Rattle.std.specs.Prelude.{Result, Ok, Err}
 use Rattle.file_rules.specs.Attempts.{asker_of, files_after}
 use Rattle.file_rules.specs.Files.{Files}
@@ -21,8 +21,8 @@ use Rattle.machine_model.specs.Run.{Choose, Tick}
 use Rattle.machine_model.specs.Services.{Serves, Service, files_after_call, files_after_fork, loads, no_call, on_paths, on_processes, on_time, service_of}
 use Rattle.machine_model.specs.Start.{Boot, Starts}
 use Rattle.machine_model.specs.State.{Rest, State}
-use Rattle.wait_laws.proofs.Events.{event-running}
-use Rattle.wait_laws.proofs.RunningLaws.{choice-running, emptied-running, start-running, tick-running}
+use Rattle.call_laws.proofs.Events.{event-running}
+use Rattle.call_laws.proofs.RunningLaws.{choice-running, emptied-running, start-running, tick-running}
 use Rattle.run_laws.specs.Mounted.{AreMounted, CanGo}
 use Rattle.run_laws.proofs.Keeping.{does-mounted, mounted-first, mounted-same}
 

@@ -7,7 +7,7 @@ use Rattle.std.proofs.lemmas.Option.{none-some, same_Some}
 use Rattle.os9_base.specs.Cells.{Cells}
 use Rattle.os9_base.specs.Name.{name_run}
 use Rattle.os9_base.specs.declared.errors.TheConstants.{E_BPNAM}
-use Rattle.proc_rules.specs.Program.{slash}
+use Rattle.proc_model.specs.Program.{slash}
 use Rattle.device_table.specs.Names.{device_of}
 use Rattle.device_table.specs.declared.devices.Dev.{Dev}
 use Rattle.device_table.specs.declared.devices.Dev.TheVariants.{Drive, Pipe, Term}
@@ -15,7 +15,7 @@ use Rattle.os9_base.specs.UserNames.{name_at, name_in, run_bytes, user_cell}
 use Rattle.os9_base.specs.declared.name_fault.NameFault.{NameFault}
 use Rattle.os9_base.specs.declared.name_fault.NameFault.TheVariants.{NoName, Unreadable}
 use Rattle.rbf_model.specs.Volume.{DiskVolume}
-use Rattle.io_rules.specs.PathList.{Behind, Names, PathList, a_slash, another, behind, device_list, ends_in_dots, from_device, has_slash_behind_device, list_with, name_before, names_at, names_behind, names_from, names_with, nothing, path_list, relative_list, unreadable}
+use Rattle.io_model.specs.PathList.{Behind, Names, PathList, a_slash, another, behind, device_list, ends_in_dots, from_device, has_slash_behind_device, list_with, name_before, names_at, names_behind, names_from, names_with, nothing, path_list, relative_list, unreadable}
 use Rattle.file_rules.specs.Files.{Asker, Files, directory_of, volume_at}
 use Rattle.file_rules.specs.Route.{Route, along, is_root, last_of, list_of, nowhere, to_device, route_by, route_from, route_of, route_of_device, route_on_drive, route_to_new}
 use Rattle.lock_model.specs.declared.place.FilePlace.{FilePlace}

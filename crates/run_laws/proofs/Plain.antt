@@ -6,7 +6,7 @@ use Rattle.std.proofs.lemmas.Option.{same_Some}
 use Rattle.os9_base.specs.declared.calls.TheConstants.{F_PERR, I_WRITE, I_WRITLN}
 use Rattle.os9_base.specs.declared.errors.TheConstants.{E_BMODE, E_BPADDR, E_BPNAM, E_CEF, E_FNA, E_FULL, E_MNF, E_PNNF, E_PTHFUL, E_SHARE, E_SLF, E_UNKSVC}
 use Rattle.os9_base.specs.declared.registers.Regs.{Regs}
-use Rattle.proc_rules.specs.UserBytes.{user_bytes}
+use Rattle.proc_model.specs.UserBytes.{user_bytes}
 use Rattle.rbf_model.specs.File.{DiskFile, is_directory}
 use Rattle.rbf_model.specs.Volume.{DiskVolume}
 use Rattle.rbf_model.specs.Walk.{WalkEnd, arrives, file_permits, look_up, not_allowed, not_found, walk}
@@ -16,13 +16,13 @@ use Rattle.rbf_change.specs.Growth.{clusters_needed}
 use Rattle.rbf_change.specs.Names.{may_change, may_delete}
 use Rattle.rbf_change.specs.NewFiles.{entry_clusters, owns_file}
 use Rattle.io_model.specs.Path.{new_number}
-use Rattle.io_rules.specs.Modes.{can_write, is_mode}
-use Rattle.io_rules.specs.PathList.{PathList}
-use Rattle.io_rules.specs.Pipes.{count_regs}
-use Rattle.io_rules.specs.Status.{i_setstt as sets_of_device}
-use Rattle.io_rules.specs.Step.{IoStep, answers}
-use Rattle.io_rules.specs.Write.{error_line, f_perr as tells_device, i_write as writes_device, i_writln as writes_device_line}
-use Rattle.io_rules.specs.declared.modes.TheConstants.{STANDARD_ERROR}
+use Rattle.io_model.specs.Modes.{can_write, is_mode}
+use Rattle.io_model.specs.PathList.{PathList}
+use Rattle.io_model.specs.Pipes.{count_regs}
+use Rattle.io_model.specs.Status.{i_setstt as sets_of_device}
+use Rattle.io_model.specs.Step.{IoStep, answers}
+use Rattle.io_model.specs.Write.{error_line, f_perr as tells_device, i_write as writes_device, i_writln as writes_device_line}
+use Rattle.io_model.specs.declared.modes.TheConstants.{STANDARD_ERROR}
 use Rattle.file_rules.specs.Attempts.{file_step}
 use Rattle.file_rules.specs.Change.{Change, creates, deletes, makes_directory, sets_attributes, sizes, writes}
 use Rattle.file_rules.specs.Create.{clusters_for, creates_in, creates_on_route, creates_with_path, has_room_for, opens_new}

@@ -4,7 +4,7 @@ use Rattle.std.proofs.Common.{◌≡◌, ◌⊎◌, ℕ, zero, suc, ◌+◌, ◌
 use Rattle.std.specs.Prelude.{MatchBool, MatchOption, option_map}
 use Rattle.os9_base.specs.declared.registers.Pid.{Pid}
 use Rattle.os9_outer.specs.TerminalState.{TerminalState}
-use Rattle.proc_rules.specs.Choice.{choice_of, after_choice}
+use Rattle.proc_model.specs.Choice.{choice_of, after_choice}
 use Rattle.file_rules.specs.Locking.{files_may_go}
 use Rattle.file_rules.specs.Files.{DriveState, drive_at}
 use Rattle.machine_model.specs.Console.{console_bytes, terminals_emptied}

@@ -6,7 +6,7 @@ use Rattle.std.proofs.lemmas.Option.{none-some, same_Some}
 use Rattle.os9_base.specs.declared.errors.TheConstants.{E_EOF}
 use Rattle.os9_outer.specs.TerminalState.{TerminalState, fault_counts}
 use Rattle.cpu_model.specs.Step.{Done}
-use Rattle.proc_rules.specs.CallResult.{ends}
+use Rattle.proc_model.specs.CallResult.{ends}
 use Rattle.io_model.specs.Edit.{Typing}
 use Rattle.io_model.specs.Path.{desc_of, slot_of}
 use Rattle.io_model.specs.Terminal.{Terminal, Reads, attempt_by, is_taken, kept_waiting, read_attempt, typed, typed_attempt, used_by}
@@ -16,12 +16,12 @@ use Rattle.io_model.specs.declared.path.Desc.{Desc}
 use Rattle.io_model.specs.declared.path.SysPath.{SysPath}
 use Rattle.io_model.specs.declared.terminal.Progress.{Progress}
 use Rattle.io_model.specs.declared.terminal.Reading.{Reading}
-use Rattle.io_rules.specs.Attempts.{Does}
-use Rattle.io_rules.specs.Io.{Io, OpenPath, open_path, terminal_at, with_terminal}
-use Rattle.io_rules.specs.Pipes.{count_regs}
-use Rattle.io_rules.specs.Step.{Caller, IoEffect, IoEnd, IoStep, answers, fails, keeps, refused, comes, reads, writes, leaves, TerminalRead}
-use Rattle.io_rules.specs.Terminals.{read_ends, read_leaves, request_of}
-use Rattle.io_rules.specs.declared.io_call.IoCall.{IoCall}
+use Rattle.io_model.specs.Attempts.{Does}
+use Rattle.io_model.specs.Io.{Io, OpenPath, open_path, terminal_at, with_terminal}
+use Rattle.io_model.specs.Pipes.{count_regs}
+use Rattle.io_model.specs.Step.{Caller, IoEffect, IoEnd, IoStep, answers, fails, keeps, refused, comes, reads, writes, leaves, TerminalRead}
+use Rattle.io_model.specs.Terminals.{read_ends, read_leaves, request_of}
+use Rattle.io_model.specs.declared.io_call.IoCall.{IoCall}
 use Rattle.call_laws.specs.Terminals.{AreOnTerminals}
 use Rattle.call_laws.proofs.StepWalk.{HasPathOn, StepGives}
 use Rattle.run_laws.proofs.Terminals.{given}

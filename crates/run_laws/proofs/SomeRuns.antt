@@ -5,9 +5,9 @@ use Rattle.std.proofs.lemmas.Option.{none-some, same_Some}
 use Rattle.time_rules.specs.CivilTime.{is_time_packet}
 use Rattle.time_rules.proofs.Next.{later-packet}
 use Rattle.os9_base.specs.declared.registers.TimePacket.{TimePacket}
-use Rattle.proc_rules.specs.Ready.{act_of, attempts}
-use Rattle.io_rules.specs.Attempts.{result_of as io_result}
-use Rattle.proc_rules.specs.Records.{IsLiving}
+use Rattle.proc_model.specs.Ready.{act_of, attempts}
+use Rattle.io_model.specs.Attempts.{result_of as io_result}
+use Rattle.proc_model.specs.Records.{IsLiving}
 use Rattle.file_rules.specs.Attempts.{asker_of, file_step, files_after, io_effect}
 use Rattle.file_rules.specs.Codes.{path_call_of, path_codes}
 use Rattle.file_rules.specs.Files.{NoneFailed}

@@ -12,8 +12,8 @@ use Rattle.io_model.specs.Terminal.{Terminal, Arrives, dropped_count, first_sign
 use Rattle.io_model.specs.declared.keys.TheConstants.{BELL}
 use Rattle.io_model.specs.declared.terminal.Arrival.{Arrival}
 use Rattle.io_model.specs.declared.terminal.TheConstants.{TYPE_AHEAD}
-use Rattle.io_rules.specs.Arrivals.{ArrivesFrom, Desk, after_key_signal}
-use Rattle.io_rules.specs.Io.{terminal_at, with_terminal}
+use Rattle.io_model.specs.Arrivals.{ArrivesFrom, Desk, after_key_signal}
+use Rattle.io_model.specs.Io.{terminal_at, with_terminal}
 use Rattle.file_rules.specs.Files.{with_io}
 use Rattle.machine_model.specs.Run.{Tick, desk_of}
 use Rattle.machine_model.specs.State.{State}

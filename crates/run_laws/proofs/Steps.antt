@@ -7,13 +7,13 @@ use Rattle.os9_base.specs.declared.registers.Regs.{Regs}
 use Rattle.os9_base.specs.declared.registers.TimePacket.{TimePacket}
 use Rattle.os9_outer.specs.TerminalState.{fault_counts}
 use Rattle.cpu_model.specs.Step.{Aborts, Calls, Done, Outcome}
-use Rattle.proc_rules.specs.Records.{IsLiving}
-use Rattle.proc_rules.specs.Attempts.{after_attempt, done_regs, goes_on, refused_regs}
-use Rattle.proc_rules.specs.CallResult.{CallResult, done, ends, refused, waits}
-use Rattle.proc_rules.specs.Delivery.{after_delivery, delivered}
-use Rattle.proc_rules.specs.Processes.{Processes, regs_at}
-use Rattle.proc_rules.specs.Ready.{Act, act_of, attempts, delivers, executes}
-use Rattle.proc_rules.specs.declared.proc_call.ProcCall.TheVariants as Call
+use Rattle.proc_model.specs.Records.{IsLiving}
+use Rattle.proc_model.specs.Attempts.{after_attempt, done_regs, goes_on, refused_regs}
+use Rattle.proc_model.specs.CallResult.{CallResult, done, ends, refused, waits}
+use Rattle.proc_model.specs.Delivery.{after_delivery, delivered}
+use Rattle.proc_model.specs.Processes.{Processes, regs_at}
+use Rattle.proc_model.specs.Ready.{Act, act_of, attempts, delivers, executes}
+use Rattle.proc_model.specs.declared.proc_call.ProcCall.TheVariants as Call
 use Rattle.file_rules.specs.Attempts.{asker_of, io_effect}
 use Rattle.std.proofs.lemmas.Option.{none-some}
 use Rattle.file_rules.specs.Files.{Files, NoneFailed}
@@ -30,8 +30,8 @@ use Rattle.machine_model.specs.Start.{Boot, Starts}
 use Rattle.machine_model.specs.State.{Rest, State, with_rest}
 use Rattle.isolation_laws.proofs.Asked.{Asks, asks}
 use Rattle.isolation_laws.proofs.EventsKept.{time-left}
-use Rattle.wait_laws.proofs.Loads.{Child, chain-over, fork-over, load-over}
-use Rattle.wait_laws.proofs.Over.{over-by}
+use Rattle.call_laws.proofs.Loads.{Child, chain-over, fork-over, load-over}
+use Rattle.call_laws.proofs.Over.{over-by}
 use Rattle.run_laws.specs.Mounted.{CanGo}
 use Rattle.run_laws.specs.Faults.{HasNoVolumes}
 use Rattle.run_laws.specs.Runs.{HasEvent, HasRun, HasSlice, MakesFile}
@@ -39,7 +39,7 @@ use Rattle.run_laws.proofs.Kept.{choice-bare, event-bare, tick-bare}
 use Rattle.run_laws.proofs.Calls.{SomeAttempt, same-drives, some-attempt}
 use Rattle.run_laws.proofs.Moves.{choice-can, emptied-can, event-can, start-can, tick-can}
 use Rattle.machine_model.specs.ProcessEvent.{after_instruction, call_event_end, delivery_end, instruction_end, next_instruction}
-use Rattle.io_rules.specs.Waiting.{interrupted_count}
+use Rattle.io_model.specs.Waiting.{interrupted_count}
 use Rattle.run_laws.proofs.Building.{Builds, Next, SomeRun, SomeSlice, some-run, some-slice}
 use Rattle.run_laws.proofs.Going.{GoesOn, after-call-acts, after-call-lives, broken-goes, instruction-goes, rank}
 

@@ -17,11 +17,11 @@ use Rattle.io_model.specs.declared.terminal.Arrival.{Arrival}
 use Rattle.io_model.specs.declared.terminal.Progress.{Progress}
 use Rattle.io_model.specs.declared.terminal.Reading.{Reading}
 use Rattle.io_model.specs.declared.terminal.TheConstants.{TYPE_AHEAD}
-use Rattle.io_rules.specs.Arrivals.{ArrivesAt, ArrivesFrom, Desk, after_key_signal}
-use Rattle.io_rules.specs.Attempts.{Does}
-use Rattle.io_rules.specs.Io.{Io, terminal_at, with_terminal}
-use Rattle.io_rules.specs.Step.{Caller, IoEffect, IoEnd, IoStep, answers, refused, comes, reads, writes, leaves, TerminalRead, TerminalWrite}
-use Rattle.io_rules.specs.Terminals.{ReadsTerminal, WritesTerminal, read_ends, read_leaves, request_of, write_ends}
+use Rattle.io_model.specs.Arrivals.{ArrivesAt, ArrivesFrom, Desk, after_key_signal}
+use Rattle.io_model.specs.Attempts.{Does}
+use Rattle.io_model.specs.Io.{Io, terminal_at, with_terminal}
+use Rattle.io_model.specs.Step.{Caller, IoEffect, IoEnd, IoStep, answers, refused, comes, reads, writes, leaves, TerminalRead, TerminalWrite}
+use Rattle.io_model.specs.Terminals.{ReadsTerminal, WritesTerminal, read_ends, read_leaves, request_of, write_ends}
 use Rattle.machine_model.specs.Terminals.{TerminalsOnlyGain}
 use Rattle.machine_model.proofs.TerminalLaws.{gain-arrivals}
 use Rattle.run_laws.specs.Faults.{NotFailed}

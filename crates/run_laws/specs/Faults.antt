@@ -4,9 +4,9 @@ use Rattle.std.specs.List.{AllByRecursion, AllZip}
 use Rattle.os9_base.specs.Count.{Rose}
 use Rattle.os9_base.specs.declared.registers.TimePacket.{TimePacket}
 use Rattle.os9_outer.specs.TerminalState.{TerminalState}
-use Rattle.proc_rules.specs.Attempts.{after_attempt}
-use Rattle.proc_rules.specs.Ready.{attempts, act_of}
-use Rattle.io_rules.specs.Attempts.{result_of}
+use Rattle.proc_model.specs.Attempts.{after_attempt}
+use Rattle.proc_model.specs.Ready.{attempts, act_of}
+use Rattle.io_model.specs.Attempts.{result_of}
 use Rattle.file_rules.specs.Attempts.{asker_of, file_step, files_after, io_effect}
 use Rattle.rbf_model.specs.File.{DiskFile}
 use Rattle.rbf_model.specs.Volume.{DiskVolume}

@@ -4,7 +4,7 @@ use Rattle.rbf_model.specs.File.{DiskFile}
 use Rattle.rbf_model.specs.Volume.{DiskVolume}
 use Rattle.rbf_change.specs.Calls.{shape}
 use Rattle.file_rules.specs.Files.{Files, volume_at}
-use Rattle.wait_laws.specs.Running.{IsRunning}
+use Rattle.call_laws.specs.Running.{IsRunning}
 use Rattle.machine_model.specs.State.{State}
 
 -- the files of a volume have numbers of its sectors

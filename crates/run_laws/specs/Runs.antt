@@ -1,7 +1,7 @@
 -- The existence of events, slices and runs.
 use Rattle.std.specs.Prelude.{◌≡◌, ◌⊎◌, ℕ, Some, List}
 use Rattle.os9_outer.specs.TerminalState.{fault_counts}
-use Rattle.proc_rules.specs.Ready.{attempts, act_of}
+use Rattle.proc_model.specs.Ready.{attempts, act_of}
 use Rattle.file_rules.specs.Codes.{path_call_of}
 use Rattle.rbf_model.specs.Volume.{DiskVolume}
 use Rattle.file_rules.specs.Files.{NoneFailed, volume_at}

@@ -2,7 +2,7 @@
 
 ghost use Rattle.std.specs.Prelude.{◌≡◌, ℕ, ◌<◌, ◌≤◌, List, Some, length, true};
 ghost use Rattle.time_rules.specs.CivilTime.{is_time_packet};
-ghost use Rattle.proc_rules.specs.Records.{IsLiving};
+ghost use Rattle.proc_model.specs.Records.{IsLiving};
 ghost use Rattle.machine_model.specs.declared.ends.EventEnd.{EventEnd};
 ghost use Rattle.machine_model.specs.Event.{Event};
 ghost use Rattle.machine_model.specs.Run.{Choose, Tick};

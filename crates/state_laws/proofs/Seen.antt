@@ -7,7 +7,7 @@ use Rattle.proc_model.specs.Memory.{MemoryState, map_at, mapped_objects}
 use Rattle.proc_model.specs.ModuleList.{entered_groups}
 use Rattle.proc_model.specs.Objects.{slot_of, object_byte, object_cells}
 use Rattle.proc_model.specs.Slots.{Slots, no_slots, blocks_in}
-use Rattle.proc_rules.specs.Processes.{cells_at}
+use Rattle.proc_model.specs.Processes.{cells_at}
 use Rattle.guest_memory.proofs.Living.{has_number}
 use Rattle.machine_model.specs.State.{State}
 use Rattle.state_laws.specs.Numbers.{Lives, renumbered_map, IsRenumbered, DifferInNumbersAlone}

@@ -2,7 +2,7 @@
 use Rattle.std.proofs.Common.{◌≡◌, ◌∙◌, option_map, sym, ap}
 use Rattle.os9_base.specs.declared.registers.Pid.{Pid}
 use Rattle.proc_model.specs.Memory.{MemoryState}
-use Rattle.proc_rules.specs.Processes.{Processes, with_memory}
+use Rattle.proc_model.specs.Processes.{Processes, with_memory}
 use Rattle.file_rules.specs.Files.{Files}
 use Rattle.machine_model.specs.State.{State}
 use Rattle.os9_kernel.specs.Outside.{Outside}

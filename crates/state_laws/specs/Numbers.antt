@@ -3,7 +3,7 @@
 use Rattle.std.specs.Prelude.{◌≡◌, ℕ, true, option_map, List, map, slice_get}
 use Rattle.proc_model.specs.Memory.{MemoryState, is_living_object}
 use Rattle.proc_model.specs.Slots.{Slots}
-use Rattle.proc_rules.specs.Processes.{with_memory}
+use Rattle.proc_model.specs.Processes.{with_memory}
 use Rattle.guest_memory.specs.Renaming.{renamed_modules}
 use Rattle.machine_model.specs.State.{State}
 

@@ -2,7 +2,7 @@
 #![tactic(auto)]
 
 ghost use Rattle.std.specs.Prelude.{◌≡◌, ℕ};
-ghost use Rattle.proc_rules.specs.Processes.{cells_at};
+ghost use Rattle.proc_model.specs.Processes.{cells_at};
 ghost use Rattle.machine_model.specs.State.{State};
 ghost use Rattle.os9_kernel.specs.declared.kernel.Kernel.{Kernel};
 ghost use Rattle.os9_kernel.specs.Outside.{Outside};

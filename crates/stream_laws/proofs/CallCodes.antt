@@ -3,11 +3,11 @@ use Rattle.std.proofs.Common.{◌≡◌, ℕ, ◌==◌, Bool, true, false, Some,
 use Rattle.std.specs.Prelude.{find, option_map, if◌then◌else◌}
 use Rattle.std.proofs.lemmas.Bool.{eqb-true}
 use Rattle.std.proofs.lemmas.Option.{none-some, same_Some}
-use Rattle.proc_rules.specs.declared.proc_call.ProcCall.{ProcCall}
-use Rattle.proc_rules.specs.Codes.{call_codes, call_of}
-use Rattle.proc_rules.specs.Ready.{Act, attempts, delivers, executes}
-use Rattle.io_rules.specs.Codes.{io_call_of}
-use Rattle.io_rules.specs.declared.io_call.IoCall.{IoCall}
+use Rattle.proc_model.specs.declared.proc_call.ProcCall.{ProcCall}
+use Rattle.proc_model.specs.Codes.{call_codes, call_of}
+use Rattle.proc_model.specs.Ready.{Act, attempts, delivers, executes}
+use Rattle.io_model.specs.Codes.{io_call_of}
+use Rattle.io_model.specs.declared.io_call.IoCall.{IoCall}
 
 -- the fact holds of each code and its call
 abbrev pub EachCode : {C : Type 0} → (ℕ → C → Type 0) → List (ℕ × C) → Type 0

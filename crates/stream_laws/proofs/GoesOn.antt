@@ -6,15 +6,15 @@ use Rattle.proc_model.specs.declared.memory.MemoryFault.{MemoryFault}
 use Rattle.proc_model.specs.declared.memory.TheConstants.{MOST_LINKS}
 use Rattle.proc_model.specs.Memory.{MemoryState}
 use Rattle.proc_model.specs.MemoryChanges.{started}
-use Rattle.proc_rules.specs.Records.{free_process}
-use Rattle.proc_rules.specs.CallResult.{CallResult, changes, done, ends, needs, refused, refuses, waits}
-use Rattle.proc_rules.specs.Chain.{begun_anew, f_chain, with_program}
-use Rattle.proc_rules.specs.Fork.{f_fork, forked_regs, with_child}
-use Rattle.proc_rules.specs.Processes.{Processes, cells_at, own_at, regs_at, with_memory, with_regs_of}
-use Rattle.proc_rules.specs.Link.{Mapped, after_link, links_at, mapped_group}
-use Rattle.proc_rules.specs.ModuleLinks.{Entered, found_entry, without_primary_link}
-use Rattle.proc_rules.specs.Program.{Program, area_pages, asks_for_program, blocks_of_pages, most_pages, program_kind, is_unreadable, module_name, name_at_x, reads_program}
-use Rattle.proc_rules.specs.UserBytes.{user_bytes}
+use Rattle.proc_model.specs.Records.{free_process}
+use Rattle.proc_model.specs.CallResult.{CallResult, changes, done, ends, needs, refused, refuses, waits}
+use Rattle.proc_model.specs.Chain.{begun_anew, f_chain, with_program}
+use Rattle.proc_model.specs.Fork.{f_fork, forked_regs, with_child}
+use Rattle.proc_model.specs.Processes.{Processes, cells_at, own_at, regs_at, with_memory, with_regs_of}
+use Rattle.proc_model.specs.Link.{Mapped, after_link, links_at, mapped_group}
+use Rattle.proc_model.specs.ModuleLinks.{Entered, found_entry, without_primary_link}
+use Rattle.proc_model.specs.Program.{Program, area_pages, asks_for_program, blocks_of_pages, most_pages, program_kind, is_unreadable, module_name, name_at_x, reads_program}
+use Rattle.proc_model.specs.UserBytes.{user_bytes}
 use Rattle.file_rules.specs.Files.{Asker, Files}
 use Rattle.file_rules.specs.Load.{GoesOnLoaded, LoadAttempts, Loaded, links_first}
 use Rattle.file_rules.specs.Program.{ChainAttempts, ForkAttempts, StartsFile, chains, forks, loaded_program, named_program, starts_first}

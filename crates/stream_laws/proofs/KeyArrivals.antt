@@ -8,8 +8,8 @@ use Rattle.os9_outer.specs.TerminalState.{TerminalState}
 use Rattle.os9_outer.specs.declared.terminal.Key.{Key}
 use Rattle.io_model.specs.Terminal.{Terminal, key_bytes, new_terminal, typed_bytes}
 use Rattle.io_model.specs.declared.terminal.TheConstants.{TYPE_AHEAD}
-use Rattle.io_rules.specs.Arrivals.{ArrivesAt, ArrivesFrom, Desk}
-use Rattle.io_rules.specs.Io.{Io, terminal_at}
+use Rattle.io_model.specs.Arrivals.{ArrivesAt, ArrivesFrom, Desk}
+use Rattle.io_model.specs.Io.{Io, terminal_at}
 use Rattle.machine_model.specs.Console.{terminals_emptied}
 use Rattle.stream_laws.specs.Keys.{LineStays}
 use Rattle.stream_laws.proofs.KeyAttempts.{come_of}

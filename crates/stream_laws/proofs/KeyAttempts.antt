@@ -25,18 +25,18 @@ use Rattle.io_model.specs.declared.terminal.Progress.{Progress}
 use Rattle.io_model.specs.declared.terminal.ReadKind.{ReadKind}
 use Rattle.io_model.specs.declared.terminal.ReadKind.TheVariants.{Bytes, WholeLine}
 use Rattle.io_model.specs.declared.terminal.Reading.{Reading}
-use Rattle.io_rules.specs.Attempts.{Does}
-use Rattle.io_rules.specs.Close.{after_close, without_path, without_target}
-use Rattle.io_rules.specs.Codes.{direction_of_call}
-use Rattle.io_rules.specs.Io.{Io, OpenPath, open_path, terminal_at, with_paths, with_terminal}
-use Rattle.io_rules.specs.Pipes.{count_regs}
-use Rattle.io_rules.specs.Processes.{closed_below, closed_if_open, io_ended, without_user}
-use Rattle.io_rules.specs.Step.{Caller, IoEffect, IoEnd, IoStep, answers, fails, keeps, refused, comes, reads, writes, TerminalRead, TerminalWrite}
-use Rattle.io_rules.specs.Terminals.{ReadsTerminal, read_ends, read_leaves, request_of, write_ends}
-use Rattle.io_rules.specs.Waiting.{io_interrupted, pid, wait_target, without_unfinished}
-use Rattle.io_rules.specs.declared.io_call.Direction.TheVariants.{Writing}
-use Rattle.io_rules.specs.declared.io_call.Direction.TheVariants as Way
-use Rattle.io_rules.specs.declared.io_call.IoCall.{IoCall}
+use Rattle.io_model.specs.Attempts.{Does}
+use Rattle.io_model.specs.Close.{after_close, without_path, without_target}
+use Rattle.io_model.specs.Codes.{direction_of_call}
+use Rattle.io_model.specs.Io.{Io, OpenPath, open_path, terminal_at, with_paths, with_terminal}
+use Rattle.io_model.specs.Pipes.{count_regs}
+use Rattle.io_model.specs.Processes.{closed_below, closed_if_open, io_ended, without_user}
+use Rattle.io_model.specs.Step.{Caller, IoEffect, IoEnd, IoStep, answers, fails, keeps, refused, comes, reads, writes, TerminalRead, TerminalWrite}
+use Rattle.io_model.specs.Terminals.{ReadsTerminal, read_ends, read_leaves, request_of, write_ends}
+use Rattle.io_model.specs.Waiting.{io_interrupted, pid, wait_target, without_unfinished}
+use Rattle.io_model.specs.declared.io_call.Direction.TheVariants.{Writing}
+use Rattle.io_model.specs.declared.io_call.Direction.TheVariants as Way
+use Rattle.io_model.specs.declared.io_call.IoCall.{IoCall}
 use Rattle.call_laws.proofs.StepWalk.{StepGives}
 use Rattle.stream_laws.specs.Keys.{LineGoes, LineStays, UsesNone, read_call, reading_of}
 use Rattle.stream_laws.proofs.KeyReads.{IsReadOn, ReadsOn, StepReads, one-target}

@@ -6,26 +6,26 @@ use Rattle.os9_base.specs.declared.errors.TheConstants.{E_WRITE}
 use Rattle.os9_outer.specs.TerminalState.{TerminalState}
 use Rattle.cpu_model.specs.Step.{Outcome, Done, Calls, Aborts}
 use Rattle.proc_model.specs.MemoryChanges.{stored}
-use Rattle.proc_rules.specs.Attempts.{after_attempt}
-use Rattle.proc_rules.specs.CallResult.{CallResult, done, waits, ends}
-use Rattle.proc_rules.specs.Delivery.{delivered}
-use Rattle.proc_rules.specs.Processes.{Processes, regs_at}
-use Rattle.proc_rules.specs.Ready.{Act, attempts, delivers, executes, act_of}
+use Rattle.proc_model.specs.Attempts.{after_attempt}
+use Rattle.proc_model.specs.CallResult.{CallResult, done, waits, ends}
+use Rattle.proc_model.specs.Delivery.{delivered}
+use Rattle.proc_model.specs.Processes.{Processes, regs_at}
+use Rattle.proc_model.specs.Ready.{Act, attempts, delivers, executes, act_of}
 use Rattle.io_model.specs.Edit.{Editing, Typing}
 use Rattle.io_model.specs.Terminal.{Terminal, reader, typed}
 use Rattle.io_model.specs.declared.path.Target.{Target}
 use Rattle.io_model.specs.declared.terminal.ReadKind.{ReadKind}
 use Rattle.io_model.specs.declared.terminal.ReadKind.TheVariants.{Bytes, WholeLine}
 use Rattle.io_model.specs.declared.terminal.Reading.{Reading}
-use Rattle.io_rules.specs.Again.{path_number}
-use Rattle.io_rules.specs.Attempts.{IoAttempts, caller_of, result_by, step_of}
-use Rattle.io_rules.specs.Codes.{direction_of_call, io_call_of}
-use Rattle.io_rules.specs.Io.{Io, OpenPath, open_path, terminal_at}
-use Rattle.io_rules.specs.Processes.{io_ended}
-use Rattle.io_rules.specs.Step.{IoEnd, answers, fails, keeps}
-use Rattle.io_rules.specs.Waiting.{io_interrupted, pid}
-use Rattle.io_rules.specs.declared.io_call.Direction.TheVariants as Way
-use Rattle.io_rules.specs.declared.io_call.IoCall.{IoCall}
+use Rattle.io_model.specs.Again.{path_number}
+use Rattle.io_model.specs.Attempts.{IoAttempts, caller_of, result_by, step_of}
+use Rattle.io_model.specs.Codes.{direction_of_call, io_call_of}
+use Rattle.io_model.specs.Io.{Io, OpenPath, open_path, terminal_at}
+use Rattle.io_model.specs.Processes.{io_ended}
+use Rattle.io_model.specs.Step.{IoEnd, answers, fails, keeps}
+use Rattle.io_model.specs.Waiting.{io_interrupted, pid}
+use Rattle.io_model.specs.declared.io_call.Direction.TheVariants as Way
+use Rattle.io_model.specs.declared.io_call.IoCall.{IoCall}
 use Rattle.file_rules.specs.Files.{place_of_target}
 use Rattle.machine_model.specs.declared.ends.EventEnd.{EventEnd}
 use Rattle.machine_model.specs.declared.ends.EventEnd.TheVariants.{Ended, Ran, Waits}

@@ -6,7 +6,7 @@ use Rattle.std.proofs.lemmas.Bool.{eqb-true}
 use Rattle.std.proofs.lemmas.Option.{same_Some}
 use Rattle.os9_base.specs.declared.calls.TheConstants.{I_READ, I_READLN}
 use Rattle.os9_base.specs.declared.errors.TheConstants.{E_BPADDR, E_BPNUM, E_BMODE, E_EOF, E_UNKSVC, E_WRITE}
-use Rattle.proc_rules.specs.UserBytes.{user_bytes}
+use Rattle.proc_model.specs.UserBytes.{user_bytes}
 use Rattle.io_model.specs.declared.pending.PendingCall.{PendingCall}
 use Rattle.io_model.specs.declared.path.Target.{Target}
 use Rattle.io_model.specs.declared.path.Target.TheVariants.{File, Folder, Term, Pipe}
@@ -14,17 +14,17 @@ use Rattle.io_model.specs.declared.terminal.ReadKind.{ReadKind}
 use Rattle.io_model.specs.declared.terminal.ReadKind.TheVariants.{Bytes, WholeLine}
 use Rattle.io_model.specs.declared.terminal.Reading.{Reading}
 use Rattle.io_model.specs.declared.terminal.TheConstants.{TYPE_AHEAD}
-use Rattle.io_rules.specs.Attempts.{io_step}
-use Rattle.io_rules.specs.Codes.{direction_of_call}
-use Rattle.io_rules.specs.Io.{Io, OpenPath, pending_at, open_path}
-use Rattle.io_rules.specs.Modes.{can_read}
-use Rattle.io_rules.specs.Read.{reads_path, reads_target}
-use Rattle.io_rules.specs.Step.{Caller, IoStep, answers, refused, comes, reads, writes, leaves, needs, refuses, done, TerminalRead}
-use Rattle.io_rules.specs.Terminals.{request_of}
-use Rattle.io_rules.specs.Transfer.{call_now, first_call, on_path, unless_nothing}
-use Rattle.io_rules.specs.declared.io_call.Direction.TheVariants as Way
-use Rattle.io_rules.specs.declared.io_call.IoCall.{IoCall}
-use Rattle.io_rules.specs.declared.io_call.IoCall.TheVariants as Call
+use Rattle.io_model.specs.Attempts.{io_step}
+use Rattle.io_model.specs.Codes.{direction_of_call}
+use Rattle.io_model.specs.Io.{Io, OpenPath, pending_at, open_path}
+use Rattle.io_model.specs.Modes.{can_read}
+use Rattle.io_model.specs.Read.{reads_path, reads_target}
+use Rattle.io_model.specs.Step.{Caller, IoStep, answers, refused, comes, reads, writes, leaves, needs, refuses, done, TerminalRead}
+use Rattle.io_model.specs.Terminals.{request_of}
+use Rattle.io_model.specs.Transfer.{call_now, first_call, on_path, unless_nothing}
+use Rattle.io_model.specs.declared.io_call.Direction.TheVariants as Way
+use Rattle.io_model.specs.declared.io_call.IoCall.{IoCall}
+use Rattle.io_model.specs.declared.io_call.IoCall.TheVariants as Call
 use Rattle.call_laws.proofs.StepWalk.{StepGives}
 use Rattle.stream_laws.specs.Keys.{asked_by, read_call, reading_of}
 

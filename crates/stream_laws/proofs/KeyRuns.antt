@@ -4,13 +4,13 @@ use Rattle.std.specs.List.{AllByRecursion, filter_map, flat_map}
 use Rattle.std.proofs.lemmas.List.{get_or-replicate, length-append, length-take}
 use Rattle.os9_outer.specs.TerminalState.{TerminalState}
 use Rattle.os9_outer.specs.declared.terminal.Key.{Key}
-use Rattle.proc_rules.specs.declared.turn.Turn.{Turn}
-use Rattle.proc_rules.specs.Processes.{Processes}
+use Rattle.proc_model.specs.declared.turn.Turn.{Turn}
+use Rattle.proc_model.specs.Processes.{Processes}
 use Rattle.io_model.specs.Pipe.{Flows}
 use Rattle.io_model.proofs.PipeLemmas.{flows-in_order}
 use Rattle.io_model.specs.Terminal.{Terminal, key_bytes, new_terminal, typed_bytes}
 use Rattle.io_model.specs.declared.terminal.TheConstants.{TYPE_AHEAD}
-use Rattle.io_rules.specs.Io.{Io, first_io, terminal_at}
+use Rattle.io_model.specs.Io.{Io, first_io, terminal_at}
 use Rattle.file_rules.specs.Files.{Files}
 use Rattle.machine_model.specs.declared.ends.EventEnd.{EventEnd}
 use Rattle.machine_model.specs.declared.ends.SliceEnd.{SliceEnd}

@@ -3,21 +3,21 @@ use Rattle.std.proofs.Common.{◌≡◌, ◌==◌, not, Bool, true, false, Optio
 use Rattle.std.specs.Prelude.{ℕ, if◌then◌else◌}
 use Rattle.os9_base.specs.declared.calls.TheConstants.{I_WRITE, I_WRITLN, F_PERR}
 use Rattle.os9_base.specs.declared.errors.TheConstants.{E_BPADDR, E_BPNUM, E_BMODE}
-use Rattle.proc_rules.specs.UserBytes.{user_bytes}
+use Rattle.proc_model.specs.UserBytes.{user_bytes}
 use Rattle.io_model.specs.declared.pending.PendingCall.{PendingCall}
 use Rattle.io_model.specs.declared.path.Target.{Target}
 use Rattle.io_model.specs.declared.path.Target.TheVariants.{File, Folder, Term, Pipe}
-use Rattle.io_rules.specs.Again.{path_number}
-use Rattle.io_rules.specs.Attempts.{io_step}
-use Rattle.io_rules.specs.Codes.{direction_of_call}
-use Rattle.io_rules.specs.Io.{Io, OpenPath, pending_at, open_path}
-use Rattle.io_rules.specs.Modes.{can_write}
-use Rattle.io_rules.specs.Step.{Caller, IoStep, refused, comes, reads, writes, needs, refuses, done}
-use Rattle.io_rules.specs.Transfer.{call_now, on_path, unless_nothing}
-use Rattle.io_rules.specs.Write.{Sending, line_bytes, sends_on, sent_bytes, sent_error, sent_line, writes_target}
-use Rattle.io_rules.specs.declared.io_call.Direction.TheVariants as Way
-use Rattle.io_rules.specs.declared.io_call.IoCall.{IoCall}
-use Rattle.io_rules.specs.declared.io_call.IoCall.TheVariants as Call
+use Rattle.io_model.specs.Again.{path_number}
+use Rattle.io_model.specs.Attempts.{io_step}
+use Rattle.io_model.specs.Codes.{direction_of_call}
+use Rattle.io_model.specs.Io.{Io, OpenPath, pending_at, open_path}
+use Rattle.io_model.specs.Modes.{can_write}
+use Rattle.io_model.specs.Step.{Caller, IoStep, refused, comes, reads, writes, needs, refuses, done}
+use Rattle.io_model.specs.Transfer.{call_now, on_path, unless_nothing}
+use Rattle.io_model.specs.Write.{Sending, line_bytes, sends_on, sent_bytes, sent_error, sent_line, writes_target}
+use Rattle.io_model.specs.declared.io_call.Direction.TheVariants as Way
+use Rattle.io_model.specs.declared.io_call.IoCall.{IoCall}
+use Rattle.io_model.specs.declared.io_call.IoCall.TheVariants as Call
 use Rattle.call_laws.proofs.StepWalk.{StepGives}
 
 -- the path of the call was opened on this terminal

@@ -5,12 +5,12 @@ use Rattle.std.proofs.lemmas.Bool.{cases_eq, cases_lt}
 use Rattle.std.proofs.lemmas.List.{get_or-set_same, get_or-set_other, get_or_past, length-set}
 use Rattle.os9_base.specs.declared.registers.Pid.{Pid}
 use Rattle.os9_base.specs.declared.registers.Regs.{Regs}
-use Rattle.proc_rules.specs.declared.record.Record.{Record}
-use Rattle.proc_rules.specs.Records.{new_record, record_at}
-use Rattle.proc_rules.specs.Signals.{after_send, send_fault, wake_signal, with_signal}
-use Rattle.proc_rules.specs.Processes.{Processes, regs_at}
-use Rattle.io_rules.specs.Arrivals.{ArrivesFrom, Desk, after_key_signal, every_user}
-use Rattle.io_rules.specs.Io.{Io}
+use Rattle.proc_model.specs.declared.record.Record.{Record}
+use Rattle.proc_model.specs.Records.{new_record, record_at}
+use Rattle.proc_model.specs.Signals.{after_send, send_fault, wake_signal, with_signal}
+use Rattle.proc_model.specs.Processes.{Processes, regs_at}
+use Rattle.io_model.specs.Arrivals.{ArrivesFrom, Desk, after_key_signal, every_user}
+use Rattle.io_model.specs.Io.{Io}
 
 -- a signal that is sent leaves the registers
 abbrev regs_in : Option Record → Regs

@@ -2,20 +2,20 @@
 use Rattle.std.proofs.Common.{◌≡◌, ℕ, zero, suc, Option, Some, None, List, [], refl, sym, ap, ◌∙◌, subst, inl}
 use Rattle.os9_outer.specs.TerminalState.{TerminalState}
 use Rattle.proc_model.specs.MemoryChanges.{stored}
-use Rattle.proc_rules.specs.Attempts.{after_attempt}
-use Rattle.proc_rules.specs.Processes.{Processes}
+use Rattle.proc_model.specs.Attempts.{after_attempt}
+use Rattle.proc_model.specs.Processes.{Processes}
 use Rattle.io_model.specs.Path.{slot_of}
 use Rattle.io_model.specs.Pipe.{IsPipe, pipe_of}
 use Rattle.io_model.specs.declared.path.SysPath.{SysPath}
 use Rattle.io_model.specs.declared.path.Target.{Target}
 use Rattle.io_model.specs.declared.path.Target.TheVariants.{File, Folder, Term, Pipe}
 use Rattle.io_model.specs.declared.path.TheConstants.{PROCESS_PATHS}
-use Rattle.io_rules.specs.Attempts.{Does, result_by}
-use Rattle.io_rules.specs.Io.{Io, pipe_bytes}
-use Rattle.io_rules.specs.Processes.{closed_below, closed_if_open, io_ended}
-use Rattle.io_rules.specs.Step.{Caller, IoEffect, IoEnd, IoStep, answers, fails, keeps, refused, comes, reads, writes}
-use Rattle.io_rules.specs.Waiting.{io_interrupted, wait_target, without_unfinished}
-use Rattle.io_rules.specs.declared.io_call.IoCall.{IoCall}
+use Rattle.io_model.specs.Attempts.{Does, result_by}
+use Rattle.io_model.specs.Io.{Io, pipe_bytes}
+use Rattle.io_model.specs.Processes.{closed_below, closed_if_open, io_ended}
+use Rattle.io_model.specs.Step.{Caller, IoEffect, IoEnd, IoStep, answers, fails, keeps, refused, comes, reads, writes}
+use Rattle.io_model.specs.Waiting.{io_interrupted, wait_target, without_unfinished}
+use Rattle.io_model.specs.declared.io_call.IoCall.{IoCall}
 use Rattle.stream_laws.proofs.PipeSteps.{IsAbsent, IsStoring, Leaves, Moved, PipeLeft, StaysEmpty, StepMoves, closed-left, left-then}
 
 -- ---- what a process closes

@@ -7,17 +7,17 @@ use Rattle.os9_base.specs.declared.calls.TheConstants.{I_READ}
 use Rattle.os9_base.specs.declared.errors.TheConstants.{E_PRCABT}
 use Rattle.os9_base.specs.declared.registers.Regs.{Regs}
 use Rattle.proc_model.specs.MemoryChanges.{stored}
-use Rattle.proc_rules.specs.declared.record.Intercept.{Intercept}
-use Rattle.proc_rules.specs.declared.record.Record.{Record}
-use Rattle.proc_rules.specs.Records.{IsLiving, is_waiting, record_at}
-use Rattle.proc_rules.specs.Signals.{with_signal}
-use Rattle.proc_rules.specs.Attempts.{goes_on, refused_regs}
-use Rattle.proc_rules.specs.Delivery.{after_delivery, delivered, frame_bytes, has_no_room, routine_begun, stack_top, with_frame}
-use Rattle.proc_rules.specs.Processes.{Processes, regs_at, with_records, with_regs_of}
-use Rattle.proc_rules.specs.Ready.{Act, delivers, act_of}
+use Rattle.proc_model.specs.declared.record.Intercept.{Intercept}
+use Rattle.proc_model.specs.declared.record.Record.{Record}
+use Rattle.proc_model.specs.Records.{IsLiving, is_waiting, record_at}
+use Rattle.proc_model.specs.Signals.{with_signal}
+use Rattle.proc_model.specs.Attempts.{goes_on, refused_regs}
+use Rattle.proc_model.specs.Delivery.{after_delivery, delivered, frame_bytes, has_no_room, routine_begun, stack_top, with_frame}
+use Rattle.proc_model.specs.Processes.{Processes, regs_at, with_records, with_regs_of}
+use Rattle.proc_model.specs.Ready.{Act, delivers, act_of}
 use Rattle.io_model.specs.declared.pending.PendingCall.{PendingCall}
-use Rattle.io_rules.specs.Io.{target_of}
-use Rattle.io_rules.specs.Waiting.{count_by, interrupted_count}
+use Rattle.io_model.specs.Io.{target_of}
+use Rattle.io_model.specs.Waiting.{count_by, interrupted_count}
 use Rattle.machine_model.specs.declared.ends.EventEnd.{EventEnd}
 use Rattle.machine_model.specs.declared.ends.EventEnd.TheVariants.{Ended}
 use Rattle.machine_model.specs.ProcessEvent.{broken_off, delivery_end}

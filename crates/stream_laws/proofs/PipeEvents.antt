@@ -4,19 +4,19 @@ use Rattle.std.specs.Prelude.{unwrap_or}
 use Rattle.std.proofs.lemmas.Option.{same_Some}
 use Rattle.cpu_model.specs.Step.{Outcome, Done, Calls, Aborts}
 use Rattle.proc_model.specs.MemoryChanges.{stored}
-use Rattle.proc_rules.specs.Attempts.{after_attempt}
-use Rattle.proc_rules.specs.CallResult.{CallResult}
-use Rattle.proc_rules.specs.Delivery.{delivered}
-use Rattle.proc_rules.specs.Processes.{Processes, regs_at}
-use Rattle.proc_rules.specs.Ready.{Act, attempts, delivers, executes, act_of}
+use Rattle.proc_model.specs.Attempts.{after_attempt}
+use Rattle.proc_model.specs.CallResult.{CallResult}
+use Rattle.proc_model.specs.Delivery.{delivered}
+use Rattle.proc_model.specs.Processes.{Processes, regs_at}
+use Rattle.proc_model.specs.Ready.{Act, attempts, delivers, executes, act_of}
 use Rattle.io_model.specs.Pipe.{IsPipe, In, Out, pipe_of}
 use Rattle.io_model.specs.declared.path.Target.{Target}
-use Rattle.io_rules.specs.Attempts.{IoAttempts, caller_of, io_after, step_of}
-use Rattle.io_rules.specs.Codes.{io_call_of}
-use Rattle.io_rules.specs.Io.{Io, pipe_bytes}
-use Rattle.io_rules.specs.Step.{IoEnd}
-use Rattle.io_rules.specs.declared.io_call.Direction.{Direction}
-use Rattle.io_rules.specs.declared.io_call.IoCall.{IoCall}
+use Rattle.io_model.specs.Attempts.{IoAttempts, caller_of, io_after, step_of}
+use Rattle.io_model.specs.Codes.{io_call_of}
+use Rattle.io_model.specs.Io.{Io, pipe_bytes}
+use Rattle.io_model.specs.Step.{IoEnd}
+use Rattle.io_model.specs.declared.io_call.Direction.{Direction}
+use Rattle.io_model.specs.declared.io_call.IoCall.{IoCall}
 use Rattle.file_rules.specs.Files.{place_of_target}
 use Rattle.machine_model.specs.ProcessEvent.{next_instruction}
 use Rattle.machine_model.specs.declared.ends.EventEnd.{EventEnd}

@@ -2,10 +2,10 @@
 use Rattle.std.proofs.Common.{◌≡◌, ℕ, ◌+◌, Option, Some, None, List, [], ◌∷◌, ◌++◌, length, map, refl, sym, ap, ◌∙◌, subst}
 use Rattle.std.specs.List.{AllByRecursion}
 use Rattle.std.proofs.lemmas.List.Elements.{filter_map-append}
-use Rattle.proc_rules.specs.Processes.{regs_at}
+use Rattle.proc_model.specs.Processes.{regs_at}
 use Rattle.io_model.specs.Pipe.{Flows, IsPipe, In, Movement, Out, held_bytes}
 use Rattle.io_model.proofs.PipeLemmas.{flows-in_order}
-use Rattle.io_rules.specs.Io.{pipe_bytes}
+use Rattle.io_model.specs.Io.{pipe_bytes}
 use Rattle.machine_model.specs.declared.ends.EventEnd.{EventEnd}
 use Rattle.machine_model.specs.declared.ends.SliceEnd.{SliceEnd}
 use Rattle.machine_model.specs.Console.{terminals_emptied}

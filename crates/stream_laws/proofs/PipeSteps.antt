@@ -12,7 +12,7 @@ use Rattle.os9_base.specs.declared.errors.TheConstants.{E_BPADDR, E_BPNUM, E_BMO
 use Rattle.os9_base.specs.declared.registers.Regs.{Regs}
 use Rattle.os9_base.specs.declared.name_fault.NameFault.{NameFault}
 use Rattle.os9_base.specs.declared.name_fault.NameFault.TheVariants.{Unreadable, NoName}
-use Rattle.proc_rules.specs.UserBytes.{user_bytes}
+use Rattle.proc_model.specs.UserBytes.{user_bytes}
 use Rattle.io_model.specs.Pending.{count_left, is_complete, moved_on}
 use Rattle.io_model.specs.Line.{has_return, line_length, return_place}
 use Rattle.io_model.specs.Path.{closed_desc, slot_of, free_number, new_number, paths_after_begin, paths_after_close, paths_after_dup}
@@ -26,28 +26,28 @@ use Rattle.io_model.specs.declared.pipe.PipeAns.{PipeAns}
 use Rattle.io_model.specs.declared.pipe.PipeAns.TheVariants as Ans
 use Rattle.io_model.specs.declared.terminal.ReadKind.{ReadKind}
 use Rattle.io_model.specs.declared.terminal.ReadKind.TheVariants.{Bytes, WholeLine}
-use Rattle.io_rules.specs.Again.{path_number}
-use Rattle.io_rules.specs.Alone.{is_alone}
-use Rattle.io_rules.specs.Attempts.{io_step}
-use Rattle.io_rules.specs.Close.{after_close, without_path, without_target}
-use Rattle.io_rules.specs.Codes.{direction_of_call}
-use Rattle.io_rules.specs.Io.{Io, OpenPath, pending_at, new_desc, open_path, pipe_bytes, with_paths, with_pipes}
-use Rattle.io_rules.specs.Lead.{Lead, to_terminal, to_pipe, nowhere, what_is_there, a_new_place, lead_of}
-use Rattle.io_rules.specs.Modes.{can_read, can_write, is_mode}
-use Rattle.io_rules.specs.Open.{begins, opened_regs, opens_lead, reads_list}
-use Rattle.io_rules.specs.PathList.{PathList, path_list}
-use Rattle.io_rules.specs.Pipes.{after_adding, after_taking, count_regs, read_leaves, read_line_leaves, write_leaves, writes_pipe}
-use Rattle.io_rules.specs.Read.{pipe_read, reads_target}
-use Rattle.io_rules.specs.Status.{gets_end, gets_options, gets_ready, gets_status, options, ready_count}
-use Rattle.io_rules.specs.Step.{Caller, IoEffect, IoEnd, IoStep, answers, fails, keeps, refused, comes, reads, writes, leaves, needs, refuses, done, stores}
-use Rattle.io_rules.specs.Transfer.{call_now, first_call, on_path, unless_nothing}
-use Rattle.io_rules.specs.Write.{Sending, error_line, f_perr, line_bytes, sends_on, sent_bytes, sent_error, sent_line, writes_target}
-use Rattle.io_rules.specs.declared.io_call.Direction.{Direction}
-use Rattle.io_rules.specs.declared.io_call.Direction.TheVariants.{Reading, Writing}
-use Rattle.io_rules.specs.declared.io_call.IoCall.{IoCall}
-use Rattle.io_rules.specs.declared.io_call.IoCall.TheVariants as Call
-use Rattle.io_rules.specs.declared.modes.TheConstants.{STANDARD_ERROR}
-use Rattle.io_rules.specs.declared.status.TheConstants.{SS_OPT, SS_READY, SS_EOF, OPTION_BYTES}
+use Rattle.io_model.specs.Again.{path_number}
+use Rattle.io_model.specs.Alone.{is_alone}
+use Rattle.io_model.specs.Attempts.{io_step}
+use Rattle.io_model.specs.Close.{after_close, without_path, without_target}
+use Rattle.io_model.specs.Codes.{direction_of_call}
+use Rattle.io_model.specs.Io.{Io, OpenPath, pending_at, new_desc, open_path, pipe_bytes, with_paths, with_pipes}
+use Rattle.io_model.specs.Lead.{Lead, to_terminal, to_pipe, nowhere, what_is_there, a_new_place, lead_of}
+use Rattle.io_model.specs.Modes.{can_read, can_write, is_mode}
+use Rattle.io_model.specs.Open.{begins, opened_regs, opens_lead, reads_list}
+use Rattle.io_model.specs.PathList.{PathList, path_list}
+use Rattle.io_model.specs.Pipes.{after_adding, after_taking, count_regs, read_leaves, read_line_leaves, write_leaves, writes_pipe}
+use Rattle.io_model.specs.Read.{pipe_read, reads_target}
+use Rattle.io_model.specs.Status.{gets_end, gets_options, gets_ready, gets_status, options, ready_count}
+use Rattle.io_model.specs.Step.{Caller, IoEffect, IoEnd, IoStep, answers, fails, keeps, refused, comes, reads, writes, leaves, needs, refuses, done, stores}
+use Rattle.io_model.specs.Transfer.{call_now, first_call, on_path, unless_nothing}
+use Rattle.io_model.specs.Write.{Sending, error_line, f_perr, line_bytes, sends_on, sent_bytes, sent_error, sent_line, writes_target}
+use Rattle.io_model.specs.declared.io_call.Direction.{Direction}
+use Rattle.io_model.specs.declared.io_call.Direction.TheVariants.{Reading, Writing}
+use Rattle.io_model.specs.declared.io_call.IoCall.{IoCall}
+use Rattle.io_model.specs.declared.io_call.IoCall.TheVariants as Call
+use Rattle.io_model.specs.declared.modes.TheConstants.{STANDARD_ERROR}
+use Rattle.io_model.specs.declared.status.TheConstants.{SS_OPT, SS_READY, SS_EOF, OPTION_BYTES}
 use Rattle.stream_laws.specs.Flow.{MovesNone, ReadCounts, WriteCounts, in_all, moved_before, read_answers, sent_by, stored_from, write_answers}
 use Rattle.stream_laws.specs.Keys.{read_call}
 

@@ -5,26 +5,26 @@ use Rattle.std.specs.Option.{option_map_or}
 use Rattle.os9_base.specs.declared.calls.TheConstants.{I_READ}
 use Rattle.os9_base.specs.declared.registers.Regs.{Regs}
 use Rattle.proc_model.specs.MemoryChanges.{stored}
-use Rattle.proc_rules.specs.Records.{is_waiting, record_at}
-use Rattle.proc_rules.specs.Attempts.{after_attempt, refused_regs}
-use Rattle.proc_rules.specs.Delivery.{frame_bytes, stack_top}
-use Rattle.proc_rules.specs.Processes.{Processes, regs_at}
-use Rattle.proc_rules.specs.Ready.{attempts, delivers, act_of}
-use Rattle.proc_rules.specs.UserBytes.{user_bytes}
+use Rattle.proc_model.specs.Records.{is_waiting, record_at}
+use Rattle.proc_model.specs.Attempts.{after_attempt, refused_regs}
+use Rattle.proc_model.specs.Delivery.{frame_bytes, stack_top}
+use Rattle.proc_model.specs.Processes.{Processes, regs_at}
+use Rattle.proc_model.specs.Ready.{attempts, delivers, act_of}
+use Rattle.proc_model.specs.UserBytes.{user_bytes}
 use Rattle.io_model.specs.Pipe.{Flows, IsPipe, Movement, In, Out, came_in, pipe_of, pipe_room, went_out}
 use Rattle.io_model.specs.declared.pending.PendingCall.{PendingCall}
 use Rattle.io_model.specs.declared.path.Target.TheVariants.{Pipe}
-use Rattle.io_rules.specs.Again.{path_number}
-use Rattle.io_rules.specs.Attempts.{caller_of, io_after, result_of}
-use Rattle.io_rules.specs.Codes.{direction_of_call, io_call_of}
-use Rattle.io_rules.specs.Io.{Io, OpenPath, pending_at, open_path, pipe_bytes, target_of}
-use Rattle.io_rules.specs.Pipes.{count_regs}
-use Rattle.io_rules.specs.Step.{Caller, IoEffect, IoEnd, answers, fails, keeps}
-use Rattle.io_rules.specs.Write.{error_line, line_bytes}
-use Rattle.io_rules.specs.declared.io_call.Direction.{Direction}
-use Rattle.io_rules.specs.declared.io_call.Direction.TheVariants.{Reading, Writing}
-use Rattle.io_rules.specs.declared.io_call.IoCall.{IoCall}
-use Rattle.io_rules.specs.declared.io_call.IoCall.TheVariants as Call
+use Rattle.io_model.specs.Again.{path_number}
+use Rattle.io_model.specs.Attempts.{caller_of, io_after, result_of}
+use Rattle.io_model.specs.Codes.{direction_of_call, io_call_of}
+use Rattle.io_model.specs.Io.{Io, OpenPath, pending_at, open_path, pipe_bytes, target_of}
+use Rattle.io_model.specs.Pipes.{count_regs}
+use Rattle.io_model.specs.Step.{Caller, IoEffect, IoEnd, answers, fails, keeps}
+use Rattle.io_model.specs.Write.{error_line, line_bytes}
+use Rattle.io_model.specs.declared.io_call.Direction.{Direction}
+use Rattle.io_model.specs.declared.io_call.Direction.TheVariants.{Reading, Writing}
+use Rattle.io_model.specs.declared.io_call.IoCall.{IoCall}
+use Rattle.io_model.specs.declared.io_call.IoCall.TheVariants as Call
 use Rattle.machine_model.specs.declared.ends.EventEnd.{EventEnd}
 use Rattle.machine_model.specs.Event.{Event}
 use Rattle.machine_model.specs.State.{State}

@@ -7,8 +7,8 @@ use Rattle.os9_base.specs.declared.errors.TheConstants.{E_EOF, E_WRITE}
 use Rattle.os9_base.specs.declared.registers.Regs.{Regs}
 use Rattle.os9_outer.specs.declared.terminal.Key.{Key}
 use Rattle.proc_model.specs.MemoryChanges.{stored}
-use Rattle.proc_rules.specs.Processes.{regs_at}
-use Rattle.proc_rules.specs.Ready.{attempts, delivers, act_of}
+use Rattle.proc_model.specs.Processes.{regs_at}
+use Rattle.proc_model.specs.Ready.{attempts, delivers, act_of}
 use Rattle.io_model.specs.Edit.{Editing, Typing, cleared}
 use Rattle.io_model.specs.Pipe.{Flows, In, Movement, Out, came_in, went_out}
 use Rattle.io_model.specs.Terminal.{Terminal, is_taken, key_bytes, reader, typed, typed_bytes}
@@ -18,16 +18,16 @@ use Rattle.io_model.specs.declared.terminal.ReadKind.{ReadKind}
 use Rattle.io_model.specs.declared.terminal.ReadKind.TheVariants.{Bytes, WholeLine}
 use Rattle.io_model.specs.declared.terminal.Reading.{Reading}
 use Rattle.io_model.specs.declared.terminal.TheConstants.{TYPE_AHEAD}
-use Rattle.io_rules.specs.Again.{path_number}
-use Rattle.io_rules.specs.Attempts.{caller_of}
-use Rattle.io_rules.specs.Codes.{direction_of_call, io_call_of}
-use Rattle.io_rules.specs.Io.{Io, OpenPath, pending_at, open_path, terminal_at}
-use Rattle.io_rules.specs.Pipes.{count_regs}
-use Rattle.io_rules.specs.Step.{Caller, IoEnd, answers, fails, keeps}
-use Rattle.io_rules.specs.Waiting.{pid, wait_target}
-use Rattle.io_rules.specs.declared.io_call.Direction.TheVariants.{Writing}
-use Rattle.io_rules.specs.declared.io_call.IoCall.{IoCall}
-use Rattle.io_rules.specs.declared.io_call.IoCall.TheVariants as Call
+use Rattle.io_model.specs.Again.{path_number}
+use Rattle.io_model.specs.Attempts.{caller_of}
+use Rattle.io_model.specs.Codes.{direction_of_call, io_call_of}
+use Rattle.io_model.specs.Io.{Io, OpenPath, pending_at, open_path, terminal_at}
+use Rattle.io_model.specs.Pipes.{count_regs}
+use Rattle.io_model.specs.Step.{Caller, IoEnd, answers, fails, keeps}
+use Rattle.io_model.specs.Waiting.{pid, wait_target}
+use Rattle.io_model.specs.declared.io_call.Direction.TheVariants.{Writing}
+use Rattle.io_model.specs.declared.io_call.IoCall.{IoCall}
+use Rattle.io_model.specs.declared.io_call.IoCall.TheVariants as Call
 use Rattle.machine_model.specs.declared.ends.EventEnd.{EventEnd}
 use Rattle.machine_model.specs.declared.ends.EventEnd.TheVariants.{Ended}
 use Rattle.stream_laws.specs.Flow.{EndsIn}

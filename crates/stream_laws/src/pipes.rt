@@ -3,7 +3,7 @@
 ghost use Rattle.std.specs.Prelude.{◌≡◌, ◌⊎◌, ℕ, List, [], ◌++◌};
 ghost use Rattle.io_model.specs.Pipe.{IsPipe};
 ghost use Rattle.io_model.specs.declared.pending.PendingCall.{PendingCall};
-ghost use Rattle.io_rules.specs.Io.{pipe_bytes};
+ghost use Rattle.io_model.specs.Io.{pipe_bytes};
 ghost use Rattle.machine_model.specs.declared.ends.EventEnd.{EventEnd};
 ghost use Rattle.machine_model.specs.declared.ends.EventEnd.TheVariants.{Ended};
 ghost use Rattle.machine_model.specs.declared.ends.SliceEnd.{SliceEnd};

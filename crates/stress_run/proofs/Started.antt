@@ -1,8 +1,8 @@
 -- An accepted boot file starts a machine.
 use Rattle.std.proofs.Common.{◌≡◌, ℕ, List, refl, ap, ◌∙◌, arith}
-use Rattle.proc_rules.specs.Processes.{Processes}
+use Rattle.proc_model.specs.Processes.{Processes}
 use Rattle.proc_model.specs.MemoryChanges.{started}
-use Rattle.proc_rules.specs.Program.{area_pages, blocks_of_pages}
+use Rattle.proc_model.specs.Program.{area_pages, blocks_of_pages}
 use Rattle.machine_model.specs.declared.ends.BootFault.{BootFault}
 use Rattle.machine_model.specs.ProcessStart.{Refuses, StartsProcesses, boot_memory, first_process, first_start, only_process}
 use Rattle.machine_model.proofs.StartLaws.{never-both}

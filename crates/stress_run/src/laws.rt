@@ -1,7 +1,7 @@
 //! The effect of an accepted boot file, and of the boot file of a load.
 
 ghost use Rattle.std.specs.Prelude.{ℕ, List};
-ghost use Rattle.proc_rules.specs.Processes.{Processes};
+ghost use Rattle.proc_model.specs.Processes.{Processes};
 ghost use Rattle.machine_model.specs.declared.ends.BootFault.{BootFault};
 ghost use Rattle.machine_model.specs.ProcessStart.{Refuses, StartsProcesses};
 ghost use Rattle.guest_mods.specs.declared.load.Load.{Load};

@@ -2,8 +2,8 @@
 use Rattle.std.specs.Prelude.{◌≡◌, ℕ}
 use Rattle.os9_base.specs.declared.registers.TimePacket.{TimePacket}
 use Rattle.proc_model.specs.MemoryChanges.{stored}
-use Rattle.proc_rules.specs.CallResult.{CallResult}
-use Rattle.proc_rules.specs.Processes.{Processes, with_memory}
+use Rattle.proc_model.specs.CallResult.{CallResult}
+use Rattle.proc_model.specs.Processes.{Processes, with_memory}
 use Rattle.time_rules.specs.Packet.{packet_bytes}
 use Rattle.time_rules.specs.STime.{f_stime}
 use Rattle.time_rules.specs.Step.{TimeStep, refused, tells, sets}

@@ -2,9 +2,9 @@
 use Rattle.std.specs.Prelude.{ℕ, List}
 use Rattle.os9_base.specs.declared.registers.TimePacket.{TimePacket}
 use Rattle.time_rules.specs.CivilRows.{at}
-use Rattle.proc_rules.specs.Records.{zero_regs}
-use Rattle.proc_rules.specs.Processes.{Processes}
-use Rattle.proc_rules.specs.Rows.{one_process}
+use Rattle.proc_model.specs.Records.{zero_regs}
+use Rattle.proc_model.specs.Processes.{Processes}
+use Rattle.proc_model.specs.Rows.{one_process}
 use Rattle.time_rules.specs.declared.clock.Clock.{Clock}
 
 -- the state in tick 10 in which process 2 has this address in X, and sees these bytes from address 0 on

@@ -4,8 +4,8 @@
 use Rattle.std.specs.Prelude.{ℕ, is_none}
 use Rattle.os9_base.specs.declared.errors.TheConstants.{E_BPADDR}
 use Rattle.os9_base.specs.declared.registers.TimePacket.{TimePacket}
-use Rattle.proc_rules.specs.Processes.{Processes, regs_at, cells_at}
-use Rattle.proc_rules.specs.UserBytes.{user_bytes}
+use Rattle.proc_model.specs.Processes.{Processes, regs_at, cells_at}
+use Rattle.proc_model.specs.UserBytes.{user_bytes}
 use Rattle.time_rules.specs.Step.{TimeStep, tells, refuses}
 use Rattle.time_rules.specs.declared.clock.TheConstants.{PACKET_BYTES}
 

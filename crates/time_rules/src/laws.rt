@@ -2,8 +2,8 @@
 
 ghost use Rattle.std.specs.Prelude.{◌≡◌, ℕ, ◌≤◌, true};
 ghost use Rattle.os9_base.specs.declared.registers.TimePacket.{TimePacket};
-ghost use Rattle.proc_rules.specs.CallResult.{CallResult};
-ghost use Rattle.proc_rules.specs.Processes.{Processes};
+ghost use Rattle.proc_model.specs.CallResult.{CallResult};
+ghost use Rattle.proc_model.specs.Processes.{Processes};
 ghost use Rattle.time_rules.specs.CivilTime.{is_time_packet};
 ghost use Rattle.time_rules.specs.Attempts.{TimeAttempts};
 ghost use Rattle.time_rules.specs.Clock.{IsClock, IsNow, first_clock};

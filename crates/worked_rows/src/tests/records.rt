@@ -2,7 +2,7 @@
 
 ghost use Rattle.std.specs.Prelude.{◌≡◌};
 ghost use Rattle.record_locks.specs.Places.{IsPath};
-ghost use Rattle.proc_rules.specs.Records.{IsLiving, IsProcess, is_living};
+ghost use Rattle.proc_model.specs.Records.{IsLiving, IsProcess, is_living};
 
 use file_state::state::FileState;
 use lock_model::lock::{Grant, Held, Range, Request};
@@ -11,7 +11,7 @@ use os9_base::calls::I_READ;
 use os9_base::limits::PROCESS_PLACES;
 use os9_base::registers::Pid;
 use os9_sched::Cause;
-use proc_rules::io_ready::IoReady;
+use proc_model::io_ready::IoReady;
 use proc_state::choice::{dispatch, settle};
 use proc_state::state::ProcState;
 use process_table::Life;

@@ -1,5 +1,5 @@
 use Rattle.std.proofs.Common.{refl}
-use Rattle.proc_model.specs.Crc.{divided_once}
+use Rattle.proc_model.specs.CrcModel.{divided_once}
 use Rattle.cpu_model.specs.Table.{row, postbyte, form_lines}
 use Rattle.cpu_model.specs.BasePage.{base_page}
 use Rattle.cpu_model.specs.TenPage.{ten_page}

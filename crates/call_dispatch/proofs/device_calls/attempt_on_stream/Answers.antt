@@ -1,7 +1,7 @@
 use Rattle.std.proofs.Common.{[], replicate, vec_len}
 use Rattle.std.proofs.lemmas.List.{length-replicate}
 use Rattle.io_model.specs.Terminal.{driver_with}
-use Rattle.io_rules.specs.declared.io_call.IoCall.TheVariants as Call
+use Rattle.io_model.specs.declared.io_call.IoCall.TheVariants as Call
 use Rattle.call_dispatch.proofs.Quiet.{attempts-as, has-memory, wants-as}
 use Rattle.call_dispatch.proofs.device_calls.attempt_on_stream.Goals as goal
 

@@ -1,7 +1,7 @@
 use Rattle.std.proofs.Common.{◌≡◌, ◌∙◌, None, subst}
 use Rattle.os9_base.specs.declared.registers.Regs.{Regs}
-use Rattle.proc_rules.specs.Processes.{regs_at}
-use Rattle.io_rules.specs.Attempts.{caller_of}
+use Rattle.proc_model.specs.Processes.{regs_at}
+use Rattle.io_model.specs.Attempts.{caller_of}
 use Rattle.file_rules.specs.Files.{open_file}
 use Rattle.file_rules.specs.Seek.{seeks_nothing}
 use Rattle.file_rules.specs.declared.path_call.PathCall.TheVariants as Call

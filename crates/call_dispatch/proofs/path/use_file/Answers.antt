@@ -1,7 +1,7 @@
 use Rattle.std.proofs.Common.{◌∙◌, ap, refl, sym, subst}
 use Rattle.call_dispatch.proofs.Quiet.{is-first}
-use Rattle.io_rules.specs.Again.{IsAgain}
-use Rattle.io_rules.specs.declared.io_call.IoCall.TheVariants as Device
+use Rattle.io_model.specs.Again.{IsAgain}
+use Rattle.io_model.specs.declared.io_call.IoCall.TheVariants as Device
 use Rattle.call_dispatch.specs.declared.path_use.PathUse.{PathUse}
 use Rattle.call_dispatch.proofs.OnPaths.{something-kept}
 use Rattle.file_rules.specs.declared.path_call.PathCall.TheVariants as Call

@@ -1,8 +1,8 @@
 use Rattle.std.proofs.Common.{rules, ◌≡◌, ◌∙◌, true, false, ap, refl, sym}
 use denote.Enum.Bare.{same_true}
 use Rattle.os9_base.specs.declared.registers.Regs.{Regs}
-use Rattle.io_rules.specs.Again.{path_number}
-use Rattle.proc_rules.specs.Records.{record_at}
+use Rattle.io_model.specs.Again.{path_number}
+use Rattle.proc_model.specs.Records.{record_at}
 use Rattle.call_dispatch.specs.contracts.path_use.PathUse.{the_type}
 use Rattle.call_dispatch.specs.declared.path_use.PathUse.TheVariants as Use
 use Rattle.file_io.proofs.TryingLemmas.{regs-tied}

@@ -2,8 +2,8 @@ use Rattle.std.proofs.Common.{◌≡◌, Option, Some, option_map, sym, ap, ◌�
 use Rattle.std.specs.Prelude.{IfSome}
 use Rattle.std.proofs.lemmas.Option.{same_Some}
 use Rattle.os9_base.specs.declared.registers.Pid.{Pid}
-use Rattle.proc_rules.specs.Records.{free_process}
-use Rattle.proc_rules.specs.Processes.{Processes, with_own, with_regs_of}
+use Rattle.proc_model.specs.Records.{free_process}
+use Rattle.proc_model.specs.Processes.{Processes, with_own, with_regs_of}
 use Rattle.proc_state.specs.Beginning.{with_made}
 use Rattle.proc_state.specs.Tie.{Represents}
 use Rattle.machine_model.specs.ProcessStart.{first_priority, first_process, no_parent, superuser}

@@ -4,7 +4,7 @@ use Rattle.std.proofs.lemmas.Result.{err_from_is_err_and}
 use Rattle.proc_model.specs.declared.module.ModuleInfo.{ModuleInfo}
 use Rattle.proc_model.specs.MemoryChanges.{linked}
 use Rattle.proc_model.specs.ModuleList.{ModuleEntry}
-use Rattle.proc_rules.specs.Program.{Program}
+use Rattle.proc_model.specs.Program.{Program}
 use Rattle.machine_model.specs.ProcessStart.{first_process, first_start}
 use Rattle.cold_start.specs.Beginning.{nobody_in}
 use Rattle.cold_start.proofs.Seen.{entry-there}

@@ -4,9 +4,9 @@ use Rattle.std.proofs.lemmas.Result.{err_from_is_err_and}
 use Rattle.guest_memory.specs.Tie.{modules_of}
 use Rattle.guest_memory.proofs.Seen.{found-seen}
 use Rattle.proc_model.specs.declared.module.ModId.{ModId}
-use Rattle.proc_rules.specs.declared.own.Own.{Own}
-use Rattle.proc_rules.specs.Processes.{Processes, with_memory}
-use Rattle.proc_rules.specs.Program.{program_kind}
+use Rattle.proc_model.specs.declared.own.Own.{Own}
+use Rattle.proc_model.specs.Processes.{Processes, with_memory}
+use Rattle.proc_model.specs.Program.{program_kind}
 use Rattle.proc_state.specs.Sound.{ArePrimaries}
 use Rattle.proc_state.proofs.First.{ArePrimaries-first}
 use Rattle.machine_model.specs.ProcessStart.{boot_memory, first_program}

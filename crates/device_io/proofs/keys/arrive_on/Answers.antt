@@ -1,7 +1,7 @@
 use Rattle.std.proofs.Common.{Option, ap, ◌∙◌, sym, rules}
 use Rattle.os9_base.specs.declared.registers.Pid.{Pid}
-use Rattle.io_rules.specs.Arrivals.{after_key_signal}
-use Rattle.io_rules.specs.Io.{terminal_at}
+use Rattle.io_model.specs.Arrivals.{after_key_signal}
+use Rattle.io_model.specs.Io.{terminal_at}
 use Rattle.device_io.proofs.Quiet.{quiet-io, same-ok}
 use Rattle.device_io.proofs.keys.arrive_on.Goals as goal
 

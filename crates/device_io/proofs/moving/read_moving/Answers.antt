@@ -1,6 +1,6 @@
 use Rattle.std.proofs.Common.{◌∙◌, sym, arith}
-use Rattle.proc_rules.specs.Processes.{cells_at}
-use Rattle.proc_rules.specs.UserBytes.{user_bytes}
+use Rattle.proc_model.specs.Processes.{cells_at}
+use Rattle.proc_model.specs.UserBytes.{user_bytes}
 use Rattle.device_io.proofs.LineLemmas.{user-length}
 use Rattle.device_io.proofs.ReadingLemmas.{read-window}
 use Rattle.device_io.proofs.moving.read_moving.Goals as goal

@@ -1,7 +1,7 @@
 use Rattle.std.proofs.Common.{◌≡◌, ◌≤◌, ◌++◌, ℕ, List, length, take, drop, ap, subst, sym, arith}
 use Rattle.std.specs.Prelude.{IfSome}
 use Rattle.os9_base.specs.Cells.{Cells}
-use Rattle.proc_rules.specs.UserBytes.{user_bytes}
+use Rattle.proc_model.specs.UserBytes.{user_bytes}
 use Rattle.guest_memory.proofs.Seen.{cells_of-seen}
 use Rattle.guest_memory.specs.Tie.{cells_of}
 use Rattle.device_io.proofs.ReadingLemmas.{front-of}

@@ -1,7 +1,7 @@
 use Rattle.std.proofs.Common.{[], take, sym, subst}
 use Rattle.os9_base.specs.declared.errors.TheConstants.{E_EOF, E_WRITE}
 use Rattle.io_model.specs.declared.pipe.PipeAns.TheVariants.{Done, Wait, End, NoReader}
-use Rattle.io_rules.specs.Io.{Io}
+use Rattle.io_model.specs.Io.{Io}
 use Rattle.io_state.specs.Sound.{MayWait}
 use Rattle.device_io.proofs.LeavingLemmas.{leaves-answer, leaves-refusal, leaves-wait, read-leaves}
 use Rattle.device_io.proofs.MovingLemmas.{called-regs}

@@ -7,10 +7,10 @@ use Rattle.io_model.specs.Pipe.{moved_count}
 use Rattle.io_model.specs.declared.pending.PendingCall.{PendingCall}
 use Rattle.io_model.specs.declared.pipe.PipeAns.{PipeAns}
 use Rattle.io_model.specs.declared.pipe.PipeAns.TheVariants.{Done, Wait, End, NoReader}
-use Rattle.io_rules.specs.Attempts.{caller_of}
-use Rattle.io_rules.specs.Io.{Io}
-use Rattle.io_rules.specs.Pipes.{count_regs, line_end}
-use Rattle.io_rules.specs.Step.{answers, keeps, stores}
+use Rattle.io_model.specs.Attempts.{caller_of}
+use Rattle.io_model.specs.Io.{Io}
+use Rattle.io_model.specs.Pipes.{count_regs, line_end}
+use Rattle.io_model.specs.Step.{answers, keeps, stores}
 use Rattle.io_state.specs.Sound.{MayWait}
 use Rattle.proc_state.proofs.Living.{IsProcess-living}
 use Rattle.device_io.specs.Leaving.{Leaves}

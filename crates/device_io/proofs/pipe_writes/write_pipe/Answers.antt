@@ -1,9 +1,9 @@
 use Rattle.std.proofs.Common.{◌≡◌, ◌-◌, Bool, List, ℕ, drop, length, take, subst, sym, arith}
 use Rattle.std.proofs.lemmas.List.{take_all, length-drop}
 use Rattle.io_model.specs.declared.pipe.PipeAns.{PipeAns}
-use Rattle.io_rules.specs.Io.{Io}
-use Rattle.io_rules.specs.Pipes.{write_end, write_leaves, writes_pipe, writes_rest}
-use Rattle.io_rules.specs.Step.{leaves}
+use Rattle.io_model.specs.Io.{Io}
+use Rattle.io_model.specs.Pipes.{write_end, write_leaves, writes_pipe, writes_rest}
+use Rattle.io_model.specs.Step.{leaves}
 use Rattle.io_state.specs.Sound.{MayWait, ReadsNoTerminal}
 use Rattle.device_io.specs.Leaving.{Settles}
 use Rattle.device_io.proofs.pipe_writes.write_pipe.Goals as goal

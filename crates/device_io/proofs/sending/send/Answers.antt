@@ -4,11 +4,11 @@ use Rattle.os9_base.specs.declared.errors.TheConstants.{E_BMODE, E_BPNUM, E_UNKS
 use Rattle.os9_base.specs.declared.registers.Regs.{Regs}
 use Rattle.io_model.specs.declared.path.Target.{Target}
 use Rattle.io_model.specs.declared.path.Target.TheVariants.{Pipe, Term}
-use Rattle.io_rules.specs.Alone.{is_alone}
-use Rattle.io_rules.specs.Io.{OpenPath}
-use Rattle.io_rules.specs.Pipes.{writes_pipe}
-use Rattle.io_rules.specs.Step.{Caller, comes, done, refused}
-use Rattle.io_rules.specs.declared.io_call.Direction.TheVariants as Way
+use Rattle.io_model.specs.Alone.{is_alone}
+use Rattle.io_model.specs.Io.{OpenPath}
+use Rattle.io_model.specs.Pipes.{writes_pipe}
+use Rattle.io_model.specs.Step.{Caller, comes, done, refused}
+use Rattle.io_model.specs.declared.io_call.Direction.TheVariants as Way
 use Rattle.device_io.proofs.PassingLemmas.{path-found, unfound, unwritable, writes-nothing, writes-on}
 use Rattle.device_io.proofs.SendingLemmas.{on-pipe, on-terminal, sends-done, sends-refused, sends-same, sends-settled, write-call}
 use Rattle.device_io.specs.Sending.{put_on, regs_done, sender, write_named}

@@ -1,7 +1,7 @@
 use Rattle.io_model.specs.declared.terminal.ReadKind.{ReadKind}
-use Rattle.io_rules.specs.Attempts.{caller_of}
-use Rattle.io_rules.specs.Read as model
-use Rattle.io_rules.specs.declared.io_call.IoCall.TheVariants as Call
+use Rattle.io_model.specs.Attempts.{caller_of}
+use Rattle.io_model.specs.Read as model
+use Rattle.io_model.specs.declared.io_call.IoCall.TheVariants as Call
 use Rattle.device_io.proofs.StepLemmas.{read_step-bytes}
 use Rattle.device_io.proofs.TryingLemmas.{attempts-of, tries-same, wants-of}
 use Rattle.device_io.specs.Moving.{read_step}

@@ -6,10 +6,10 @@ use Rattle.io_model.specs.declared.path.Target.{Target}
 use Rattle.io_model.specs.declared.path.Target.TheVariants.{Pipe, Term}
 use Rattle.io_model.specs.declared.pending.PendingCall.{PendingCall}
 use Rattle.io_model.specs.declared.terminal.ReadKind.{ReadKind}
-use Rattle.io_rules.specs.Attempts.{caller_of}
-use Rattle.io_rules.specs.Io.{OpenPath, pending_at}
-use Rattle.io_rules.specs.Read.{pipe_read, reads_target}
-use Rattle.io_rules.specs.Step.{comes, done, refused}
+use Rattle.io_model.specs.Attempts.{caller_of}
+use Rattle.io_model.specs.Io.{OpenPath, pending_at}
+use Rattle.io_model.specs.Read.{pipe_read, reads_target}
+use Rattle.io_model.specs.Step.{comes, done, refused}
 use Rattle.io_state.specs.Sound.{IsNoRead}
 use Rattle.device_io.proofs.MovingLemmas.{called-read, called-regs, kept-none, stays-read}
 use Rattle.device_io.proofs.PassingLemmas.{reads-nothing, reads-on, unnamed, unopened, unreadable}

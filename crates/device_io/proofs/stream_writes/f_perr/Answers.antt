@@ -1,9 +1,9 @@
 use Rattle.std.proofs.Common.{◌≡◌, List, ℕ, length, subst, sym}
-use Rattle.proc_rules.specs.Processes.{cells_at, regs_at}
+use Rattle.proc_model.specs.Processes.{cells_at, regs_at}
 use Rattle.io_model.specs.Line.{line_length}
-use Rattle.io_rules.specs.Attempts.{caller_of}
-use Rattle.io_rules.specs.Write as model
-use Rattle.io_rules.specs.declared.io_call.IoCall.TheVariants as Call
+use Rattle.io_model.specs.Attempts.{caller_of}
+use Rattle.io_model.specs.Write as model
+use Rattle.io_model.specs.declared.io_call.IoCall.TheVariants as Call
 use Rattle.device_io.proofs.LineLemmas.{error-whole}
 use Rattle.device_io.proofs.MovingLemmas.{called-regs}
 use Rattle.device_io.proofs.SendingLemmas.{error-tries}

@@ -2,15 +2,15 @@ use Rattle.std.proofs.Common.{◌≡◌, ◌∙◌, ℕ, None, Some, List, take,
 use Rattle.os9_base.specs.declared.errors.TheConstants.{E_BPADDR}
 use Rattle.os9_base.specs.declared.calls.TheConstants.{I_WRITE}
 use Rattle.os9_base.specs.declared.registers.Regs.{Regs}
-use Rattle.proc_rules.specs.Processes.{cells_at, regs_at}
-use Rattle.proc_rules.specs.UserBytes.{user_bytes}
-use Rattle.io_rules.specs.Attempts.{caller_of}
-use Rattle.io_rules.specs.Io.{OpenPath}
-use Rattle.io_rules.specs.Modes.{can_write}
-use Rattle.io_rules.specs.Transfer.{on_path, unless_nothing}
-use Rattle.io_rules.specs.Write as model
-use Rattle.io_rules.specs.Write.{sends_on, sent_bytes}
-use Rattle.io_rules.specs.declared.io_call.IoCall.TheVariants as Call
+use Rattle.proc_model.specs.Processes.{cells_at, regs_at}
+use Rattle.proc_model.specs.UserBytes.{user_bytes}
+use Rattle.io_model.specs.Attempts.{caller_of}
+use Rattle.io_model.specs.Io.{OpenPath}
+use Rattle.io_model.specs.Modes.{can_write}
+use Rattle.io_model.specs.Transfer.{on_path, unless_nothing}
+use Rattle.io_model.specs.Write as model
+use Rattle.io_model.specs.Write.{sends_on, sent_bytes}
+use Rattle.io_model.specs.declared.io_call.IoCall.TheVariants as Call
 use Rattle.device_io.proofs.LineLemmas.{user-length}
 use Rattle.device_io.proofs.MovingLemmas.{called-regs}
 use Rattle.device_io.proofs.ReadingLemmas.{read-none, read-some, sends-read}

@@ -3,15 +3,15 @@ use Rattle.std.proofs.lemmas.List.{length-take-le}
 use Rattle.os9_base.specs.declared.errors.TheConstants.{E_BPADDR}
 use Rattle.os9_base.specs.declared.calls.TheConstants.{I_WRITLN}
 use Rattle.os9_base.specs.declared.registers.Regs.{Regs}
-use Rattle.proc_rules.specs.Processes.{cells_at, regs_at}
-use Rattle.io_rules.specs.Again.{IsAgain}
-use Rattle.io_rules.specs.Attempts.{caller_of}
-use Rattle.io_rules.specs.Io.{OpenPath, pending_at}
-use Rattle.io_rules.specs.Modes.{can_write}
-use Rattle.io_rules.specs.Transfer.{on_path, unless_nothing}
-use Rattle.io_rules.specs.Write as model
-use Rattle.io_rules.specs.Write.{line_bytes, sends_on, sent_line}
-use Rattle.io_rules.specs.declared.io_call.IoCall.TheVariants as Call
+use Rattle.proc_model.specs.Processes.{cells_at, regs_at}
+use Rattle.io_model.specs.Again.{IsAgain}
+use Rattle.io_model.specs.Attempts.{caller_of}
+use Rattle.io_model.specs.Io.{OpenPath, pending_at}
+use Rattle.io_model.specs.Modes.{can_write}
+use Rattle.io_model.specs.Transfer.{on_path, unless_nothing}
+use Rattle.io_model.specs.Write as model
+use Rattle.io_model.specs.Write.{line_bytes, sends_on, sent_line}
+use Rattle.io_model.specs.declared.io_call.IoCall.TheVariants as Call
 use Rattle.device_io.proofs.LineLemmas.{IsSentLine, sent-line}
 use Rattle.device_io.proofs.MovingLemmas.{called-regs, regs-tied}
 use Rattle.device_io.proofs.ReadingLemmas.{read-none, read-some, sends-read}

@@ -1,12 +1,12 @@
 use Rattle.std.proofs.Common.{◌∙◌, ◌<◌, None, Option, ap, sym, subst}
 use Rattle.std.specs.Prelude.{IfSome}
 use Rattle.os9_base.specs.declared.registers.Regs.{Regs}
-use Rattle.proc_rules.specs.Processes.{cells_at}
+use Rattle.proc_model.specs.Processes.{cells_at}
 use Rattle.io_model.specs.declared.pending.PendingCall.{PendingCall}
-use Rattle.io_rules.specs.Attempts.{caller_of}
-use Rattle.io_rules.specs.Io.{pending_at}
-use Rattle.io_rules.specs.Transfer.{line_at}
-use Rattle.io_rules.specs.Write.{line_bytes}
+use Rattle.io_model.specs.Attempts.{caller_of}
+use Rattle.io_model.specs.Io.{pending_at}
+use Rattle.io_model.specs.Transfer.{line_at}
+use Rattle.io_model.specs.Write.{line_bytes}
 use Rattle.device_io.proofs.LineLemmas.{line-same}
 use Rattle.device_io.proofs.MovingLemmas.{called-regs}
 use Rattle.device_io.proofs.ReadingLemmas.{read-all}

@@ -2,10 +2,10 @@ use Rattle.std.proofs.Common.{take, refl, sym, subst}
 use Rattle.os9_base.specs.declared.call.CallEnd.{CallEnd}
 use Rattle.os9_base.specs.declared.registers.Regs.{Regs}
 use Rattle.proc_model.specs.MemoryChanges.{stored}
-use Rattle.proc_rules.specs.Processes.{with_memory, with_regs_of}
+use Rattle.proc_model.specs.Processes.{with_memory, with_regs_of}
 use Rattle.io_model.specs.declared.terminal.Progress.{Progress}
-use Rattle.io_rules.specs.Attempts.{caller_of}
-use Rattle.io_rules.specs.Terminals.{read_ends}
+use Rattle.io_model.specs.Attempts.{caller_of}
+use Rattle.io_model.specs.Terminals.{read_ends}
 use Rattle.io_state.specs.Terminals.{count_of}
 use Rattle.proc_state.specs.Tie.{Represents}
 use Rattle.device_io.specs.Trying.{EndsBy}

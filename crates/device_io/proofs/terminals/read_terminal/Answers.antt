@@ -1,4 +1,4 @@
-use Rattle.io_rules.specs.Step.{TerminalRead}
+use Rattle.io_model.specs.Step.{TerminalRead}
 use Rattle.std.proofs.Common.{take}
 use Rattle.io_state.specs.Terminals.{count_of}
 use Rattle.device_io.proofs.DeviceLemmas.{tries-read}

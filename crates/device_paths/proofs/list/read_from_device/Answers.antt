@@ -1,6 +1,6 @@
 use Rattle.std.proofs.Common.{◌∙◌, ◌+◌, length, Ok, Err, sym, ap}
 use Rattle.guest_memory.specs.Tie.{cells_of}
-use Rattle.io_rules.specs.PathList.{behind}
+use Rattle.io_model.specs.PathList.{behind}
 use Rattle.os9_base.specs.Cells.{Cells}
 use Rattle.device_paths.specs.Listed.{listed_by, tails}
 use Rattle.device_paths.specs.Tail.{step_by}

@@ -4,7 +4,7 @@ use Rattle.guest_memory.specs.Tie.{modules_of}
 use Rattle.guest_memory.proofs.Seen.{cells_of-seen}
 use Rattle.proc_model.specs.ModuleList.{ModuleEntry, module_entry_at}
 use Rattle.proc_state.proofs.Primaries.{ArePrimaries-kept}
-use Rattle.io_rules.specs.PathList.{path_list}
+use Rattle.io_model.specs.PathList.{path_list}
 use Rattle.device_paths.specs.Listed.{listed_of}
 use Rattle.device_paths.proofs.lists.read_list.Goals as goal
 

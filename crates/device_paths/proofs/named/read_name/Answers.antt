@@ -1,6 +1,6 @@
 use Rattle.std.proofs.Common.{◌≡◌, ◌∙◌, ℕ, suc, ◌+◌, length, List, Result, Ok, Err, sym, ap, subst}
 use Rattle.guest_memory.specs.Tie.{cells_of}
-use Rattle.io_rules.specs.PathList.{behind, names_at, names_behind}
+use Rattle.io_model.specs.PathList.{behind, names_at, names_behind}
 use Rattle.os9_base.specs.Cells.{Cells}
 use Rattle.device_paths.specs.Standing.{NextIsBehind, name_list, named_by, names_after}
 use Rattle.device_paths.specs.Tail.{step_by}

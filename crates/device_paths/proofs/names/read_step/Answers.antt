@@ -1,6 +1,6 @@
 use Rattle.std.proofs.Common.{◌≡◌, ◌∙◌, ℕ, List, Result, Ok, sym, ap, subst}
 use Rattle.guest_memory.specs.Tie.{cells_of}
-use Rattle.io_rules.specs.PathList.{names_at, names_behind}
+use Rattle.io_model.specs.PathList.{names_at, names_behind}
 use Rattle.os9_base.specs.Cells.{Cells}
 use Rattle.device_paths.specs.Tail.{tail_of, tail_after}
 use Rattle.os9_base.specs.declared.name_fault.NameFault.{NameFault}

@@ -1,6 +1,6 @@
 use Rattle.std.proofs.Common.{◌≡◌, ◌∙◌, Result, Ok, Err, ap, subst, arith}
 use Rattle.guest_memory.specs.Tie.{cells_of}
-use Rattle.io_rules.specs.PathList.{names_at}
+use Rattle.io_model.specs.PathList.{names_at}
 use Rattle.os9_base.specs.Cells.{Cells}
 use Rattle.device_paths.specs.Tail.{tail_of, GoesUp}
 use Rattle.device_paths.specs.declared.names.Step.{Step}

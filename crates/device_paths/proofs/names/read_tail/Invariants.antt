@@ -1,7 +1,7 @@
 -- The names from the address on end as all of them, and no byte has changed.
 use Rattle.std.proofs.Common.{◌-◌, ◌<◌, ◌≤◌, ◌+◌, ℕ}
 use Rattle.guest_memory.specs.Tie.{IsSame, cells_of}
-use Rattle.io_rules.specs.PathList.{names_at}
+use Rattle.io_model.specs.PathList.{names_at}
 use Rattle.device_paths.specs.Tail.{tail_of}
 use Rattle.device_paths.proofs.NamesLemmas.{NamesSoFar}
 use Rattle.device_paths.proofs.names.read_tail.Given as goal

@@ -1,6 +1,6 @@
 use Rattle.std.proofs.Common.{◌≡◌, ◌∙◌, ◌+◌, ℕ, length, sym, ap, arith}
 use Rattle.guest_memory.specs.Tie.{cells_of}
-use Rattle.io_rules.specs.PathList.{another, behind, names_at}
+use Rattle.io_model.specs.PathList.{another, behind, names_at}
 use Rattle.os9_base.specs.Cells.{Cells}
 use Rattle.device_paths.specs.Tail.{behind_of, tail_of}
 use Rattle.device_paths.proofs.NamesLemmas.{tail-another}

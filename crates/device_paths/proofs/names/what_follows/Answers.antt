@@ -1,6 +1,6 @@
 use Rattle.std.proofs.Common.{◌≡◌, ◌∙◌, ◌+◌, ◌<◌, ℕ, Some, Option, sym, ap, arith}
 use Rattle.guest_memory.specs.Tie.{cells_of}
-use Rattle.io_rules.specs.PathList.{behind, behind_slash, is_marked}
+use Rattle.io_model.specs.PathList.{behind, behind_slash, is_marked}
 use Rattle.os9_base.specs.Cells.{Cells}
 use Rattle.os9_base.specs.UserNames.{user_cell}
 use Rattle.device_paths.proofs.NamesLemmas.{behind-slash_at}

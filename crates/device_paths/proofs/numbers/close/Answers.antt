@@ -1,6 +1,6 @@
 use Rattle.std.proofs.Common.{◌∙◌, Option, None, is_none, not, sym, ap}
 use Rattle.io_model.specs.declared.path.SysPath.{SysPath}
-use Rattle.io_rules.specs.Io.{Io, with_call}
+use Rattle.io_model.specs.Io.{Io, with_call}
 use Rattle.device_paths.proofs.QuietLemmas.{close-ends}
 use Rattle.device_paths.proofs.numbers.close.Goals as goal
 

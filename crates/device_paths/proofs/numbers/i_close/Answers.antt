@@ -1,5 +1,5 @@
-use Rattle.io_rules.specs.Attempts.{caller_of}
-use Rattle.io_rules.specs.declared.io_call.IoCall.TheVariants as Call
+use Rattle.io_model.specs.Attempts.{caller_of}
+use Rattle.io_model.specs.declared.io_call.IoCall.TheVariants as Call
 use Rattle.device_paths.proofs.QuietLemmas.{attempts, close-quiet}
 use Rattle.device_paths.proofs.numbers.i_close.Goals as goal
 

@@ -2,10 +2,10 @@ use Rattle.std.proofs.Common.{◌∙◌, not, Result, Err, vec_len, sym, ap}
 use Rattle.os9_base.specs.declared.errors.TheConstants.{E_BMODE, E_BPNAM}
 use Rattle.os9_base.specs.declared.registers.Regs.{Regs}
 use Rattle.os9_base.specs.declared.name_fault.NameFault.{NameFault}
-use Rattle.proc_rules.specs.Processes.{cells_at, regs_at}
-use Rattle.io_rules.specs.Attempts.{caller_of}
-use Rattle.io_rules.specs.PathList.{path_list}
-use Rattle.io_rules.specs.Step.{IoStep, refused, refuses}
+use Rattle.proc_model.specs.Processes.{cells_at, regs_at}
+use Rattle.io_model.specs.Attempts.{caller_of}
+use Rattle.io_model.specs.PathList.{path_list}
+use Rattle.io_model.specs.Step.{IoStep, refused, refuses}
 use Rattle.device_paths.specs.Listed.{listed_of}
 use Rattle.device_paths.specs.declared.list.Listed.{Listed}
 use Rattle.device_paths.specs.Openings.{opens_found}

@@ -1,10 +1,10 @@
 use Rattle.std.proofs.Common.{ℕ, List, length, vec_len, sym, subst}
-use Rattle.proc_rules.specs.Processes.{regs_at}
-use Rattle.io_rules.specs.Attempts.{caller_of}
-use Rattle.io_rules.specs.Lead.{a_new_place}
-use Rattle.io_rules.specs.Modes.{can_write}
-use Rattle.io_rules.specs.Open.{opens}
-use Rattle.io_rules.specs.declared.io_call.IoCall.TheVariants as Call
+use Rattle.proc_model.specs.Processes.{regs_at}
+use Rattle.io_model.specs.Attempts.{caller_of}
+use Rattle.io_model.specs.Lead.{a_new_place}
+use Rattle.io_model.specs.Modes.{can_write}
+use Rattle.io_model.specs.Open.{opens}
+use Rattle.io_model.specs.declared.io_call.IoCall.TheVariants as Call
 use Rattle.device_paths.specs.Quiet.{Ends}
 use Rattle.device_paths.proofs.QuietLemmas.{attempts}
 use Rattle.device_paths.proofs.OpenLemmas.{open-quiet}

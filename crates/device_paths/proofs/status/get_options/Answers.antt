@@ -1,7 +1,7 @@
 use Rattle.std.proofs.Common.{◌≡◌, ◌∙◌, Bool, None, List, ℕ, take, ap, subst}
 use Rattle.os9_base.specs.declared.registers.Regs.{Regs}
-use Rattle.proc_rules.specs.Processes.{cells_at, with_memory, with_regs_of}
-use Rattle.proc_rules.specs.UserBytes.{user_bytes}
+use Rattle.proc_model.specs.Processes.{cells_at, with_memory, with_regs_of}
+use Rattle.proc_model.specs.UserBytes.{user_bytes}
 use Rattle.proc_model.specs.MemoryChanges.{stored}
 use Rattle.proc_state.specs.Tie.{Represents, bytes_read}
 use Rattle.device_paths.proofs.QuietLemmas.{options-refused, options-stored}

@@ -1,5 +1,5 @@
 use Rattle.std.proofs.Common.{◌≡◌, ◌∙◌, ◌+◌, ◌≤◌, ℕ, None, List, length, take, ap, subst, arith, length-take}
-use Rattle.io_rules.specs.Io.{with_call}
+use Rattle.io_model.specs.Io.{with_call}
 use Rattle.file_io.proofs.EndingLemmas.{gives-of}
 use Rattle.file_io.proofs.ReadingLemmas.{given-bytes}
 use Rattle.file_io.specs.Ending.{with_bytes}

@@ -1,6 +1,6 @@
 use Rattle.std.proofs.Common.{◌≡◌, ◌∙◌, ◌+◌, ◌≤◌, ℕ, false, is_err, None, List, length, take, ap, sym, subst, arith, length-take}
 use Rattle.os9_base.specs.declared.call.CallEnd.TheVariants.{Done, NoMemory}
-use Rattle.io_rules.specs.Io.{with_call}
+use Rattle.io_model.specs.Io.{with_call}
 use Rattle.lock_model.specs.Laws.{MayHold}
 use Rattle.lock_model.specs.Records.{Records, holding}
 use Rattle.lock_model.specs.declared.lock.Held.{Held}

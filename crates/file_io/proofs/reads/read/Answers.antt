@@ -1,6 +1,6 @@
 use Rattle.std.proofs.Common.{Option, ap, refl, rules}
 use Rattle.std.specs.Option.{option_map_or}
-use Rattle.io_rules.specs.declared.io_call.IoCall.TheVariants as Device
+use Rattle.io_model.specs.declared.io_call.IoCall.TheVariants as Device
 use Rattle.file_rules.specs.Attempts.{asker_of}
 use Rattle.file_rules.specs.Files.{OpenFile}
 use Rattle.file_rules.specs.declared.path_call.PathCall.TheVariants as Call

@@ -1,8 +1,8 @@
 use Rattle.std.proofs.Common.{◌≡◌, ◌∙◌, ℕ, nat_le, true, false, Some, None, length, sym, ap, refl, subst, arith, le-leb, rules}
 use Rattle.os9_base.specs.declared.call.CallEnd.{CallEnd}
 use Rattle.os9_base.specs.declared.registers.Regs.{Regs}
-use Rattle.proc_rules.specs.Processes.{Processes, regs_at}
-use Rattle.io_rules.specs.Io.{Io}
+use Rattle.proc_model.specs.Processes.{Processes, regs_at}
+use Rattle.io_model.specs.Io.{Io}
 use Rattle.lock_model.specs.Laws.{Covers}
 use Rattle.lock_model.specs.Locks.{Locks, request_of}
 use Rattle.lock_model.specs.Records.{Records, with_waiting}

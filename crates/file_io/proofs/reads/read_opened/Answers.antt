@@ -3,9 +3,9 @@ use Rattle.os9_base.specs.Cells.{Cells, FitsIn}
 use Rattle.os9_base.specs.declared.call.CallEnd.{CallEnd}
 use Rattle.os9_base.specs.declared.errors.TheConstants.{E_BMODE, E_BPADDR}
 use Rattle.os9_base.specs.declared.registers.Regs.{Regs}
-use Rattle.proc_rules.specs.Processes.{regs_at, with_regs_of}
-use Rattle.io_rules.specs.Io.{Io}
-use Rattle.io_rules.specs.Modes.{can_read}
+use Rattle.proc_model.specs.Processes.{regs_at, with_regs_of}
+use Rattle.io_model.specs.Io.{Io}
+use Rattle.io_model.specs.Modes.{can_read}
 use Rattle.proc_state.specs.Tie.{Represents}
 use Rattle.file_rules.specs.Attempts.{asker_of}
 use Rattle.file_rules.specs.Step.{done}

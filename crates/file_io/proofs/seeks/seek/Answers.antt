@@ -1,8 +1,8 @@
 use Rattle.std.proofs.Common.{◌≡◌, ◌∙◌, ℕ, None, ap, refl, subst, sym}
 use Rattle.file_state.specs.Context.{beside}
 use Rattle.os9_base.specs.declared.registers.Regs.{Regs}
-use Rattle.proc_rules.specs.Processes.{regs_at, with_regs_of}
-use Rattle.io_rules.specs.Io.{Io, with_call}
+use Rattle.proc_model.specs.Processes.{regs_at, with_regs_of}
+use Rattle.io_model.specs.Io.{Io, with_call}
 use Rattle.proc_state.specs.Tie.{Represents}
 use Rattle.file_rules.specs.Attempts.{asker_of}
 use Rattle.file_rules.specs.Files.{with_io}

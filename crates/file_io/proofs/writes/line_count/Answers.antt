@@ -1,7 +1,7 @@
 use Rattle.std.proofs.Common.{◌≡◌, ◌∙◌, ◌<◌, ℕ, Option, Some, None, List, length, option_map, take, ap, sym, subst, arith, length-take}
-use Rattle.proc_rules.specs.Processes.{cells_at}
+use Rattle.proc_model.specs.Processes.{cells_at}
 use Rattle.device_io.proofs.LineLemmas.{line-is, line-same}
-use Rattle.io_rules.specs.Transfer.{line_at}
+use Rattle.io_model.specs.Transfer.{line_at}
 use Rattle.lock_model.specs.Locks.{Locks, request_of}
 use Rattle.lock_model.specs.declared.lock.Request.{Request}
 use Rattle.file_io.proofs.CallLemmas.{above, some-machine}

@@ -3,9 +3,9 @@ use Rattle.std.proofs.lemmas.Bool.{ne_eqb}
 use Rattle.std.proofs.lemmas.List.{length-take-le}
 use Rattle.os9_base.specs.declared.errors.TheConstants.{E_BMODE}
 use Rattle.os9_base.specs.declared.registers.Regs.{Regs}
-use Rattle.proc_rules.specs.Processes.{regs_at, with_regs_of}
-use Rattle.io_rules.specs.Io.{Io}
-use Rattle.io_rules.specs.Modes.{can_write}
+use Rattle.proc_model.specs.Processes.{regs_at, with_regs_of}
+use Rattle.io_model.specs.Io.{Io}
+use Rattle.io_model.specs.Modes.{can_write}
 use Rattle.proc_state.specs.Tie.{Represents}
 use Rattle.file_rules.specs.Attempts.{asker_of}
 use Rattle.file_rules.specs.Step.{done}

@@ -2,8 +2,8 @@ use Rattle.std.proofs.Common.{◌≡◌, ◌∙◌, ℕ, Bool, Option, Some, Non
 use Rattle.std.specs.Option.{option_map_or}
 use Rattle.os9_base.specs.declared.errors.TheConstants.{E_BPADDR}
 use Rattle.os9_base.specs.declared.registers.Regs.{Regs}
-use Rattle.proc_rules.specs.Processes.{cells_at, regs_at}
-use Rattle.proc_rules.specs.UserBytes.{user_bytes}
+use Rattle.proc_model.specs.Processes.{cells_at, regs_at}
+use Rattle.proc_model.specs.UserBytes.{user_bytes}
 use Rattle.proc_state.specs.Tie.{bytes_read}
 use Rattle.file_rules.specs.Attempts.{asker_of}
 use Rattle.file_rules.specs.Files.{OpenFile, open_file}
@@ -11,7 +11,7 @@ use Rattle.file_rules.specs.Step.{needs}
 use Rattle.file_rules.specs.Write.{sends_bytes}
 use Rattle.file_rules.specs.declared.path_call.PathCall.TheVariants as Call
 use Rattle.file_state.specs.declared.state.FileState.{FileState}
-use Rattle.io_rules.specs.declared.io_call.IoCall.TheVariants as Device
+use Rattle.io_model.specs.declared.io_call.IoCall.TheVariants as Device
 use Rattle.os9_base.specs.declared.calls.TheConstants.{I_WRITE}
 use Rattle.file_io.proofs.AgainLemmas.{again-no_read, may-ask}
 use Rattle.file_io.proofs.CallLemmas.{above, known-a, with-own-y, write-step}

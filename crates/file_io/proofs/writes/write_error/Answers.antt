@@ -2,16 +2,16 @@ use Rattle.std.proofs.Common.{◌≡◌, ◌∙◌, Bool, Option, not, sym, ap, 
 use Rattle.std.specs.Option.{option_map_or}
 use Rattle.os9_base.specs.declared.errors.TheConstants.{E_BMODE}
 use Rattle.os9_base.specs.declared.registers.Regs.{Regs}
-use Rattle.proc_rules.specs.Processes.{regs_at}
-use Rattle.io_rules.specs.Modes.{can_write}
-use Rattle.io_rules.specs.Write.{error_line}
-use Rattle.io_rules.specs.declared.modes.TheConstants.{STANDARD_ERROR}
+use Rattle.proc_model.specs.Processes.{regs_at}
+use Rattle.io_model.specs.Modes.{can_write}
+use Rattle.io_model.specs.Write.{error_line}
+use Rattle.io_model.specs.declared.modes.TheConstants.{STANDARD_ERROR}
 use Rattle.file_rules.specs.Attempts.{asker_of}
 use Rattle.file_rules.specs.Files.{OpenFile}
 use Rattle.file_rules.specs.Step.{refuses}
 use Rattle.file_rules.specs.declared.path_call.PathCall.TheVariants as Call
 use Rattle.file_state.specs.declared.state.FileState.{FileState}
-use Rattle.io_rules.specs.declared.io_call.IoCall.TheVariants as Device
+use Rattle.io_model.specs.declared.io_call.IoCall.TheVariants as Device
 use Rattle.os9_base.specs.declared.calls.TheConstants.{F_PERR}
 use Rattle.file_io.proofs.AgainLemmas.{again-no_read, may-ask}
 use Rattle.file_io.proofs.CallLemmas.{error-step, known}

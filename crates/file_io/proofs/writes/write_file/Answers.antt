@@ -1,8 +1,8 @@
 use Rattle.std.proofs.Common.{◌≡◌, ◌∙◌, ◌<◌, ℕ, Some, None, List, length, take, sym, ap, refl, subst, arith, rules}
 use Rattle.std.proofs.lemmas.List.{length-take-le}
 use Rattle.os9_base.specs.declared.call.CallEnd.{CallEnd}
-use Rattle.proc_rules.specs.Processes.{Processes}
-use Rattle.io_rules.specs.Io.{Io}
+use Rattle.proc_model.specs.Processes.{Processes}
+use Rattle.io_model.specs.Io.{Io}
 use Rattle.lock_model.specs.Records.{Records, with_waiting}
 use Rattle.lock_model.specs.declared.lock.Grant.TheVariants.{Granted}
 use Rattle.lock_model.specs.declared.lock.Request.{Request}

@@ -1,7 +1,7 @@
 use Rattle.std.proofs.Common.{◌≡◌, ◌∙◌, ◌+◌, ◌<◌, ◌^◌, ℕ, List, Ok, Err, length, take, ap, refl, subst, arith}
 use Rattle.std.proofs.lemmas.List.{length-take-le}
 use Rattle.os9_base.specs.declared.call.CallEnd.{CallEnd}
-use Rattle.proc_rules.specs.Processes.{user_at}
+use Rattle.proc_model.specs.Processes.{user_at}
 use Rattle.file_state.specs.declared.state.FileState.{FileState}
 use Rattle.file_io.proofs.WritingLemmas.{write-behind, write-fits}
 use Rattle.file_io.proofs.writes.write_granted.Goals as goal

@@ -4,8 +4,8 @@ use Rattle.std.proofs.lemmas.List.{length-take-le}
 use Rattle.os9_base.specs.declared.calls.TheConstants.{I_WRITLN}
 use Rattle.os9_base.specs.declared.errors.TheConstants.{E_BPADDR}
 use Rattle.os9_base.specs.declared.registers.Regs.{Regs}
-use Rattle.proc_rules.specs.Processes.{cells_at, regs_at}
-use Rattle.io_rules.specs.declared.io_call.IoCall.TheVariants as Device
+use Rattle.proc_model.specs.Processes.{cells_at, regs_at}
+use Rattle.io_model.specs.declared.io_call.IoCall.TheVariants as Device
 use Rattle.lock_model.specs.Locks.{request_of}
 use Rattle.lock_model.specs.Records.{Records}
 use Rattle.file_rules.specs.Attempts.{asker_of}

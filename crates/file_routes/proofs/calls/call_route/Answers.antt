@@ -1,5 +1,5 @@
 use Rattle.std.proofs.Common.{◌≡◌, Option, List, is_some, vec_len, ap, sym, subst}
-use Rattle.proc_rules.specs.Processes.{cells_at}
+use Rattle.proc_model.specs.Processes.{cells_at}
 use Rattle.file_rules.specs.Attempts.{asker_of}
 use Rattle.guest_memory.specs.Tie.{cells_of, modules_of}
 use Rattle.guest_memory.proofs.Seen.{cells_of-seen}

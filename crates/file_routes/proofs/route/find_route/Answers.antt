@@ -1,7 +1,7 @@
 use Rattle.std.proofs.Common.{◌≡◌, ◌∙◌, Ok, ℕ, Result, sym, ap, subst, vec_len}
 use Rattle.guest_memory.specs.Tie.{cells_of}
 use Rattle.os9_base.specs.Cells.{Cells}
-use Rattle.io_rules.specs.PathList.{path_list}
+use Rattle.io_model.specs.PathList.{path_list}
 use Rattle.file_rules.specs.Route.{list_of}
 use Rattle.file_routes.specs.Routes.{HasNames, RouteIs, StartsOn, leads, route_for}
 use Rattle.file_routes.specs.declared.route.Route.{Route}

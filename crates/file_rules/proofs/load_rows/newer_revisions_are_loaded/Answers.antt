@@ -1,6 +1,6 @@
 use Rattle.std.proofs.Common.{refl, Ok, Err}
 use Rattle.os9_base.specs.declared.errors.TheConstants.{E_KWNMOD}
-use Rattle.proc_model.specs.Crc.{divided_once}
+use Rattle.proc_model.specs.CrcModel.{divided_once}
 use Rattle.proc_model.specs.Loading.{at_end, refused, entered}
 use Rattle.proc_model.specs.Module.{info_at}
 use Rattle.proc_model.specs.Slots.{highest_run_upto}

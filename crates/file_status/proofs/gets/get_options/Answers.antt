@@ -1,5 +1,5 @@
 use Rattle.std.proofs.Common.{◌∙◌, ap, is_some, subst, sym}
-use Rattle.proc_rules.specs.Processes.{with_memory, with_regs_of}
+use Rattle.proc_model.specs.Processes.{with_memory, with_regs_of}
 use Rattle.io_model.specs.declared.path.Desc.{Desc}
 use Rattle.proc_model.specs.MemoryChanges.{stored}
 use Rattle.proc_state.specs.Tie.{Represents}

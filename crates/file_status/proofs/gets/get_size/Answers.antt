@@ -1,7 +1,7 @@
 use Rattle.os9_base.specs.declared.call.CallEnd.{CallEnd}
 use Rattle.std.proofs.Common.{subst, ◌∙◌, ap}
 use Rattle.os9_base.specs.declared.registers.Regs.{Regs}
-use Rattle.proc_rules.specs.Processes.{with_regs_of}
+use Rattle.proc_model.specs.Processes.{with_regs_of}
 use Rattle.proc_state.specs.Tie.{Represents}
 use Rattle.file_status.proofs.AttemptLemmas.{regs-tied}
 use Rattle.file_status.proofs.GetLemmas.{size-failed, size-told}

@@ -1,7 +1,7 @@
 use Rattle.std.proofs.Common.{Option, IfSome, subst, sym}
 use Rattle.io_model.specs.declared.pending.PendingCall.{PendingCall}
 use Rattle.io_state.specs.Sound.{IsNoRead}
-use Rattle.proc_rules.specs.Records.{record_at}
+use Rattle.proc_model.specs.Records.{record_at}
 use Rattle.file_status.proofs.AttemptLemmas.{get-attempt}
 use Rattle.file_status.proofs.OpenLemmas.{file-there}
 use Rattle.file_status.proofs.gets.get_status.Goals as goal

@@ -1,6 +1,6 @@
 use Rattle.std.proofs.Common.{◌∙◌, ◌≡◌, ap, subst, arith}
 use Rattle.os9_base.specs.declared.registers.Regs.{Regs}
-use Rattle.proc_rules.specs.Processes.{regs_at, with_regs_of}
+use Rattle.proc_model.specs.Processes.{regs_at, with_regs_of}
 use Rattle.proc_state.specs.Tie.{Represents}
 use Rattle.file_status.proofs.AttemptLemmas.{regs-tied}
 use Rattle.file_status.proofs.CodeLemmas.{by-code, getting-unknown, position-told, ready-told}

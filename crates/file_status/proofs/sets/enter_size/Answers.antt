@@ -1,5 +1,5 @@
 use Rattle.std.proofs.Common.{◌≡◌, ◌≢◌, ◌∙◌, None, ap, refl, sym}
-use Rattle.io_rules.specs.Io.{with_call}
+use Rattle.io_model.specs.Io.{with_call}
 use Rattle.lock_model.specs.Records.{Records}
 use Rattle.file_rules.specs.Seek.{long_of}
 use Rattle.file_state.specs.declared.state.FileState.{FileState}

@@ -2,8 +2,8 @@ use Rattle.std.proofs.Common.{◌≡◌, ◌∙◌, not, None, [], ap, sym, subs
 use Rattle.std.proofs.lemmas.Bool.{ne_eqb}
 use Rattle.os9_base.specs.declared.call.CallEnd.{CallEnd}
 use Rattle.os9_base.specs.declared.registers.Regs.{Regs}
-use Rattle.proc_rules.specs.Processes.{Processes, regs_at, with_regs_of}
-use Rattle.io_rules.specs.Io.{with_call}
+use Rattle.proc_model.specs.Processes.{Processes, regs_at, with_regs_of}
+use Rattle.io_model.specs.Io.{with_call}
 use Rattle.lock_model.specs.Records.{Records, holding}
 use Rattle.lock_model.specs.declared.lock.Grant.TheVariants.{Granted}
 use Rattle.proc_state.specs.Tie.{Represents}

@@ -1,6 +1,6 @@
 use Rattle.std.proofs.Common.{◌≡◌, ◌∙◌, not, ap, sym, rules}
 use Rattle.os9_base.specs.declared.call.CallEnd.{CallEnd}
-use Rattle.proc_rules.specs.Processes.{Processes, regs_at}
+use Rattle.proc_model.specs.Processes.{Processes, regs_at}
 use Rattle.lock_model.specs.Records.{Records}
 use Rattle.lock_model.specs.declared.lock.Grant.TheVariants.{Granted}
 use Rattle.rbf_access.specs.Reading.{IsFdOf}

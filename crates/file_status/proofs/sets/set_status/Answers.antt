@@ -1,7 +1,7 @@
 use Rattle.std.proofs.Common.{ap}
 use Rattle.os9_base.specs.declared.registers.Regs.{Regs}
-use Rattle.io_rules.specs.declared.io_call.IoCall.TheVariants as Device
-use Rattle.proc_rules.specs.Records.{record_at}
+use Rattle.io_model.specs.declared.io_call.IoCall.TheVariants as Device
+use Rattle.proc_model.specs.Records.{record_at}
 use Rattle.file_status.proofs.AttemptLemmas.{set-attempt}
 use Rattle.file_status.proofs.OpenLemmas.{asks-there, data-file-there, file-there, no-read-there}
 use Rattle.file_status.proofs.sets.set_status.Goals as goal

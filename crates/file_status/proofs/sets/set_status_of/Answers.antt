@@ -1,6 +1,6 @@
 use Rattle.std.proofs.Common.{◌∙◌, ◌≡◌, ap, arith}
 use Rattle.os9_base.specs.declared.registers.Regs.{Regs}
-use Rattle.proc_rules.specs.Processes.{regs_at}
+use Rattle.proc_model.specs.Processes.{regs_at}
 use Rattle.file_state.proofs.RequestLemmas.{lacks-none}
 use Rattle.file_status.proofs.AttemptLemmas.{regs-tied}
 use Rattle.file_status.proofs.CodeLemmas.{set-by-code, setting-unknown}

@@ -1,7 +1,7 @@
 use Rattle.std.proofs.Common.{◌∙◌, ap, subst}
 use Rattle.os9_base.specs.declared.call.CallEnd.{CallEnd}
 use Rattle.os9_base.specs.declared.registers.Regs.{Regs}
-use Rattle.proc_rules.specs.Processes.{user_at}
+use Rattle.proc_model.specs.Processes.{user_at}
 use Rattle.file_rules.specs.Seek.{long_of}
 use Rattle.file_state.specs.declared.state.FileState.{FileState}
 use Rattle.file_status.proofs.AttemptLemmas.{regs-tied}

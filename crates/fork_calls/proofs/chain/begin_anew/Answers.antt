@@ -1,9 +1,9 @@
 use Rattle.std.proofs.Common.{None, subst}
-use Rattle.proc_rules.specs.declared.own.Own.{Own}
-use Rattle.proc_rules.specs.Records.{with_regs}
-use Rattle.proc_rules.specs.Signals.{with_intercept}
-use Rattle.proc_rules.specs.Processes.{Processes, with_own, with_records}
-use Rattle.proc_rules.specs.ModuleLinks.{without_primary_link}
+use Rattle.proc_model.specs.declared.own.Own.{Own}
+use Rattle.proc_model.specs.Records.{with_regs}
+use Rattle.proc_model.specs.Signals.{with_intercept}
+use Rattle.proc_model.specs.Processes.{Processes, with_own, with_records}
+use Rattle.proc_model.specs.ModuleLinks.{without_primary_link}
 use Rattle.proc_state.specs.Tie.{Represents}
 use Rattle.fork_calls.specs.Chaining.{begun_so}
 use Rattle.fork_calls.proofs.chain.begin_anew.Goals as goal

@@ -1,7 +1,7 @@
 use Rattle.std.proofs.Common.{sym, subst}
 use Rattle.std.proofs.lemmas.Result.{err_from_is_err_and}
-use Rattle.proc_rules.specs.CallResult.{CallResult}
-use Rattle.proc_rules.specs.Chain.{f_chain}
+use Rattle.proc_model.specs.CallResult.{CallResult}
+use Rattle.proc_model.specs.Chain.{f_chain}
 use Rattle.proc_calls.proofs.Steps.{refused-answers}
 use Rattle.proc_state.specs.Tie.{Answers}
 use Rattle.fork_calls.specs.Starting.{starts_anew}

@@ -1,9 +1,9 @@
 use Rattle.std.proofs.Common.{subst, take}
 use Rattle.std.proofs.lemmas.Result.{err_from_is_err_and}
-use Rattle.proc_rules.specs.Chain.{begun_anew, with_program}
-use Rattle.proc_rules.specs.Processes.{Processes, own_at}
-use Rattle.proc_rules.specs.ModuleLinks.{without_primary_link}
-use Rattle.proc_rules.specs.Program.{Program}
+use Rattle.proc_model.specs.Chain.{begun_anew, with_program}
+use Rattle.proc_model.specs.Processes.{Processes, own_at}
+use Rattle.proc_model.specs.ModuleLinks.{without_primary_link}
+use Rattle.proc_model.specs.Program.{Program}
 use Rattle.proc_calls.proofs.Steps.{refused-answers, done-answers}
 use Rattle.proc_state.specs.Tie.{Represents}
 use Rattle.fork_calls.specs.Naming.{meant}

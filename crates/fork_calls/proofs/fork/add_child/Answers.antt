@@ -1,8 +1,8 @@
 use Rattle.std.proofs.Common.{Option, sym, ap, subst, ◌∙◌}
 use Rattle.std.specs.Prelude.{IfSome}
 use Rattle.os9_base.specs.declared.registers.Pid.{Pid}
-use Rattle.proc_rules.specs.Records.{record_at, free_process}
-use Rattle.proc_rules.specs.Processes.{Processes, with_own}
+use Rattle.proc_model.specs.Records.{record_at, free_process}
+use Rattle.proc_model.specs.Processes.{Processes, with_own}
 use Rattle.proc_state.specs.Beginning.{with_made}
 use Rattle.proc_state.specs.Tie.{Represents}
 use Rattle.fork_calls.proofs.Forking.{made-child, child-added}

@@ -2,11 +2,11 @@ use Rattle.std.proofs.Common.{◌≡◌, Some, None, take, refl, sym, ap, subst,
 use Rattle.std.proofs.lemmas.Result.{err_from_is_err_and}
 use Rattle.os9_base.specs.declared.errors.TheConstants.{E_PRCFUL}
 use Rattle.os9_base.specs.declared.registers.Regs.{Regs}
-use Rattle.proc_rules.specs.Records.{free_process}
-use Rattle.proc_rules.specs.Fork.{with_child, forked_regs}
-use Rattle.proc_rules.specs.Chain.{with_program}
-use Rattle.proc_rules.specs.Processes.{Processes, regs_at, with_regs_of}
-use Rattle.proc_rules.specs.Program.{Program}
+use Rattle.proc_model.specs.Records.{free_process}
+use Rattle.proc_model.specs.Fork.{with_child, forked_regs}
+use Rattle.proc_model.specs.Chain.{with_program}
+use Rattle.proc_model.specs.Processes.{Processes, regs_at, with_regs_of}
+use Rattle.proc_model.specs.Program.{Program}
 use Rattle.proc_calls.proofs.Steps.{refused-answers, done-answers, refused-alone}
 use Rattle.proc_state.specs.Tie.{Represents}
 use Rattle.fork_calls.specs.Loading.{with_new_child}

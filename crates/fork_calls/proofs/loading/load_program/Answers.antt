@@ -2,8 +2,8 @@ use Rattle.std.proofs.Common.{◌≡◌, ℕ, Ok, Err, List, length, take, ap, s
 use Rattle.std.proofs.lemmas.Bool.{le-ltb}
 use Rattle.std.proofs.lemmas.List.{length-take-le}
 use Rattle.guest_memory.specs.Tie.{Answers as AnswersMemory}
-use Rattle.proc_rules.specs.Processes.{Processes, with_memory}
-use Rattle.proc_rules.specs.Program.{Program, most_pages}
+use Rattle.proc_model.specs.Processes.{Processes, with_memory}
+use Rattle.proc_model.specs.Program.{Program, most_pages}
 use Rattle.fork_calls.specs.Loading.{begun, IsNotLoaded}
 use Rattle.fork_calls.specs.Naming.{meant}
 use Rattle.fork_calls.proofs.LoadedPrograms.{loaded-refused, loaded-ok}

@@ -6,7 +6,7 @@ use Rattle.guest_memory.proofs.Seen.{found-seen}
 use Rattle.proc_model.specs.declared.module.ModuleInfo.{ModuleInfo}
 use Rattle.proc_model.specs.ModuleList.{ModuleEntry, module_entry_at, found_module}
 use Rattle.proc_model.proofs.ModuleListLaws.{found_entry}
-use Rattle.proc_rules.specs.Program.{program_kind, asks_for_program}
+use Rattle.proc_model.specs.Program.{program_kind, asks_for_program}
 use Rattle.fork_calls.specs.Naming.{IsFound, IsUnfound}
 use Rattle.fork_calls.proofs.Programs.{found-nothing, found-other, found-program}
 use Rattle.fork_calls.proofs.naming.find_program.Goals as goal

@@ -5,10 +5,10 @@ use Rattle.std.proofs.lemmas.Result.{err_from_is_err_and}
 use Rattle.os9_base.specs.declared.registers.Regs.{Regs}
 use Rattle.proc_model.specs.declared.module.ModuleInfo.{ModuleInfo}
 use Rattle.proc_model.specs.ModuleList.{ModuleEntry}
-use Rattle.proc_rules.specs.Processes.{Processes, regs_at, cells_at}
-use Rattle.proc_rules.specs.declared.program_name.ProgramName.{ProgramName}
-use Rattle.proc_rules.specs.Program.{area_pages, module_name, name_at_x, program_name}
-use Rattle.proc_rules.specs.UserBytes.{user_bytes}
+use Rattle.proc_model.specs.Processes.{Processes, regs_at, cells_at}
+use Rattle.proc_model.specs.declared.program_name.ProgramName.{ProgramName}
+use Rattle.proc_model.specs.Program.{area_pages, module_name, name_at_x, program_name}
+use Rattle.proc_model.specs.UserBytes.{user_bytes}
 use Rattle.fork_calls.specs.Naming.{IsFound, IsUnfound}
 use Rattle.fork_calls.proofs.Programs.{read-no_name, read-no_bytes, read-unfound, read-found, read-stands, read-same}
 use Rattle.fork_calls.proofs.reading.read_program.Goals as goal

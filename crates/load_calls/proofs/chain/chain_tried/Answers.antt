@@ -4,8 +4,8 @@ use Rattle.os9_base.specs.declared.errors.TheConstants.{E_NEMOD}
 use Rattle.os9_base.specs.declared.registers.Regs.{Regs}
 use Rattle.proc_model.specs.ModuleList.{ModuleEntry, module_entry_at}
 use Rattle.proc_model.specs.Objects.{file_blocks}
-use Rattle.proc_rules.specs.Processes.{Processes, regs_at, with_memory}
-use Rattle.proc_rules.specs.Program.{Program, area_pages, program_kind}
+use Rattle.proc_model.specs.Processes.{Processes, regs_at, with_memory}
+use Rattle.proc_model.specs.Program.{Program, area_pages, program_kind}
 use Rattle.file_rules.specs.Load.{Loaded}
 use Rattle.file_rules.specs.Program.{chains, loaded_program, starts_first}
 use Rattle.file_rules.specs.ProgramFile.{ProgramFile}

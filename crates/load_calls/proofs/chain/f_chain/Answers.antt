@@ -1,6 +1,6 @@
 use Rattle.std.proofs.Common.{◌≡◌, ◌∙◌, refl, sym, vec_len}
 use Rattle.std.proofs.Math.Path.{fun_ext}
-use Rattle.proc_rules.specs.Chain.{f_chain}
+use Rattle.proc_model.specs.Chain.{f_chain}
 use Rattle.file_rules.specs.Attempts.{asker_of}
 use Rattle.file_rules.specs.Program.{chains, tests_program}
 use Rattle.file_rules.specs.ProgramFile.{ProgramFile}

@@ -1,6 +1,6 @@
 use Rattle.std.proofs.Common.{◌≡◌, ◌∙◌, refl, sym, vec_len}
 use Rattle.std.proofs.Math.Path.{fun_ext}
-use Rattle.proc_rules.specs.Fork.{f_fork}
+use Rattle.proc_model.specs.Fork.{f_fork}
 use Rattle.file_rules.specs.Attempts.{asker_of}
 use Rattle.file_rules.specs.Program.{forks, tests_program}
 use Rattle.file_rules.specs.ProgramFile.{ProgramFile}

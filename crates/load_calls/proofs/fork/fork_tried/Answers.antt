@@ -4,9 +4,9 @@ use Rattle.os9_base.specs.declared.errors.TheConstants.{E_NEMOD, E_PRCFUL}
 use Rattle.os9_base.specs.declared.registers.Regs.{Regs}
 use Rattle.proc_model.specs.ModuleList.{ModuleEntry, module_entry_at}
 use Rattle.proc_model.specs.Objects.{file_blocks}
-use Rattle.proc_rules.specs.Records.{free_process}
-use Rattle.proc_rules.specs.Processes.{Processes, regs_at, with_memory}
-use Rattle.proc_rules.specs.Program.{Program, area_pages, program_kind}
+use Rattle.proc_model.specs.Records.{free_process}
+use Rattle.proc_model.specs.Processes.{Processes, regs_at, with_memory}
+use Rattle.proc_model.specs.Program.{Program, area_pages, program_kind}
 use Rattle.file_rules.specs.Load.{Loaded}
 use Rattle.file_rules.specs.Program.{forks, loaded_program, starts_first}
 use Rattle.file_rules.specs.ProgramFile.{ProgramFile}

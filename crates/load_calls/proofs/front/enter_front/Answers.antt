@@ -1,5 +1,5 @@
 use Rattle.std.proofs.Common.{◌≡◌, ℕ, List, Result, Ok, take, ap, refl, subst, sym}
-use Rattle.proc_rules.specs.Processes.{Processes, with_memory}
+use Rattle.proc_model.specs.Processes.{Processes, with_memory}
 use Rattle.file_rules.specs.Load.{Loads}
 use Rattle.proc_model.specs.declared.module.ModId.{ModId}
 use Rattle.load_calls.proofs.front.enter_front.Goals as goal

@@ -1,9 +1,9 @@
 use Rattle.std.proofs.Common.{ap, ◌∙◌, Option, ℕ, nat_lt, false}
 use Rattle.std.specs.Option.{option_map_or}
 use Rattle.proc_model.specs.declared.memory.TheConstants.{MOST_LINKS}
-use Rattle.proc_rules.specs.declared.own.Own.{Own}
-use Rattle.proc_rules.specs.Processes.{own_at}
-use Rattle.proc_rules.specs.Link.{links_at}
+use Rattle.proc_model.specs.declared.own.Own.{Own}
+use Rattle.proc_model.specs.Processes.{own_at}
+use Rattle.proc_model.specs.Link.{links_at}
 use Rattle.load_calls.proofs.load.has_place.Goals as goal
 
 pub returns-in-Some : goal.returns-in-Some

@@ -2,8 +2,8 @@ use Rattle.std.proofs.Common.{◌≡◌, ◌∙◌, ◌-◌, ℕ, true, false, O
 use Rattle.std.proofs.lemmas.List.{length-take-le}
 use Rattle.os9_base.specs.declared.errors.TheConstants.{E_MEMFUL}
 use Rattle.os9_base.specs.declared.registers.Regs.{Regs}
-use Rattle.proc_rules.specs.CallResult.{CallResult}
-use Rattle.proc_rules.specs.Processes.{Processes, regs_at, with_memory}
+use Rattle.proc_model.specs.CallResult.{CallResult}
+use Rattle.proc_model.specs.Processes.{Processes, regs_at, with_memory}
 use Rattle.file_rules.specs.Load.{Loaded, Loads, links_first}
 use Rattle.file_rules.specs.ProgramFile.{ProgramFile}
 use Rattle.load_calls.proofs.OutcomeLemmas.{first-there}

@@ -1,5 +1,5 @@
 use Rattle.std.proofs.Common.{◌∙◌, ℕ, Option, List, is_some, option_and_then, sym, ap}
-use Rattle.proc_rules.specs.ModuleLinks.{found_entry}
+use Rattle.proc_model.specs.ModuleLinks.{found_entry}
 use Rattle.guest_memory.proofs.Seen.{found-seen}
 use Rattle.proc_model.specs.ModuleList.{ModuleEntry, found_module}
 use Rattle.load_calls.proofs.NamedLemmas.{found-some, some-number}

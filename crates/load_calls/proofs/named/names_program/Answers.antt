@@ -1,10 +1,10 @@
 use Rattle.std.proofs.Common.{◌≡◌, ◌∙◌, Option, List, ℕ, is_some, ap, refl, option_and_then}
 use Rattle.fork_calls.proofs.Programs.{read-stands}
 use Rattle.os9_base.specs.declared.registers.Regs.{Regs}
-use Rattle.proc_rules.specs.declared.program_name.ProgramName.{ProgramName}
-use Rattle.proc_rules.specs.Processes.{Processes, cells_at, regs_at}
-use Rattle.proc_rules.specs.ModuleLinks.{found_entry}
-use Rattle.proc_rules.specs.Program.{module_name, program_name}
+use Rattle.proc_model.specs.declared.program_name.ProgramName.{ProgramName}
+use Rattle.proc_model.specs.Processes.{Processes, cells_at, regs_at}
+use Rattle.proc_model.specs.ModuleLinks.{found_entry}
+use Rattle.proc_model.specs.Program.{module_name, program_name}
 use Rattle.file_rules.specs.Program.{named_program}
 use Rattle.load_calls.proofs.named.names_program.Goals as goal
 

@@ -1,8 +1,8 @@
 use Rattle.std.proofs.Common.{◌≡◌, ◌∙◌, ◌-◌, ℕ, [], Ok, List, take, unwrap_or, ap, sym, subst, arith}
 use Rattle.os9_base.specs.declared.registers.Regs.{Regs}
-use Rattle.proc_rules.specs.Processes.{Processes, regs_at, with_memory}
-use Rattle.proc_rules.specs.Program.{area_pages}
-use Rattle.proc_rules.specs.UserBytes.{user_bytes}
+use Rattle.proc_model.specs.Processes.{Processes, regs_at, with_memory}
+use Rattle.proc_model.specs.Program.{area_pages}
+use Rattle.proc_model.specs.UserBytes.{user_bytes}
 use Rattle.proc_model.specs.ModuleList.{ModuleEntry}
 use Rattle.proc_state.specs.Tie.{bytes_read}
 use Rattle.file_rules.specs.Load.{Loads}

@@ -6,7 +6,7 @@ use Rattle.guest_memory.specs.Tie.{cells_of}
 use Rattle.os9_base.specs.Cells.{Cells}
 use Rattle.os9_base.specs.declared.errors.TheConstants.{E_FNA}
 use Rattle.os9_base.specs.declared.registers.Regs.{Regs}
-use Rattle.proc_rules.specs.Processes.{cells_at}
+use Rattle.proc_model.specs.Processes.{cells_at}
 use Rattle.load_calls.proofs.TieLemmas.{regs-are, same-processes}
 use Rattle.load_calls.proofs.RouteLemmas.{as-many, program-along, program-nowhere, program-refused, route-along, route-device, route-names}
 use Rattle.load_calls.proofs.reading.read_program.Goals as goal

@@ -1,7 +1,7 @@
 use Rattle.std.proofs.Common.{refl, arith}
 use Rattle.os9_base.specs.declared.calls.TheConstants.{F_STIME}
 use Rattle.time_rules.specs.CivilRows.{at}
-use Rattle.proc_rules.specs.Ready.{attempts, executes}
+use Rattle.proc_model.specs.Ready.{attempts, executes}
 use Rattle.cpu_model.specs.BasePage.{base_page}
 use Rattle.cpu_model.specs.TenPage.{ten_page}
 use Rattle.cpu_model.specs.Reading.{reading}

@@ -1,6 +1,6 @@
 use Rattle.std.proofs.Common.{refl, arith}
 use Rattle.os9_base.specs.declared.calls.TheConstants.{F_ID}
-use Rattle.proc_rules.specs.Ready.{attempts, delivers, executes}
+use Rattle.proc_model.specs.Ready.{attempts, delivers, executes}
 use Rattle.cpu_model.specs.BasePage.{base_page}
 use Rattle.cpu_model.specs.TenPage.{ten_page}
 use Rattle.cpu_model.specs.Reading.{reading}

@@ -1,5 +1,5 @@
 use Rattle.std.proofs.Common.{refl, arith}
-use Rattle.proc_rules.specs.Ready.{executes}
+use Rattle.proc_model.specs.Ready.{executes}
 use Rattle.cpu_model.specs.BasePage.{base_page}
 use Rattle.cpu_model.specs.Places.{byte_operand, place_of}
 use Rattle.cpu_model.specs.Reading.{reading}

@@ -1,5 +1,5 @@
 use Rattle.std.proofs.Common.{◌≡◌, ◌<◌, ◌^◌, take}
-use Rattle.proc_model.specs.Crc.{crc_register}
+use Rattle.proc_model.specs.CrcModel.{crc_register}
 use Rattle.module_format.proofs.crc.crc_step.Given as goal
 
 -- the register so far

@@ -1,5 +1,5 @@
 use Rattle.std.proofs.Common.{◌≡◌, ℕ, None, rules, subst, sym, take}
-use Rattle.proc_model.specs.Crc.{crc_register}
+use Rattle.proc_model.specs.CrcModel.{crc_register}
 use Rattle.proc_model.specs.Module.{module_fault, module_size, IsModule}
 use Rattle.proc_model.proofs.ModuleLaws.{IsModule-take, residue_of_module}
 use Rattle.module_format.proofs.header.read_module.Goals as goal

@@ -1,5 +1,5 @@
 use Rattle.std.proofs.Common.{◌∙◌, ap, sym}
-use Rattle.io_rules.specs.Io.{Io, pending_at, with_paths, new_desc}
+use Rattle.io_model.specs.Io.{Io, pending_at, with_paths, new_desc}
 use Rattle.name_calls.proofs.BeginLemmas.{begun-quietly, full-quietly, paths-full}
 use Rattle.name_calls.proofs.OpenEndLemmas.{regs-tied}
 use Rattle.name_calls.proofs.begin.begin_on.Goals as goal

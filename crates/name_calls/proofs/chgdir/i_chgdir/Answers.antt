@@ -1,6 +1,6 @@
 use Rattle.std.proofs.Common.{◌≡◌, ◌∙◌, ◌%◌, ap, length, refl, sym, vec_len}
 use Rattle.os9_base.specs.declared.registers.Regs.{Regs}
-use Rattle.proc_rules.specs.Processes.{regs_at}
+use Rattle.proc_model.specs.Processes.{regs_at}
 use Rattle.file_rules.specs.Attempts.{asker_of}
 use Rattle.file_rules.specs.ChgDir.{i_chgdir}
 use Rattle.file_rules.specs.Files.{directories_at, with_directories_of, with_directory}

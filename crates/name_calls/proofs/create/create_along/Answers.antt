@@ -7,7 +7,7 @@ use Rattle.file_rules.specs.Create.{creates_in}
 use Rattle.file_rules.specs.Route.{before_last}
 use Rattle.file_drives.specs.Drives.{drive_views}
 use Rattle.file_state.specs.declared.state.FileState.{FileState}
-use Rattle.proc_rules.specs.Processes.{cells_at}
+use Rattle.proc_model.specs.Processes.{cells_at}
 use Rattle.name_calls.proofs.CreateLemmas.{along-named, along-nameless, create-walk-stays, last-proper, names-some}
 use Rattle.name_calls.proofs.MakeLemmas.{last-there}
 use Rattle.name_calls.proofs.OpenEndLemmas.{refused-at_once}

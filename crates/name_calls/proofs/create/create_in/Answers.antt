@@ -1,7 +1,7 @@
 use Rattle.std.proofs.Common.{◌≡◌, ◌∙◌, ℕ, ◌+◌, Err, List, None, Ok, Some, ap, false, refl, sym, true}
 use Rattle.os9_base.specs.declared.call.CallEnd.TheVariants.{Error}
 use Rattle.os9_base.specs.declared.registers.Regs.{Regs}
-use Rattle.proc_rules.specs.Processes.{regs_at, user_at}
+use Rattle.proc_model.specs.Processes.{regs_at, user_at}
 use Rattle.rbf_entries.specs.Places.{AnswersPlace, place_calls}
 use Rattle.file_rules.specs.Attempts.{asker_of}
 use Rattle.file_rules.specs.Open.{says_directory}

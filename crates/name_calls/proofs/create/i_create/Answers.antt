@@ -1,8 +1,8 @@
 use Rattle.std.proofs.Common.{◌≡◌, ◌∙◌, length, vec_len, refl, ap, sym, subst}
 use Rattle.os9_base.specs.declared.registers.Regs.{Regs}
-use Rattle.proc_rules.specs.Processes.{cells_at, regs_at}
-use Rattle.io_rules.specs.Modes.{can_write}
-use Rattle.io_rules.specs.declared.io_call.IoCall.TheVariants as IoCall
+use Rattle.proc_model.specs.Processes.{cells_at, regs_at}
+use Rattle.io_model.specs.Modes.{can_write}
+use Rattle.io_model.specs.declared.io_call.IoCall.TheVariants as IoCall
 use Rattle.file_rules.specs.Attempts.{asker_of}
 use Rattle.file_rules.specs.Create.{creates_on_device, i_create}
 use Rattle.file_rules.specs.Open.{is_for_execution}

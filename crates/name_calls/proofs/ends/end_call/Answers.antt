@@ -1,6 +1,6 @@
 use Rattle.std.proofs.Common.{ℕ, ◌%◌, Result, subst}
 use Rattle.os9_base.specs.declared.registers.Regs.{Regs}
-use Rattle.proc_rules.specs.Processes.{with_regs_of}
+use Rattle.proc_model.specs.Processes.{with_regs_of}
 use Rattle.proc_state.specs.Tie.{Represents}
 use Rattle.file_rules.specs.Attempts.{asker_of}
 use Rattle.name_calls.specs.Tries.{Tries}

@@ -1,6 +1,6 @@
 use Rattle.std.proofs.Common.{◌≡◌, ℕ, ◌<◌, ◌≤◌, get_or}
-use Rattle.proc_rules.specs.declared.turn.Turn.{Turn}
-use Rattle.proc_rules.specs.Turns.{aged}
+use Rattle.proc_model.specs.declared.turn.Turn.{Turn}
+use Rattle.proc_model.specs.Turns.{aged}
 use Rattle.os9_sched.specs.Members.{is_active_in, priority_in}
 use Rattle.os9_sched.proofs.list.age.Given as goal
 

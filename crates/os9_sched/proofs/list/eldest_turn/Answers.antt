@@ -1,6 +1,6 @@
 use Rattle.std.proofs.Common.{◌≡◌, ◌∙◌, rules}
 use Rattle.std.proofs.lemmas.List.{take_all}
-use Rattle.proc_rules.specs.Turns.{ready_turns}
+use Rattle.proc_model.specs.Turns.{ready_turns}
 use Rattle.os9_sched.specs.Members.{is_active_in}
 use Rattle.os9_sched.proofs.OnePass.{one-pass}
 use Rattle.os9_sched.proofs.list.eldest_turn.Goals as goal

@@ -1,6 +1,6 @@
 use Rattle.std.proofs.Common.{◌≡◌, take, None, IfSome}
 use Rattle.std.specs.List.{fold}
-use Rattle.proc_rules.specs.Turns.{ready_turns}
+use Rattle.proc_model.specs.Turns.{ready_turns}
 use Rattle.os9_sched.specs.Elder.{elder}
 use Rattle.os9_sched.specs.Members.{IsMember, is_active_in}
 use Rattle.os9_sched.proofs.list.eldest_turn.Given as goal

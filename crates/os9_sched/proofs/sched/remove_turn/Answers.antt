@@ -1,6 +1,6 @@
 use Rattle.std.proofs.Common.{◌==◌, not, rules}
 use Rattle.std.proofs.lemmas.Fn.{filter_same}
-use Rattle.proc_rules.specs.declared.turn.Turn.{Turn}
+use Rattle.proc_model.specs.declared.turn.Turn.{Turn}
 use Rattle.os9_sched.proofs.sched.remove_turn.Goals as goal
 
 pub returns-clause-items : goal.returns-clause-items

@@ -2,10 +2,10 @@ use Rattle.std.proofs.Common.{◌≡◌, ℕ, ◌∙◌, ap, refl, sym, Option, 
 use Rattle.os9_base.specs.declared.call.CallEnd.TheVariants.{Done}
 use Rattle.os9_base.specs.declared.registers.Pid.{Pid}
 use Rattle.os9_base.specs.declared.registers.Regs.{Regs}
-use Rattle.proc_rules.specs.declared.record.Record.{Record}
-use Rattle.proc_rules.specs.Ends.{reaped, after_reap}
-use Rattle.proc_rules.specs.Processes.{Processes, regs_at, with_records, with_regs_of}
-use Rattle.proc_rules.specs.Wait.{f_wait, reaped_regs}
+use Rattle.proc_model.specs.declared.record.Record.{Record}
+use Rattle.proc_model.specs.Ends.{reaped, after_reap}
+use Rattle.proc_model.specs.Processes.{Processes, regs_at, with_records, with_regs_of}
+use Rattle.proc_model.specs.Wait.{f_wait, reaped_regs}
 use Rattle.proc_state.specs.declared.state.ProcState.{ProcState}
 use Rattle.proc_state.specs.Tie.{Represents, Comes}
 use Rattle.proc_calls.proofs.children.f_wait.Goals as goal

@@ -1,8 +1,8 @@
 use Rattle.std.proofs.Common.{◌≡◌, ◌+◌, ap, subst}
 use Rattle.proc_model.specs.MemoryChanges.{linked}
-use Rattle.proc_rules.specs.declared.own.Own.{Own}
-use Rattle.proc_rules.specs.Processes.{Processes, own_at, with_memory, with_own}
-use Rattle.proc_rules.specs.Link.{links_at, with_links_at}
+use Rattle.proc_model.specs.declared.own.Own.{Own}
+use Rattle.proc_model.specs.Processes.{Processes, own_at, with_memory, with_own}
+use Rattle.proc_model.specs.Link.{links_at, with_links_at}
 use Rattle.proc_state.specs.Tie.{Represents}
 use Rattle.proc_calls.proofs.links.add_link.Goals as goal
 

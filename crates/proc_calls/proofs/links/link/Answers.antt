@@ -1,7 +1,7 @@
 use Rattle.std.proofs.Common.{sym, subst, ap, ◌∙◌}
 use Rattle.std.proofs.lemmas.Result.{err_from_is_err_and}
-use Rattle.proc_rules.specs.CallResult.{CallResult}
-use Rattle.proc_rules.specs.Link.{f_link}
+use Rattle.proc_model.specs.CallResult.{CallResult}
+use Rattle.proc_model.specs.Link.{f_link}
 use Rattle.proc_state.specs.Tie.{Answers}
 use Rattle.proc_calls.specs.Linked.{entered_as, links_entered}
 use Rattle.proc_calls.proofs.Linking.{link_next}

@@ -5,9 +5,9 @@ use Rattle.os9_base.specs.declared.registers.Regs.{Regs}
 use Rattle.proc_model.specs.Memory.{group_at}
 use Rattle.proc_model.specs.MemoryChanges.{linked}
 use Rattle.proc_model.specs.ModuleList.{ModuleEntry}
-use Rattle.proc_rules.specs.Processes.{own_at, regs_at, with_memory, with_own, with_regs_of}
-use Rattle.proc_rules.specs.Link.{mapped_group, links_at, with_links_at, linked_regs, after_link}
-use Rattle.proc_rules.specs.ModuleLinks.{Entered, header_address}
+use Rattle.proc_model.specs.Processes.{own_at, regs_at, with_memory, with_own, with_regs_of}
+use Rattle.proc_model.specs.Link.{mapped_group, links_at, with_links_at, linked_regs, after_link}
+use Rattle.proc_model.specs.ModuleLinks.{Entered, header_address}
 use Rattle.proc_state.specs.Tie.{Represents}
 use Rattle.proc_calls.specs.Linked.{entered_as, links_entered}
 use Rattle.proc_calls.proofs.Linking.{link-refused, link-linked}

@@ -1,7 +1,7 @@
 use Rattle.std.proofs.lemmas.Result.{err_from_is_err_and}
-use Rattle.proc_rules.specs.CallResult.{done}
-use Rattle.proc_rules.specs.ModuleLinks.{without_module_link}
-use Rattle.proc_rules.specs.UnLoad.{f_unload}
+use Rattle.proc_model.specs.CallResult.{done}
+use Rattle.proc_model.specs.ModuleLinks.{without_module_link}
+use Rattle.proc_model.specs.UnLoad.{f_unload}
 use Rattle.proc_calls.proofs.Steps.{refused-answers, done-answers}
 use Rattle.proc_calls.proofs.links.unload.Goals as goal
 

@@ -1,10 +1,10 @@
 use Rattle.std.proofs.Common.{◌≡◌, ℕ, ◌*◌, Ok, nat_lt, subst, arith}
 use Rattle.std.proofs.lemmas.Bool.{le-ltb}
 use Rattle.os9_base.specs.declared.errors.TheConstants.{E_MEMFUL}
-use Rattle.proc_rules.specs.CallResult.{changes, done}
-use Rattle.proc_rules.specs.Processes.{with_memory}
-use Rattle.proc_rules.specs.Mem.{resized, with_size}
-use Rattle.proc_rules.specs.Program.{most_pages, blocks_of_pages}
+use Rattle.proc_model.specs.CallResult.{changes, done}
+use Rattle.proc_model.specs.Processes.{with_memory}
+use Rattle.proc_model.specs.Mem.{resized, with_size}
+use Rattle.proc_model.specs.Program.{most_pages, blocks_of_pages}
 use Rattle.proc_state.specs.Tie.{Represents, Answers}
 use Rattle.proc_calls.proofs.Steps.{refuses-not, changes-then}
 use Rattle.proc_calls.proofs.memory.set_pages.Goals as goal

@@ -1,7 +1,7 @@
 use Rattle.std.proofs.Common.{◌≡◌, subst, ap, ◌∙◌}
 use Rattle.os9_base.specs.declared.registers.Regs.{Regs}
-use Rattle.proc_rules.specs.Processes.{own_at, regs_at, with_regs_of, with_own}
-use Rattle.proc_rules.specs.Mem.{size_regs}
+use Rattle.proc_model.specs.Processes.{own_at, regs_at, with_regs_of, with_own}
+use Rattle.proc_model.specs.Mem.{size_regs}
 use Rattle.proc_state.specs.Tie.{Represents}
 use Rattle.proc_calls.proofs.memory.set_size.Goals as goal
 

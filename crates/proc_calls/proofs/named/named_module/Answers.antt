@@ -4,7 +4,7 @@ use Rattle.os9_base.specs.declared.registers.Regs.{Regs}
 use Rattle.guest_memory.proofs.Seen.{found-seen}
 use Rattle.proc_model.specs.ModuleList.{ModuleEntry, module_entry_at, found_module}
 use Rattle.proc_model.proofs.ModuleListLaws.{found_entry}
-use Rattle.proc_rules.specs.Processes.{regs_at, cells_at}
+use Rattle.proc_model.specs.Processes.{regs_at, cells_at}
 use Rattle.os9_base.specs.UserNames.{name_at}
 use Rattle.proc_calls.specs.Named.{name_or_error, IsNamed}
 use Rattle.proc_calls.proofs.Naming.{named-error, named-nothing, named-found}

@@ -1,6 +1,6 @@
 use Rattle.std.proofs.Common.{◌≡◌, ◌∙◌}
-use Rattle.proc_rules.specs.CmpNam.{same_names}
-use Rattle.proc_rules.specs.Processes.{regs_at}
+use Rattle.proc_model.specs.CmpNam.{same_names}
+use Rattle.proc_model.specs.Processes.{regs_at}
 use Rattle.proc_calls.proofs.Seen.{cells_seen, regs_seen}
 use Rattle.proc_calls.proofs.Turns.{process_within}
 use Rattle.proc_calls.proofs.names.compares.Goals as goal

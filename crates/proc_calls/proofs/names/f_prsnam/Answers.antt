@@ -3,10 +3,10 @@ use Rattle.os9_base.specs.declared.call.CallEnd.{CallEnd}
 use Rattle.os9_base.specs.declared.call.CallEnd.TheVariants.{Error}
 use Rattle.os9_base.specs.declared.errors.TheConstants.{E_BPADDR}
 use Rattle.os9_base.specs.declared.registers.Regs.{Regs}
-use Rattle.proc_rules.specs.Processes.{Processes, cells_at, regs_at}
-use Rattle.proc_rules.specs.PrsNam.{past_slash, parses_name}
+use Rattle.proc_model.specs.Processes.{Processes, cells_at, regs_at}
+use Rattle.proc_model.specs.PrsNam.{past_slash, parses_name}
 use Rattle.guest_memory.specs.Tie.{cells_of}
-use Rattle.proc_rules.specs.Records.{AreRecords, IsLiving, record_at}
+use Rattle.proc_model.specs.Records.{AreRecords, IsLiving, record_at}
 use Rattle.proc_state.specs.declared.state.ProcState.{ProcState}
 use Rattle.proc_state.specs.Tie.{Represents, Comes}
 use Rattle.proc_calls.proofs.Seen.{cells_seen, regs_seen}

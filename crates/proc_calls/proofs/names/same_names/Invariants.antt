@@ -1,5 +1,5 @@
 use Rattle.std.proofs.Common.{◌≡◌, ◌+◌, ◌-◌}
-use Rattle.proc_rules.specs.CmpNam.{same_names}
+use Rattle.proc_model.specs.CmpNam.{same_names}
 use Rattle.guest_memory.specs.Tie.{cells_of}
 use Rattle.proc_calls.proofs.names.same_names.Given as goal
 

@@ -1,9 +1,9 @@
 use Rattle.std.proofs.Common.{◌≡◌, ◌-◌, ap, subst, ◌∙◌}
 use Rattle.proc_model.specs.Memory.{group_at}
-use Rattle.proc_rules.specs.declared.own.Own.{Own}
-use Rattle.proc_rules.specs.Processes.{own_at, with_memory, with_own}
-use Rattle.proc_rules.specs.Link.{links_at, with_links_at}
-use Rattle.proc_rules.specs.UnLink.{with_links_left}
+use Rattle.proc_model.specs.declared.own.Own.{Own}
+use Rattle.proc_model.specs.Processes.{own_at, with_memory, with_own}
+use Rattle.proc_model.specs.Link.{links_at, with_links_at}
+use Rattle.proc_model.specs.UnLink.{with_links_left}
 use Rattle.proc_state.specs.Tie.{Represents}
 use Rattle.proc_calls.proofs.unlink.drop_link_at.Goals as goal
 

@@ -1,6 +1,6 @@
 use Rattle.std.proofs.Common.{sym, ◌∙◌, below_more, arith}
 use Rattle.proc_model.specs.Memory.{map_at}
-use Rattle.proc_rules.specs.ModuleLinks.{is_at}
+use Rattle.proc_model.specs.ModuleLinks.{is_at}
 use Rattle.proc_calls.proofs.Addresses.{first-passing, none-passing}
 use Rattle.proc_calls.proofs.unlink.module_at.Goals as goal
 

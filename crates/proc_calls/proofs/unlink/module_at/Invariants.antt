@@ -1,8 +1,8 @@
 use Rattle.std.proofs.Common.{◌≡◌, ℕ, ◌<◌, false}
 use Rattle.proc_model.specs.Memory.{map_at}
 use Rattle.proc_model.specs.ModuleList.{module_entry_at, passes}
-use Rattle.proc_rules.specs.Processes.{Processes}
-use Rattle.proc_rules.specs.ModuleLinks.{is_at}
+use Rattle.proc_model.specs.Processes.{Processes}
+use Rattle.proc_model.specs.ModuleLinks.{is_at}
 use Rattle.proc_state.specs.Tie.{Represents}
 use Rattle.proc_calls.proofs.unlink.module_at.Given as goal
 

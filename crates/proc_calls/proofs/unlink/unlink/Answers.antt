@@ -5,8 +5,8 @@ use Rattle.proc_model.specs.Memory.{map_at}
 use Rattle.proc_model.specs.ModuleList.{passes}
 use Rattle.proc_model.specs.Slots.{group_slot}
 use Rattle.std.proofs.Common.{position}
-use Rattle.proc_rules.specs.ModuleLinks.{Entered, is_at, without_module_link}
-use Rattle.proc_rules.specs.UnLink.{f_unlink, after_unlink, without_group_link}
+use Rattle.proc_model.specs.ModuleLinks.{Entered, is_at, without_module_link}
+use Rattle.proc_model.specs.UnLink.{f_unlink, after_unlink, without_group_link}
 use Rattle.proc_state.specs.Tie.{Represents}
 use Rattle.proc_calls.proofs.Steps.{done-answers}
 use Rattle.proc_calls.proofs.Unlinking.{unlinked-at}

@@ -1,8 +1,8 @@
 use Rattle.std.proofs.Common.{◌≡◌, sym, ap, ◌∙◌}
 use Rattle.os9_sched.specs.Members.{is_active_in}
 use Rattle.os9_sched.specs.Schedule.{Schedule}
-use Rattle.proc_rules.specs.Turns.{Choice}
-use Rattle.proc_rules.specs.Choice.{choice_of}
+use Rattle.proc_model.specs.Turns.{Choice}
+use Rattle.proc_model.specs.Choice.{choice_of}
 use Rattle.proc_state.proofs.Choosing.{choice_is}
 use Rattle.proc_state.proofs.choice.dispatch.Goals as goal
 

@@ -1,6 +1,6 @@
 use Rattle.std.proofs.Common.{◌≡◌, ℕ, ◌∙◌, sym, arith, below_more}
 use Rattle.os9_sched.specs.Members.{is_active_in}
-use Rattle.proc_rules.specs.IoReady.{has_io}
+use Rattle.proc_model.specs.IoReady.{has_io}
 use Rattle.proc_state.specs.Ready.{ready_at}
 use Rattle.proc_state.proofs.choice.settle.Goals as goal
 

@@ -1,7 +1,7 @@
 use Rattle.std.proofs.Common.{◌≡◌, ℕ, ◌<◌}
 use Rattle.os9_sched.specs.Members.{is_active_in}
-use Rattle.proc_rules.specs.Processes.{Processes}
-use Rattle.proc_rules.specs.IoReady.{has_io}
+use Rattle.proc_model.specs.Processes.{Processes}
+use Rattle.proc_model.specs.IoReady.{has_io}
 use Rattle.proc_state.specs.Ready.{ready_at}
 use Rattle.proc_state.specs.Tie.{Represents}
 use Rattle.proc_state.proofs.choice.settle.Given as goal

@@ -1,7 +1,7 @@
 use Rattle.std.proofs.Common.{◌∙◌, sym, arith, map}
 use Rattle.std.proofs.lemmas.List.{length-map, get_or-map, ext_get_or}
-use Rattle.proc_rules.specs.Processes.{no_own}
-use Rattle.proc_rules.specs.ModuleLinks.{still_primary}
+use Rattle.proc_model.specs.Processes.{no_own}
+use Rattle.proc_model.specs.ModuleLinks.{still_primary}
 use Rattle.proc_state.proofs.links.keep_entered.Goals as goal
 
 pub returns : goal.returns

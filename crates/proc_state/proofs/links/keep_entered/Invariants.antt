@@ -1,6 +1,6 @@
 use Rattle.std.proofs.Common.{◌≡◌, ℕ, ◌<◌, ◌≤◌, get_or}
-use Rattle.proc_rules.specs.Processes.{no_own}
-use Rattle.proc_rules.specs.ModuleLinks.{still_primary}
+use Rattle.proc_model.specs.Processes.{no_own}
+use Rattle.proc_model.specs.ModuleLinks.{still_primary}
 use Rattle.proc_state.proofs.links.keep_entered.Given as goal
 
 -- the places so far are done, and the others as they were

@@ -1,5 +1,5 @@
 use Rattle.std.proofs.Common.{◌≡◌, ◌-◌, ◌≤◌, replicate, vec_len}
-use Rattle.proc_rules.specs.Processes.{no_own}
+use Rattle.proc_model.specs.Processes.{no_own}
 use Rattle.proc_state.proofs.new.empty_places.Given as goal
 
 abbrev pub invariant-fill : goal.invariant-fill

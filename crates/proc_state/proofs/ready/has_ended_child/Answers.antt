@@ -1,6 +1,6 @@
 use Rattle.std.proofs.Common.{None, sym, arith, ◌∙◌}
-use Rattle.proc_rules.specs.Ends.{is_ended_child}
-use Rattle.proc_rules.specs.Records.{record_passes}
+use Rattle.proc_model.specs.Ends.{is_ended_child}
+use Rattle.proc_model.specs.Records.{record_passes}
 use Rattle.proc_state.proofs.Children.{is_some-position, no-position}
 use Rattle.proc_state.proofs.ready.has_ended_child.Goals as goal
 

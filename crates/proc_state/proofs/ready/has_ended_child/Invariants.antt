@@ -1,6 +1,6 @@
 use Rattle.std.proofs.Common.{◌≡◌, ℕ, ◌<◌, false}
-use Rattle.proc_rules.specs.Ends.{is_ended_child}
-use Rattle.proc_rules.specs.Records.{record_of, record_passes}
+use Rattle.proc_model.specs.Ends.{is_ended_child}
+use Rattle.proc_model.specs.Records.{record_of, record_passes}
 use Rattle.proc_state.proofs.ready.has_ended_child.Given as goal
 
 -- no process so far is one

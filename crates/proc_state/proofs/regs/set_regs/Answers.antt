@@ -1,8 +1,8 @@
 use Rattle.std.proofs.Common.{Option, List, sym, ap, ◌∙◌}
 use Rattle.proc_model.specs.Memory.{first_memory}
-use Rattle.proc_rules.specs.declared.record.Record.{Record}
-use Rattle.proc_rules.specs.Processes.{Processes}
-use Rattle.proc_rules.specs.Ready.{is_ready}
+use Rattle.proc_model.specs.declared.record.Record.{Record}
+use Rattle.proc_model.specs.Processes.{Processes}
+use Rattle.proc_model.specs.Ready.{is_ready}
 use Rattle.proc_state.specs.Tie.{processes_of}
 use Rattle.proc_state.proofs.Registers.{regs-ready}
 use Rattle.proc_state.proofs.regs.set_regs.Goals as goal

@@ -2,8 +2,8 @@ use Rattle.std.proofs.Common.{◌≡◌, ◌∙◌, option_map, ap, sym, positio
 use Rattle.std.proofs.lemmas.Iterator.{YieldsList-from_slice}
 use Rattle.std.proofs.lemmas.Iterator.Search.{position_from_yields_List}
 use Rattle.os9_base.specs.declared.registers.Pid.{Pid}
-use Rattle.proc_rules.specs.Records.{record_passes}
-use Rattle.proc_rules.specs.Ends.{is_ended_child}
+use Rattle.proc_model.specs.Records.{record_passes}
+use Rattle.proc_model.specs.Ends.{is_ended_child}
 use Rattle.process_table.proofs.list.ended_child.Goals as goal
 
 pub returns-in_err-place-clause-number : goal.returns-in_err-place-clause-number

@@ -3,7 +3,7 @@ use Rattle.std.proofs.lemmas.Iterator.{YieldsList-from_slice}
 use Rattle.std.proofs.lemmas.Iterator.Search.{position_from_yields_List}
 use Rattle.std.proofs.lemmas.Grind.{common_steps}
 use Rattle.os9_base.specs.declared.registers.Pid.{Pid}
-use Rattle.proc_rules.specs.declared.record.Record.{Record}
+use Rattle.proc_model.specs.declared.record.Record.{Record}
 use Rattle.process_table.proofs.list.free_process.Goals as goal
 
 -- the whole of what follows the first two

@@ -1,6 +1,6 @@
 use Rattle.std.proofs.Common.{◌∙◌, sym, arith, map, None}
 use Rattle.std.proofs.lemmas.List.{length-map, get_or-map, ext_get_or}
-use Rattle.proc_rules.specs.Ends.{orphaned}
+use Rattle.proc_model.specs.Ends.{orphaned}
 use Rattle.process_table.proofs.list.orphan.Goals as goal
 
 pub returns : goal.returns

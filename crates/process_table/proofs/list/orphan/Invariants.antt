@@ -1,5 +1,5 @@
 use Rattle.std.proofs.Common.{◌≡◌, ℕ, ◌<◌, ◌≤◌, None, get_or}
-use Rattle.proc_rules.specs.Ends.{orphaned}
+use Rattle.proc_model.specs.Ends.{orphaned}
 use Rattle.process_table.proofs.list.orphan.Given as goal
 
 -- the places so far are done, and the others as they were

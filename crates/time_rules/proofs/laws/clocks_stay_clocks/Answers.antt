@@ -1,8 +1,8 @@
 use Rattle.std.proofs.Common.{◌≡◌, ℕ, not, Bool, true, false, Option, Some, None, List, refl, subst, sym, arith}
 use Rattle.os9_base.specs.declared.errors.TheConstants.{E_BADTIME, E_BPADDR}
 use Rattle.os9_base.specs.declared.registers.TimePacket.{TimePacket}
-use Rattle.proc_rules.specs.Processes.{Processes, regs_at, cells_at}
-use Rattle.proc_rules.specs.UserBytes.{user_bytes}
+use Rattle.proc_model.specs.Processes.{Processes, regs_at, cells_at}
+use Rattle.proc_model.specs.UserBytes.{user_bytes}
 use Rattle.time_rules.specs.CivilTime.{is_time_packet}
 use Rattle.std.specs.Prelude.{is_none}
 use Rattle.time_rules.specs.Attempts.{clock_after, time_step}

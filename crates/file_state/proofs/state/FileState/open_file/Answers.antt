@@ -1,5 +1,5 @@
 use Rattle.std.proofs.Common.{◌≡◌, ◌∙◌, Option, Some, IfSome, subst, sym}
-use Rattle.io_rules.specs.Io.{open_path}
+use Rattle.io_model.specs.Io.{open_path}
 use Rattle.file_state.specs.Opened.{IsPathOf, NamesFile, path_of}
 use Rattle.file_state.specs.declared.state.OpenFile.{OpenFile}
 use Rattle.file_state.proofs.OpenedLemmas.{names-path, no-file, open-desc, path-named, path-opened}

@@ -1,7 +1,7 @@
 use Rattle.std.proofs.Common.{ap}
 use Rattle.io_model.specs.Path.{paths_after_begin}
 use Rattle.io_model.specs.declared.path.Desc.{Desc}
-use Rattle.io_rules.specs.Io.{Io}
+use Rattle.io_model.specs.Io.{Io}
 use Rattle.io_state.proofs.FileLemmas.{may-open_on_disk}
 use Rattle.io_state.proofs.SoundLemmas.{are-begun, is-io_with_paths}
 use Rattle.io_state.proofs.WaitLemmas.{waits-begun}

@@ -3,7 +3,7 @@ use Rattle.io_model.specs.Path.{PathTable, paths_after_begin}
 use Rattle.io_model.specs.declared.path.Desc.{Desc}
 use Rattle.io_model.specs.declared.pipe.PipeId.{PipeId}
 use Rattle.io_model.specs.declared.path.Target.TheVariants.{Pipe}
-use Rattle.io_rules.specs.Io.{Io, new_desc, with_paths, with_pipes}
+use Rattle.io_model.specs.Io.{Io, new_desc, with_paths, with_pipes}
 use Rattle.io_state.specs.Sound.{AreTargets, AreWaits}
 use Rattle.io_state.proofs.SoundLemmas.{are-opened_on}
 use Rattle.io_state.proofs.WaitLemmas.{waits-begun, waits-with_pipes}

@@ -1,7 +1,7 @@
 use Rattle.std.proofs.Common.{ap}
 use Rattle.io_model.specs.Path.{paths_after_begin}
 use Rattle.io_model.specs.declared.path.Desc.{Desc}
-use Rattle.io_rules.specs.Io.{Io}
+use Rattle.io_model.specs.Io.{Io}
 use Rattle.io_state.proofs.SoundLemmas.{are-begun, is-io_with_paths, may-open_terminal}
 use Rattle.io_state.proofs.WaitLemmas.{waits-begun}
 use Rattle.io_state.proofs.state.IoState.begin_terminal.Goals as goal

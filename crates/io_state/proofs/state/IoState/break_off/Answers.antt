@@ -1,7 +1,7 @@
 use Rattle.std.proofs.Common.{◌∙◌, ap, sym}
 use Rattle.io_model.specs.declared.path.Target.TheVariants.{Term}
-use Rattle.io_rules.specs.Io.{Io}
-use Rattle.io_rules.specs.Waiting.{wait_target}
+use Rattle.io_model.specs.Io.{Io}
+use Rattle.io_model.specs.Waiting.{wait_target}
 use Rattle.io_state.proofs.TerminalLemmas.{is-io_dropped}
 use Rattle.io_state.proofs.WaitLemmas.{none-some}
 use Rattle.io_state.proofs.state.IoState.break_off.Goals as goal

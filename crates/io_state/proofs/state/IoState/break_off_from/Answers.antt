@@ -1,8 +1,8 @@
 use Rattle.std.proofs.Common.{◌≡◌, ◌∙◌, Some, ap, sym, subst}
 use Rattle.io_model.specs.declared.path.Target.{Target}
 use Rattle.io_model.specs.declared.path.Target.TheVariants.{Term}
-use Rattle.io_rules.specs.Io.{Io}
-use Rattle.io_rules.specs.Waiting.{wait_target}
+use Rattle.io_model.specs.Io.{Io}
+use Rattle.io_model.specs.Waiting.{wait_target}
 use Rattle.io_state.proofs.TerminalLemmas.{is-io_dropped, is-io_released}
 use Rattle.io_state.proofs.WaitLemmas.{some-same}
 use Rattle.io_state.specs.Sound.{IsThere}

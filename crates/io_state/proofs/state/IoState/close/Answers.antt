@@ -1,7 +1,7 @@
 use Rattle.std.proofs.Common.{◌≡◌, ◌∙◌, ap, List, Option, None, ℕ, sym, subst}
 use Rattle.io_model.specs.Path.{PathTable, paths_after_close}
-use Rattle.io_rules.specs.Close.{after_close}
-use Rattle.io_rules.specs.Io.{Io, pending_at, with_paths, with_pipes}
+use Rattle.io_model.specs.Close.{after_close}
+use Rattle.io_model.specs.Io.{Io, pending_at, with_paths, with_pipes}
 use Rattle.io_state.specs.Sound.{AreTargets, AreWaits}
 use Rattle.io_state.proofs.SoundLemmas.{are-closed, are-closed_pipe, closed-pipe, closed-plain, is-io_with_paths}
 use Rattle.io_state.proofs.WaitLemmas.{waits-closed, waits-with_pipes}

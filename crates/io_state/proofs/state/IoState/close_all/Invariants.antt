@@ -1,6 +1,6 @@
 use Rattle.std.proofs.Common.{◌≡◌, None}
-use Rattle.io_rules.specs.Io.{pending_at}
-use Rattle.io_rules.specs.Processes.{closed_below}
+use Rattle.io_model.specs.Io.{pending_at}
+use Rattle.io_model.specs.Processes.{closed_below}
 use Rattle.io_state.proofs.state.IoState.close_all.Given as goal
 
 -- the numbers so far are closed

@@ -1,5 +1,5 @@
 use Rattle.io_model.specs.Path.{paths_after_dup}
-use Rattle.io_rules.specs.Io.{Io}
+use Rattle.io_model.specs.Io.{Io}
 use Rattle.io_state.proofs.SoundLemmas.{are-doubled, is-io_with_paths}
 use Rattle.io_state.proofs.WaitLemmas.{waits-doubled}
 use Rattle.io_state.proofs.state.IoState.dup.Goals as goal

@@ -1,6 +1,6 @@
 use Rattle.std.proofs.Common.{◌∙◌, ap}
-use Rattle.io_rules.specs.Io.{Io}
-use Rattle.io_rules.specs.Processes.{closed_below}
+use Rattle.io_model.specs.Io.{Io}
+use Rattle.io_model.specs.Processes.{closed_below}
 use Rattle.io_state.proofs.TerminalLemmas.{ended-same}
 use Rattle.io_state.proofs.state.IoState.end.Goals as goal
 

@@ -1,4 +1,4 @@
-use Rattle.io_rules.specs.Io.{Io}
+use Rattle.io_model.specs.Io.{Io}
 use Rattle.io_state.proofs.TerminalLemmas.{is-io_forgotten}
 use Rattle.io_state.proofs.state.IoState.forget.Goals as goal
 

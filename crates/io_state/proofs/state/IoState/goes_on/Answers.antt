@@ -2,7 +2,7 @@ use Rattle.std.proofs.Common.{◌∙◌, Some, ap, option_map, subst}
 use Rattle.io_model.specs.Pipe.{IsPipe}
 use Rattle.io_model.specs.declared.path.Desc.{Desc}
 use Rattle.io_model.specs.declared.path.Target.{Target}
-use Rattle.io_rules.specs.Io.{Io}
+use Rattle.io_model.specs.Io.{Io}
 use Rattle.io_state.proofs.state.IoState.goes_on.Goals as goal
 
 pub may_read-requires : goal.may_read-requires

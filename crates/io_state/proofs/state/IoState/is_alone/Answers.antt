@@ -1,5 +1,5 @@
 use Rattle.std.proofs.Common.{◌≡◌, ℕ, false, not, sym, ap, ◌∙◌, arith, below_more}
-use Rattle.io_rules.specs.Alone.{is_outside}
+use Rattle.io_model.specs.Alone.{is_outside}
 use Rattle.io_state.proofs.StreamLemmas.{none-in, some-in}
 use Rattle.io_state.proofs.state.IoState.is_alone.Goals as goal
 

@@ -1,5 +1,5 @@
 use Rattle.std.proofs.Common.{◌≡◌, ℕ, ◌<◌, false}
-use Rattle.io_rules.specs.Alone.{is_outside}
+use Rattle.io_model.specs.Alone.{is_outside}
 use Rattle.io_state.proofs.state.IoState.is_alone.Given as goal
 
 -- no process so far is outside

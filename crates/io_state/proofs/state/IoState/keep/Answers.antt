@@ -1,6 +1,6 @@
 use Rattle.std.proofs.Common.{◌∙◌, ◌<◌, IfSome, length, arith, sym, subst}
 use Rattle.std.proofs.lemmas.List.{length-set}
-use Rattle.io_rules.specs.Io.{Io, pending_at}
+use Rattle.io_model.specs.Io.{Io, pending_at}
 use Rattle.io_state.specs.Sound.{MayWait, IsNoRead}
 use Rattle.io_state.proofs.WaitLemmas.{if-some, no-reader, waits-kept}
 use Rattle.io_state.proofs.state.IoState.keep.Goals as goal

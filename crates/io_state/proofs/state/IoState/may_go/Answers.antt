@@ -1,6 +1,6 @@
 use Rattle.std.proofs.Common.{IsSome, subst}
 use Rattle.io_model.specs.Path.{desc_of}
-use Rattle.io_rules.specs.Io.{Io}
+use Rattle.io_model.specs.Io.{Io}
 use Rattle.io_state.proofs.WaitLemmas.{call-there}
 use Rattle.io_state.proofs.state.IoState.may_go.Goals as goal
 

@@ -1,4 +1,4 @@
-use Rattle.io_rules.specs.Io.{Io}
+use Rattle.io_model.specs.Io.{Io}
 use Rattle.io_state.proofs.WaitLemmas.{call-there}
 use Rattle.io_state.proofs.state.IoState.moved_count.Goals as goal
 

@@ -1,5 +1,5 @@
 use Rattle.std.proofs.Common.{refl}
-use Rattle.io_rules.specs.Io.{first_io}
+use Rattle.io_model.specs.Io.{first_io}
 use Rattle.io_state.proofs.SoundLemmas.{is-first}
 use Rattle.io_state.proofs.state.IoState.new.Goals as goal
 

@@ -1,6 +1,6 @@
 use Rattle.std.proofs.Common.{ap, option_map, subst}
 use Rattle.io_model.specs.declared.path.Desc.{Desc}
-use Rattle.io_rules.specs.Io.{Io}
+use Rattle.io_model.specs.Io.{Io}
 use Rattle.io_state.specs.Sound.{IsThere}
 use Rattle.io_state.proofs.SoundLemmas.{is-there, path-low}
 use Rattle.io_state.proofs.state.IoState.open_path.Goals as goal

@@ -1,6 +1,6 @@
 use Rattle.std.proofs.Common.{ℕ, sym, subst, arith}
 use Rattle.io_model.specs.Terminal.{IsSameCall}
-use Rattle.io_rules.specs.Io.{Io, terminal_at}
+use Rattle.io_model.specs.Io.{Io, terminal_at}
 use Rattle.io_state.proofs.TerminalLemmas.{is-io_read}
 use Rattle.io_state.proofs.WaitLemmas.{same-read}
 use Rattle.io_state.specs.Terminals.{MayRead}

@@ -1,6 +1,6 @@
 use Rattle.std.proofs.Common.{ap}
 use Rattle.io_model.specs.declared.path.Desc.{Desc}
-use Rattle.io_rules.specs.Io.{Io}
+use Rattle.io_model.specs.Io.{Io}
 use Rattle.io_state.proofs.FileLemmas.{is-io_with_desc}
 use Rattle.io_state.proofs.state.IoState.set_ticks.Goals as goal
 

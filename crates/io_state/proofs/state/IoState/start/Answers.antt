@@ -1,6 +1,6 @@
 use Rattle.std.proofs.Common.{◌≡◌, None, sym, subst}
 use Rattle.io_model.specs.Path.{paths_after_inherit}
-use Rattle.io_rules.specs.Io.{Io, pending_at}
+use Rattle.io_model.specs.Io.{Io, pending_at}
 use Rattle.io_state.proofs.SoundLemmas.{is-io_with_paths}
 use Rattle.io_state.proofs.WaitLemmas.{waits-inherited}
 use Rattle.io_state.proofs.state.IoState.start.Goals as goal

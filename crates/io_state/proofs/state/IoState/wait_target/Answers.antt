@@ -1,6 +1,6 @@
 use Rattle.std.proofs.Common.{ap, option_map, subst}
 use Rattle.io_model.specs.declared.path.Desc.{Desc}
-use Rattle.io_rules.specs.Io.{Io}
+use Rattle.io_model.specs.Io.{Io}
 use Rattle.io_state.proofs.SoundLemmas.{is-there}
 use Rattle.io_state.proofs.WaitLemmas.{call-there}
 use Rattle.io_state.specs.Sound.{IsThere}

@@ -1,5 +1,5 @@
 use Rattle.std.proofs.Common.{IfSome, length, sym, subst}
-use Rattle.io_rules.specs.Io.{Io, pending_at, terminal_at}
+use Rattle.io_model.specs.Io.{Io, pending_at, terminal_at}
 use Rattle.io_state.proofs.TerminalLemmas.{is-io_written}
 use Rattle.io_state.proofs.WaitLemmas.{write-leaves}
 use Rattle.io_state.specs.Sound.{IsNoRead}

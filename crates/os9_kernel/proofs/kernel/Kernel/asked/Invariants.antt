@@ -1,7 +1,7 @@
 use Rattle.std.proofs.Common.{◌≡◌, ◌≤◌, ℕ, ◌<◌, ◌^◌, false}
 use Rattle.std.specs.Prelude.{option_and_then}
 use Rattle.os9_sched.specs.declared.member.Wait.{Wait}
-use Rattle.proc_rules.specs.IoReady.{has_io}
+use Rattle.proc_model.specs.IoReady.{has_io}
 use Rattle.os9_kernel.specs.Causes.{awaited}
 use Rattle.os9_kernel.specs.Looks.{EndsNotBefore, may_go_in}
 use Rattle.os9_kernel.specs.Tie.{IsKnown, ticks}

@@ -1,5 +1,5 @@
 use Rattle.std.proofs.Common.{refl}
-use Rattle.proc_rules.specs.Processes.{Processes, with_own}
+use Rattle.proc_model.specs.Processes.{Processes, with_own}
 use Rattle.os9_kernel.proofs.Represented.{tick-kept}
 use Rattle.os9_kernel.proofs.kernel.Kernel.begin_call.Goals as goal
 

@@ -1,6 +1,6 @@
 use Rattle.std.proofs.Common.{◌≡◌, option_map, refl, sym, ap, ◌∙◌}
 use Rattle.os9_base.specs.declared.registers.Pid.{Pid}
-use Rattle.proc_rules.specs.Choice.{choice_of, after_choice}
+use Rattle.proc_model.specs.Choice.{choice_of, after_choice}
 use Rattle.file_rules.specs.Locking.{files_may_go}
 use Rattle.machine_model.specs.Run.{Choose}
 use Rattle.machine_model.specs.State.{State}

@@ -1,12 +1,12 @@
 use Rattle.std.proofs.Common.{◌≡◌, ◌<◌, ℕ, Some, false, None, Result, List, length, refl, sym, ap, ◌∙◌, subst, arith}
 use Rattle.std.specs.Prelude.{slice_index_or}
-use Rattle.proc_rules.specs.declared.own.Own.{Own}
-use Rattle.proc_rules.specs.declared.record.Record.{Record}
-use Rattle.proc_rules.specs.Records.{IsLiving, record_at, is_waiting}
-use Rattle.proc_rules.specs.Delivery.{delivered, after_delivery}
-use Rattle.proc_rules.specs.Processes.{Processes, no_own, own_at}
-use Rattle.io_rules.specs.Io.{Io}
-use Rattle.io_rules.specs.Waiting.{interrupted_count}
+use Rattle.proc_model.specs.declared.own.Own.{Own}
+use Rattle.proc_model.specs.declared.record.Record.{Record}
+use Rattle.proc_model.specs.Records.{IsLiving, record_at, is_waiting}
+use Rattle.proc_model.specs.Delivery.{delivered, after_delivery}
+use Rattle.proc_model.specs.Processes.{Processes, no_own, own_at}
+use Rattle.io_model.specs.Io.{Io}
+use Rattle.io_model.specs.Waiting.{interrupted_count}
 use Rattle.file_rules.specs.Files.{Files}
 use Rattle.file_rules.specs.Locking.{files_interrupted}
 use Rattle.file_state.specs.Tie.{StandsFor}

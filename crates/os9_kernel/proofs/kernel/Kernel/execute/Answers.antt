@@ -5,11 +5,11 @@ use Rattle.cpu_model.specs.declared.stop.Stop.TheVariants.{Next, Call, Abort}
 use Rattle.proc_model.specs.Memory.{MemoryState}
 use Rattle.guest_memory.specs.Running.{RunsInMemory}
 use Rattle.guest_memory.specs.Tie.{Represents as RepresentsMemory}
-use Rattle.proc_rules.specs.declared.record.Record.{Record}
-use Rattle.proc_rules.specs.Records.{IsLiving}
+use Rattle.proc_model.specs.declared.record.Record.{Record}
+use Rattle.proc_model.specs.Records.{IsLiving}
 use Rattle.proc_state.specs.Tie.{Represents as RepresentsProcesses}
-use Rattle.proc_rules.specs.End.{ended}
-use Rattle.proc_rules.specs.Processes.{Processes, own_at, regs_at, with_memory, with_own, with_regs_of}
+use Rattle.proc_model.specs.End.{ended}
+use Rattle.proc_model.specs.Processes.{Processes, own_at, regs_at, with_memory, with_own, with_regs_of}
 use Rattle.file_rules.specs.Processes.{files_ended}
 use Rattle.file_state.specs.Tie.{StandsFor}
 use Rattle.file_state.specs.declared.state.FileState.{FileState}

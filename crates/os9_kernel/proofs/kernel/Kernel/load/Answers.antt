@@ -5,8 +5,8 @@ use Rattle.std.specs.Prelude.{slice_index_or}
 use Rattle.os9_base.specs.declared.call.CallEnd.{CallEnd}
 use Rattle.os9_base.specs.declared.call.CallEnd.TheVariants.{Wait}
 use Rattle.device_table.specs.Seen.{terminal_states}
-use Rattle.proc_rules.specs.Attempts.{after_attempt}
-use Rattle.proc_rules.specs.Processes.{Processes, no_own}
+use Rattle.proc_model.specs.Attempts.{after_attempt}
+use Rattle.proc_model.specs.Processes.{Processes, no_own}
 use Rattle.file_rules.specs.Attempts.{asker_of}
 use Rattle.file_rules.specs.Files.{Files}
 use Rattle.file_state.specs.Attempt.{Standing}
@@ -15,7 +15,7 @@ use Rattle.file_state.specs.Counted.{CalledAtMost}
 use Rattle.file_state.specs.Tie.{StandsFor}
 use Rattle.file_state.specs.declared.state.FileState.{FileState}
 use Rattle.proc_calls.specs.Telling.{LivesOn}
-use Rattle.proc_rules.specs.Records.{is_waiting, record_at}
+use Rattle.proc_model.specs.Records.{is_waiting, record_at}
 use Rattle.file_drives.specs.Drives.{boxed_seen}
 use Rattle.proc_state.specs.Tie.{Comes, Represents as RepresentsProcesses}
 use Rattle.proc_state.specs.declared.state.ProcState.{ProcState}

@@ -1,8 +1,8 @@
 use Rattle.std.proofs.Common.{◌≡◌, ◌≤◌, ◌<◌, ◌∙◌, ℕ, refl, sym, ap, subst, arith}
 use Rattle.std.specs.Prelude.{option_and_then}
 use Rattle.os9_sched.specs.declared.member.Wait.{Wait}
-use Rattle.proc_rules.specs.Processes.{Processes}
-use Rattle.proc_rules.specs.IoReady.{has_io}
+use Rattle.proc_model.specs.Processes.{Processes}
+use Rattle.proc_model.specs.IoReady.{has_io}
 use Rattle.proc_state.specs.Active.{AreActiveAt}
 use Rattle.os9_kernel.specs.Causes.{awaited}
 use Rattle.os9_kernel.specs.Looks.{EndsNotBefore, may_go_in}

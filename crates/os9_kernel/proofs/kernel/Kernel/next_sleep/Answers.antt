@@ -1,7 +1,7 @@
 use Rattle.std.proofs.Common.{◌≤◌, ℕ, Option, ap, subst, arith, below_more}
 use Rattle.std.specs.Prelude.{slice_index_or}
-use Rattle.proc_rules.specs.declared.own.Own.{Own}
-use Rattle.proc_rules.specs.Processes.{no_own}
+use Rattle.proc_model.specs.declared.own.Own.{Own}
+use Rattle.proc_model.specs.Processes.{no_own}
 use Rattle.os9_kernel.specs.Looks.{EndsNotBefore}
 use Rattle.os9_kernel.specs.Tie.{ticks}
 use Rattle.os9_kernel.proofs.Looking.{ends-sooner}

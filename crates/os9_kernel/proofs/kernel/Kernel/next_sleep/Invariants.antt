@@ -1,6 +1,6 @@
 use Rattle.std.proofs.Common.{ℕ, ◌<◌, ◌^◌}
 use Rattle.std.specs.Prelude.{slice_index_or}
-use Rattle.proc_rules.specs.Processes.{no_own}
+use Rattle.proc_model.specs.Processes.{no_own}
 use Rattle.os9_kernel.specs.Looks.{EndsNotBefore}
 use Rattle.os9_kernel.specs.Tie.{ticks}
 use Rattle.os9_kernel.proofs.kernel.Kernel.next_sleep.Given as goal

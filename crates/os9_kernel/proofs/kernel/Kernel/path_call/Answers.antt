@@ -7,25 +7,25 @@ use Rattle.os9_base.specs.declared.call.CallEnd.TheVariants.{NoMemory, Wait}
 use Rattle.os9_outer.specs.TerminalState.{TerminalState}
 use Rattle.os9_sched.specs.Members.{member_of, wait_at}
 use Rattle.os9_sched.specs.declared.member.Cause.{Cause}
-use Rattle.proc_rules.specs.Attempts.{after_attempt}
-use Rattle.proc_rules.specs.CallResult.{CallResult}
-use Rattle.proc_rules.specs.Processes.{Processes, no_own}
-use Rattle.proc_rules.specs.declared.proc_call.ProcCall.{ProcCall}
+use Rattle.proc_model.specs.Attempts.{after_attempt}
+use Rattle.proc_model.specs.CallResult.{CallResult}
+use Rattle.proc_model.specs.Processes.{Processes, no_own}
+use Rattle.proc_model.specs.declared.proc_call.ProcCall.{ProcCall}
 use Rattle.file_rules.specs.Memory.{LacksEntry, LacksMemory}
 use Rattle.call_dispatch.specs.Attempts.{MayAttempt}
 use Rattle.file_rules.specs.Attempts.{FileAttempts, asker_of, io_effect}
 use Rattle.io_model.specs.Path.{ArePaths}
-use Rattle.io_rules.specs.Io.{Io}
+use Rattle.io_model.specs.Io.{Io}
 use Rattle.file_laws.specs.Devices.{number_in}
 use Rattle.file_state.specs.Tie.{StandsFor}
 use Rattle.file_state.specs.declared.state.FileState.{FileState}
-use Rattle.io_rules.specs.Attempts.{result_of}
+use Rattle.io_model.specs.Attempts.{result_of}
 use Rattle.lock_model.specs.Records.{Records}
 use Rattle.file_rules.specs.Locking.{call_wait}
 use Rattle.file_state.specs.Attempt.{settled}
 use Rattle.machine_model.specs.declared.ends.EventEnd.{EventEnd}
-use Rattle.proc_rules.specs.declared.record.Record.{Record}
-use Rattle.proc_rules.specs.Records.{IsLiving, is_waiting, record_at}
+use Rattle.proc_model.specs.declared.record.Record.{Record}
+use Rattle.proc_model.specs.Records.{IsLiving, is_waiting, record_at}
 use Rattle.file_drives.specs.Drives.{boxed_seen}
 use Rattle.proc_state.specs.Tie.{Comes, Represents as RepresentsProcesses}
 use Rattle.machine_model.specs.Services.{Serves, Service, on_paths}

@@ -3,13 +3,13 @@ use Rattle.std.specs.Prelude.{IfSome, slice_index_or}
 use Rattle.os9_base.specs.declared.call.CallEnd.{CallEnd}
 use Rattle.os9_sched.specs.Members.{member_of, wait_at}
 use Rattle.call_dispatch.specs.Waits.{waits_for}
-use Rattle.proc_rules.specs.Attempts.{attempted, after_attempt}
-use Rattle.proc_rules.specs.Processes.{Processes, no_own}
-use Rattle.proc_rules.specs.declared.proc_call.ProcCall.{ProcCall}
+use Rattle.proc_model.specs.Attempts.{attempted, after_attempt}
+use Rattle.proc_model.specs.Processes.{Processes, no_own}
+use Rattle.proc_model.specs.declared.proc_call.ProcCall.{ProcCall}
 use Rattle.file_rules.specs.Files.{Files}
 use Rattle.file_state.specs.Tie.{StandsFor}
 use Rattle.file_rules.specs.Locking.{call_wait}
-use Rattle.proc_rules.specs.Records.{IsLiving, is_waiting, record_at}
+use Rattle.proc_model.specs.Records.{IsLiving, is_waiting, record_at}
 use Rattle.proc_state.specs.declared.state.ProcState.{ProcState}
 use Rattle.proc_state.specs.Tie.{Represents as RepresentsProcesses}
 use Rattle.machine_model.proofs.Ticks.{attempt-tick}

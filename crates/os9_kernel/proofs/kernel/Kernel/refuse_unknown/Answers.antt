@@ -1,8 +1,8 @@
 use Rattle.std.proofs.Common.{refl, sym, subst}
 use Rattle.os9_base.specs.declared.errors.TheConstants.{E_UNKSVC}
-use Rattle.proc_rules.specs.Attempts.{after_attempt, goes_on, refused_regs}
-use Rattle.proc_rules.specs.CallResult.{refused}
-use Rattle.proc_rules.specs.Processes.{Processes, regs_at}
+use Rattle.proc_model.specs.Attempts.{after_attempt, goes_on, refused_regs}
+use Rattle.proc_model.specs.CallResult.{refused}
+use Rattle.proc_model.specs.Processes.{Processes, regs_at}
 use Rattle.machine_model.specs.Services.{Serves, Service}
 use Rattle.machine_model.specs.State.{rest_of}
 use Rattle.os9_kernel.specs.declared.act.Act.TheVariants.{Attempt}

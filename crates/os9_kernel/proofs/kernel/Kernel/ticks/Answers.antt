@@ -1,5 +1,5 @@
 use Rattle.std.proofs.Common.{sym, ap}
-use Rattle.proc_rules.specs.Processes.{Processes}
+use Rattle.proc_model.specs.Processes.{Processes}
 use Rattle.os9_kernel.proofs.kernel.Kernel.ticks.Goals as goal
 
 pub returns-clause-machine : goal.returns-clause-machine

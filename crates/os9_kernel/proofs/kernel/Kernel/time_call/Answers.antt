@@ -1,6 +1,6 @@
 use Rattle.std.proofs.Common.{refl, sym, ap, ◌∙◌, subst}
-use Rattle.proc_rules.specs.Attempts.{after_attempt}
-use Rattle.proc_rules.specs.Processes.{Processes}
+use Rattle.proc_model.specs.Attempts.{after_attempt}
+use Rattle.proc_model.specs.Processes.{Processes}
 use Rattle.file_state.specs.Tie.{StandsFor}
 use Rattle.file_state.specs.declared.state.FileState.{FileState}
 use Rattle.proc_state.specs.Tie.{Represents as RepresentsProcesses}

@@ -1,6 +1,6 @@
 use Rattle.std.proofs.Common.{◌≡◌, ◌==◌, true, arith}
-use Rattle.proc_rules.specs.declared.turn.Turn.{Turn}
-use Rattle.proc_rules.specs.Turns.{has_turn}
+use Rattle.proc_model.specs.declared.turn.Turn.{Turn}
+use Rattle.proc_model.specs.Turns.{has_turn}
 use Rattle.os9_sched.proofs.TurnLists.{IsSome-find}
 use Rattle.os9_sched.proofs.sched.Sched.age.Goals as goal
 

@@ -1,5 +1,5 @@
 use Rattle.std.proofs.Common.{◌≡◌, Some, rules}
-use Rattle.proc_rules.specs.Turns.{ready_turns, eldest}
+use Rattle.proc_model.specs.Turns.{ready_turns, eldest}
 use Rattle.os9_sched.specs.Members.{is_active_in}
 use Rattle.os9_sched.proofs.ScheduleLaws.{two_steps}
 use Rattle.os9_sched.proofs.sched.Sched.dispatch.Goals as goal

@@ -1,7 +1,7 @@
 use Rattle.std.proofs.Common.{ℕ, Result, sym, ap, subst}
 use Rattle.os9_base.specs.declared.registers.Regs.{Regs}
-use Rattle.proc_rules.specs.Delivery.{after_delivery}
-use Rattle.proc_rules.specs.Processes.{Processes}
+use Rattle.proc_model.specs.Delivery.{after_delivery}
+use Rattle.proc_model.specs.Processes.{Processes}
 use Rattle.proc_state.specs.Delivery.{delivery_end}
 use Rattle.proc_state.specs.Tie.{Represents}
 use Rattle.proc_state.proofs.Delivering.{begun-some, begun-none}

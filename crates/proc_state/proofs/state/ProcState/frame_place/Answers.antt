@@ -1,8 +1,8 @@
 use Rattle.std.proofs.Common.{◌≡◌, ℕ, ◌-◌, ◌≤◌, Some, sym, ap, subst, ◌∙◌, arith}
 use Rattle.std.proofs.lemmas.Bool.{false≢true}
 use Rattle.os9_base.specs.Cells.{Cells, FitsIn}
-use Rattle.proc_rules.specs.Delivery.{stack_top}
-use Rattle.proc_rules.specs.Processes.{cells_at}
+use Rattle.proc_model.specs.Delivery.{stack_top}
+use Rattle.proc_model.specs.Processes.{cells_at}
 use Rattle.guest_memory.proofs.Seen.{cells_of-seen}
 use Rattle.proc_state.proofs.Delivering.{place-fits, place-none, stack_top-most}
 use Rattle.proc_state.proofs.state.ProcState.frame_place.Goals as goal

@@ -1,7 +1,7 @@
 use Rattle.std.proofs.Common.{false, None, subst}
-use Rattle.proc_rules.specs.declared.own.Own.{Own}
-use Rattle.proc_rules.specs.Records.{with_waiting}
-use Rattle.proc_rules.specs.Processes.{Processes, with_own, with_records, with_regs_of}
+use Rattle.proc_model.specs.declared.own.Own.{Own}
+use Rattle.proc_model.specs.Records.{with_waiting}
+use Rattle.proc_model.specs.Processes.{Processes, with_own, with_records, with_regs_of}
 use Rattle.proc_state.specs.Tie.{Represents}
 use Rattle.proc_state.proofs.state.ProcState.go_on.Goals as goal
 

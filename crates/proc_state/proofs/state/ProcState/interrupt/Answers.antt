@@ -1,9 +1,9 @@
 use Rattle.std.proofs.Common.{◌≡◌, true, None, sym, ap, subst, ◌∙◌}
 use Rattle.os9_base.specs.declared.registers.Regs.{Regs}
-use Rattle.proc_rules.specs.Records.{record_at, is_waiting}
-use Rattle.proc_rules.specs.Signals.{with_signal}
-use Rattle.proc_rules.specs.Attempts.{goes_on}
-use Rattle.proc_rules.specs.Processes.{Processes, with_records}
+use Rattle.proc_model.specs.Records.{record_at, is_waiting}
+use Rattle.proc_model.specs.Signals.{with_signal}
+use Rattle.proc_model.specs.Attempts.{goes_on}
+use Rattle.proc_model.specs.Processes.{Processes, with_records}
 use Rattle.proc_state.specs.Tie.{Represents}
 use Rattle.proc_state.proofs.Delivering.{interrupted-waiting}
 use Rattle.proc_state.proofs.state.ProcState.interrupt.Goals as goal

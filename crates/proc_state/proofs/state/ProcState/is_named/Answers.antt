@@ -1,7 +1,7 @@
 use Rattle.std.proofs.Common.{◌≡◌, ◌↔◌, ◌<◌, ℕ, Bool, true, false, IsTrue, is_some, refl, sym, ap, ◌∙◌, arith}
 use Rattle.std.proofs.lemmas.Bool.{false≢true}
 use Rattle.os9_base.specs.Cells.{Cells, FitsIn}
-use Rattle.proc_rules.specs.UserBytes.{user_bytes}
+use Rattle.proc_model.specs.UserBytes.{user_bytes}
 use Rattle.guest_memory.proofs.Seen.{cells_of-seen}
 use Rattle.guest_memory.specs.Tie.{cells_of}
 use Rattle.proc_state.proofs.UserBytes.{user_bytes-fits, user_bytes-None}

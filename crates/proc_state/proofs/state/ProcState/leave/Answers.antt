@@ -3,8 +3,8 @@ use Rattle.guest_memory.specs.Tie.{modules_of}
 use Rattle.os9_sched.specs.Schedule.{Schedule}
 use Rattle.proc_model.specs.Memory.{MemoryState}
 use Rattle.proc_model.specs.MemoryChanges.{cleared}
-use Rattle.proc_rules.specs.declared.record.Record.{Record}
-use Rattle.proc_rules.specs.Ends.{after_exit}
+use Rattle.proc_model.specs.declared.record.Record.{Record}
+use Rattle.proc_model.specs.Ends.{after_exit}
 use Rattle.proc_state.specs.Sound.{AreTurns}
 use Rattle.proc_state.proofs.Entered.{entered-kept}
 use Rattle.proc_state.proofs.Leaving.{AreTurns-left}

@@ -1,5 +1,5 @@
 use Rattle.std.proofs.Common.{◌∙◌, sym, ap}
-use Rattle.proc_rules.specs.Processes.{Processes}
+use Rattle.proc_model.specs.Processes.{Processes}
 use Rattle.proc_state.specs.First.{living_count}
 use Rattle.proc_state.proofs.LivingTurns.{turns-living}
 use Rattle.proc_state.proofs.state.ProcState.living.Goals as goal

@@ -2,9 +2,9 @@ use Rattle.std.proofs.Common.{Option, List, sym, ap, subst}
 use Rattle.guest_memory.specs.Tie.{modules_of}
 use Rattle.os9_sched.specs.Schedule.{Schedule}
 use Rattle.proc_model.specs.Memory.{first_memory}
-use Rattle.proc_rules.specs.declared.own.Own.{Own}
-use Rattle.proc_rules.specs.declared.record.Record.{Record}
-use Rattle.proc_rules.specs.Records.{AreRecords}
+use Rattle.proc_model.specs.declared.own.Own.{Own}
+use Rattle.proc_model.specs.declared.record.Record.{Record}
+use Rattle.proc_model.specs.Records.{AreRecords}
 use Rattle.proc_state.specs.Sound.{AreTurns, ArePrimaries, AreSleeps}
 use Rattle.proc_state.proofs.First.{AreRecords-first, AreTurns-first, ArePrimaries-first}
 use Rattle.proc_state.proofs.Sleeps.{AreSleeps-first}

@@ -1,7 +1,7 @@
 use Rattle.std.proofs.Common.{subst}
 use Rattle.proc_model.specs.MemoryChanges.{stored}
-use Rattle.proc_rules.specs.Delivery.{interrupted}
-use Rattle.proc_rules.specs.Processes.{Processes, with_memory}
+use Rattle.proc_model.specs.Delivery.{interrupted}
+use Rattle.proc_model.specs.Processes.{Processes, with_memory}
 use Rattle.proc_state.specs.Tie.{Represents}
 use Rattle.proc_state.proofs.Delivering.{frame-pushed}
 use Rattle.proc_state.proofs.state.ProcState.push_frame.Goals as goal

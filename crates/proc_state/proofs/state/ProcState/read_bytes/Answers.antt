@@ -1,6 +1,6 @@
 use Rattle.std.proofs.Common.{ℕ, List, length, drop, ap, sym, ◌∙◌, arith}
 use Rattle.os9_base.specs.Cells.{Cells}
-use Rattle.proc_rules.specs.UserBytes.{user_bytes}
+use Rattle.proc_model.specs.UserBytes.{user_bytes}
 use Rattle.guest_memory.proofs.Seen.{cells_of-seen}
 use Rattle.proc_state.specs.Tie.{bytes_read}
 use Rattle.proc_state.proofs.UserBytes.{take-front}

@@ -1,10 +1,10 @@
 use Rattle.std.proofs.Common.{◌≡◌, ◌∙◌, sym, ap, subst, List, length, map, take, drop, ◌++◌, arith}
 use Rattle.std.proofs.lemmas.List.{length-map}
-use Rattle.proc_rules.specs.ModuleLinks.{still_primary}
+use Rattle.proc_model.specs.ModuleLinks.{still_primary}
 use Rattle.guest_memory.specs.Tie.{modules_of}
 use Rattle.proc_model.specs.Memory.{MemoryState}
 use Rattle.proc_model.specs.MemoryChanges.{unlinked}
-use Rattle.proc_rules.specs.declared.own.Own.{Own}
+use Rattle.proc_model.specs.declared.own.Own.{Own}
 use Rattle.proc_state.specs.Sound.{ArePrimaries, AreSleeps}
 use Rattle.proc_state.proofs.Entered.{entered-tied}
 use Rattle.proc_state.proofs.Primaries.{written-whole, ArePrimaries-still, still-same}

@@ -1,9 +1,9 @@
 use Rattle.std.proofs.Common.{◌≡◌, ◌∙◌, ◌<◌, ℕ, Option, None, List, length, map, sym, ap, subst, rules, arith}
 use Rattle.std.proofs.lemmas.List.{length-map, get_or-map}
 use Rattle.std.proofs.lemmas.Grind.{common_steps}
-use Rattle.proc_rules.specs.declared.record.Record.{Record}
-use Rattle.proc_rules.specs.Records.{AreRecords}
-use Rattle.proc_rules.specs.Ends.{orphaned}
+use Rattle.proc_model.specs.declared.record.Record.{Record}
+use Rattle.proc_model.specs.Records.{AreRecords}
+use Rattle.proc_model.specs.Ends.{orphaned}
 use Rattle.process_table.proofs.table.Table.orphan.Goals as goal
 
 -- the places that are left when children lose a parent

@@ -1,2 +1,0 @@
-pub mod EldestLaws
-pub mod TurnLaws

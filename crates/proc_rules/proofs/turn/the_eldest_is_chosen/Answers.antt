@@ -1,8 +1,0 @@
-use Rattle.proc_rules.proofs.EldestLaws.{chosen_if, nobody_if}
-use Rattle.proc_rules.proofs.turn.the_eldest_is_chosen.Goals as goal
-
-pub returns-clause-chosen : goal.returns-clause-chosen
-returns-clause-chosen c = λ is_ready priority order. chosen_if is_ready order
-
-pub returns-clause-nobody : goal.returns-clause-nobody
-returns-clause-nobody c = λ is_ready priority order. nobody_if is_ready order

@@ -1,9 +1,0 @@
-pub mod Causing
-pub mod Devices
-pub mod EndKeys
-pub mod Gaps
-pub mod OnFiles
-pub mod Processes
-pub mod ProcessesLeft
-pub mod RefusedEvents
-pub mod Refusing

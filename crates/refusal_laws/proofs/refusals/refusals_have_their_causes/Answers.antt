@@ -1,5 +1,0 @@
-use Rattle.refusal_laws.proofs.Refusing.{has-cause}
-use Rattle.refusal_laws.proofs.refusals.refusals_have_their_causes.Goals as goal
-
-pub returns : goal.returns
-returns c = has-cause
