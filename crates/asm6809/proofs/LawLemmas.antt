@@ -6,13 +6,13 @@ use Rattle.std.proofs.lemmas.Bool.{and_parts, leb-true, ltb-true}
 use Rattle.std.proofs.lemmas.List.{take_at, drop_at, drop-drop}
 use Rattle.std.proofs.lemmas.List.Sums.{AllPass-from_list_all}
 use Rattle.os9_base.specs.declared.limits.TheConstants.{MOST_GROUP_BYTES}
-use Rattle.os9_base.specs.Name.{is_name_character, if_name, IsName}
+use Rattle.os9_base.specs.Name.{is_name_character, if_name, IsName, marked_name}
 use Rattle.os9_base.proofs.NameLemmas.{is_stored_character-from_name}
 use Rattle.proc_model.specs.CrcModel.{crc_of}
 use Rattle.proc_model.specs.Module.{IsModule, info_at}
 use Rattle.proc_model.specs.declared.module.ModuleInfo.{ModuleInfo}
 use Rattle.module_format.specs.declared.maker.Header.{Header}
-use Rattle.module_format.specs.GuestModule.{made_module, made_body, made_info, header_front, parity_of, crc_bytes, marked_name, code_offset, guest_size, is_program_kind, kind_header_length}
+use Rattle.module_format.specs.GuestModule.{made_module, made_body, made_info, header_front, parity_of, crc_bytes, code_offset, guest_size, is_program_kind, kind_header_length}
 use Rattle.module_format.proofs.ModuleLemmas.{length-made_module, made_module-is, made_info-is}
 use Rattle.module_format.proofs.NameLemmas.{length-marked_name}
 use Rattle.asm_model.specs.Operands.{modulo}

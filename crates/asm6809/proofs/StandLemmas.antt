@@ -1,4 +1,6 @@
 -- Where the statements of a module stand.
+use Rattle.proc_model.specs.UserBytes.{word_bytes}
+use Rattle.os9_base.specs.Name.{marked_name}
 use Rattle.std.proofs.Common.{◌≡◌, ◌≤◌, ℕ, ◌+◌, ◌*◌, ◌&&◌, true, false, Option, Some, None, List, [], ◌∷◌, ◌++◌, length, take, drop, refl, ap, sym, subst, ◌∙◌, arith, length-append, length-drop, append_assoc}
 use Rattle.std.specs.Prelude.{option_map, is_some, sum_by, All, IsSomeAnd, Ok}
 use Rattle.std.specs.Option.{option_map_or}
@@ -13,7 +15,7 @@ use Rattle.cpu_model.specs.declared.instruction.Tail.TheVariants.{Empty, Byte}
 use Rattle.cpu_model.specs.Reading.{reading}
 use Rattle.cpu_table.specs.Spelling.{spelling, IsPlain}
 use Rattle.cpu_table.proofs.Read.{plain_read}
-use Rattle.module_format.specs.GuestModule.{crc_bytes, kind_header_length, marked_name, word_bytes}
+use Rattle.module_format.specs.GuestModule.{crc_bytes, kind_header_length}
 use Rattle.asm_model.specs.declared.operand.Wanted.{Wanted}
 use Rattle.asm_model.specs.declared.operand.Wanted.TheVariants.{Nothing, Fixed, Value}
 use Rattle.asm_model.specs.Instructions.{Shape, shape_length, with_tail}

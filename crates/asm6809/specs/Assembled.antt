@@ -1,4 +1,6 @@
 -- The module that a source makes (this project's own).
+use Rattle.proc_model.specs.UserBytes.{word_bytes}
+use Rattle.os9_base.specs.Name.{marked_name}
 use Rattle.std.specs.Prelude.{◌≡◌, ℕ, ◌+◌, ◌&&◌, not, nat_le, nat_lt, Bool, false, true, Option, Some, None, is_some, option_map, option_and_then, unwrap_or, sum_by, All, IsSomeAnd, Result, Ok, Err, List, [], ◌∷◌, length, take, drop, map, ℤ, pos, codes, if◌then◌else◌}
 use Rattle.std.specs.Option.{option_map_or}
 use Rattle.std.specs.List.{flat_map, list_all}
@@ -10,7 +12,7 @@ use Rattle.cpu_model.specs.declared.instruction.Instr.{Instr}
 use Rattle.cpu_model.specs.Reading.{reading}
 use Rattle.cpu_table.specs.Spelling.{spelling}
 use Rattle.module_format.specs.declared.maker.Header.{Header}
-use Rattle.module_format.specs.GuestModule.{made_module, code_offset, crc_bytes, guest_size, is_program_kind, kind_header_length, marked_name, word_bytes}
+use Rattle.module_format.specs.GuestModule.{made_module, code_offset, crc_bytes, guest_size, is_program_kind, kind_header_length}
 use Rattle.asm_model.specs.declared.error.AsmError.TheVariants.{NoModule}
 use Rattle.asm_model.specs.Operands.{modulo, filled}
 use Rattle.asm_model.specs.Instructions.{Shape, shape_length, with_tail}

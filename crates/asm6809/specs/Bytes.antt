@@ -1,10 +1,10 @@
 -- The bytes of statements, by a table of labels.
+use Rattle.proc_model.specs.UserBytes.{word_bytes}
 use Rattle.std.specs.Prelude.{ℕ, ◌+◌, Option, Some, option_map, unwrap_or, List, [], ◌∷◌, map, ℤ, pos}
 use Rattle.std.specs.Option.{option_map_or}
 use Rattle.std.specs.List.{flat_map}
 use Rattle.cpu_model.specs.declared.instruction.Tail.{Tail}
 use Rattle.cpu_table.specs.Spelling.{spelling}
-use Rattle.module_format.specs.GuestModule.{word_bytes}
 use Rattle.asm_model.specs.Operands.{Operand, modulo}
 use Rattle.asm_model.specs.Instructions.{Shape, shape_length, with_tail}
 use Rattle.asm_model.specs.Statements.{Action, label_alone, instruction, module_start, module_end, equals, byte_list, word_list, characters, system_call}

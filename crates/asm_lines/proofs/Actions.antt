@@ -5,8 +5,7 @@ use Rattle.std.specs.List.{slice_split, join_with_byte, position_or_len, before_
 use Rattle.std.specs.Str.{bytes_eq, str_to_ascii_lowercase}
 use Rattle.std.proofs.lemmas.Bool.{and_parts, eqb-true}
 use Rattle.std.proofs.lemmas.Bool.Decides.{nat_tests}
-use Rattle.os9_base.specs.Name.{is_name_character, if_name}
-use Rattle.module_format.specs.GuestModule.{marked_name}
+use Rattle.os9_base.specs.Name.{is_name_character, if_name, marked_name}
 use Rattle.text_values.specs.Cuts.{first_word, behind_word, without_spaces}
 use Rattle.text_values.proofs.Places.{position_or_len-first, position_or_len-next}
 use Rattle.asm_model.specs.declared.directive.Directive.{Directive}

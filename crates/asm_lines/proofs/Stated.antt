@@ -1,4 +1,5 @@
 -- What a source's lines state of instructions is what a line of an instruction alone is read as.
+use Rattle.os9_base.specs.Name.{marked_name}
 use Rattle.std.proofs.Common.{◌≡◌, ℕ, zero, suc, ◌&&◌, not, Bool, true, false, Option, Some, None, List, [], ◌∷◌, map, drop, refl, ap, sym, ◌∙◌}
 use Rattle.std.specs.Prelude.{option_map, option_and_then, if◌then◌else◌}
 use Rattle.std.specs.List.{slice_split, list_all, find, position_or_len}
@@ -9,7 +10,6 @@ use Rattle.cpu_model.specs.BasePage.{base_page}
 use Rattle.cpu_model.specs.TenPage.{ten_page}
 use Rattle.cpu_model.specs.ElevenPage.{eleven_page}
 use Rattle.text_values.specs.Cuts.{is_space, first_word, behind_word, without_spaces}
-use Rattle.module_format.specs.GuestModule.{marked_name}
 use Rattle.asm_model.specs.declared.directive.Directive.{Directive}
 use Rattle.asm_model.specs.declared.directive.Directive.TheVariants.{Mod, Emod, Equ, Fcb, Fdb, Fcc, Fcs, Os9}
 use Rattle.asm_model.specs.declared.operand.Mark.{Mark}

@@ -2,9 +2,8 @@
 use Rattle.std.specs.Prelude.{ℕ, ◌&&◌, not, Bool, true, false, Option, Some, None, is_some, option_map, List, [], ◌∷◌, map, codes, if◌then◌else◌}
 use Rattle.std.specs.List.{slice_split, list_all, list_any, before_first, after_first, find}
 use Rattle.std.specs.Option.{option_map_or}
-use Rattle.os9_base.specs.Name.{is_name_character, if_name}
+use Rattle.os9_base.specs.Name.{is_name_character, if_name, marked_name}
 use Rattle.text_values.specs.Cuts.{is_space, first_word, behind_word, without_spaces}
-use Rattle.module_format.specs.GuestModule.{marked_name}
 use Rattle.asm_model.specs.declared.directive.Directive.{Directive}
 use Rattle.asm_model.specs.declared.directive.Directive.TheVariants.{Mod, Emod, Equ, Fcb, Fdb, Fcc, Fcs, Os9}
 use Rattle.asm_model.specs.Characters.{is_line_byte, is_line_feed, is_quote, is_star, is_comma, same_word}

@@ -1,4 +1,5 @@
 -- What an attempt of a call on terminals and pipes comes to, in the state of files.
+use Rattle.io_model.specs.Rows.{effect_of}
 use Rattle.std.proofs.Common.{◌≡◌, ◌≢◌, ◌∙◌, ℕ, None, List, [], length, replicate, refl, sym, ap, subst, inl, inr, arith}
 use Rattle.os9_base.specs.declared.call.CallEnd.{CallEnd}
 use Rattle.os9_base.specs.declared.call.CallEnd.TheVariants.{NoMemory}
@@ -30,7 +31,7 @@ use Rattle.file_state.specs.Lacks.{AttemptsOrLacks, TriesWithin}
 use Rattle.file_state.specs.Tie.{IsSound, StandsFor}
 use Rattle.file_state.specs.declared.state.FileState.{FileState}
 use Rattle.name_calls.proofs.SameLemmas.{some-machine}
-use Rattle.device_paths.specs.Quiet.{Ends, effect_of}
+use Rattle.device_paths.specs.Quiet.{Ends}
 use Rattle.device_paths.proofs.QuietLemmas.{IsQuiet}
 use Rattle.lock_model.specs.Records.{Records, with_waiting}
 use Rattle.file_rules.specs.Memory.{LacksMemory}

@@ -1,4 +1,5 @@
 -- In every state of a run the chosen process may attempt its call on paths.
+use Rattle.io_model.specs.Read.{IsReadAllowed}
 use Rattle.std.proofs.Common.{◌≡◌, ℕ, ◌<◌, Option, Some, None, IfSome, refl, sym, ap, ◌∙◌, subst}
 use Rattle.std.specs.Prelude.{option_map}
 use Rattle.std.proofs.lemmas.Option.{none-some, same_Some}
@@ -18,12 +19,12 @@ use Rattle.io_model.specs.Codes.{io_call_of}
 use Rattle.io_model.specs.Io.{Io, pending_at}
 use Rattle.io_model.specs.declared.io_call.IoCall.{IoCall}
 use Rattle.io_model.specs.declared.io_call.IoCall.TheVariants as Call
-use Rattle.call_laws.specs.Pending.{ArePending, StaysAllowed as IsAllowed, StaysRead as AllowedRead}
+use Rattle.call_laws.specs.Pending.{ArePending, StaysAllowed as IsAllowed}
 use Rattle.call_laws.specs.Terminals.{AreOnTerminals}
 use Rattle.call_laws.proofs.Codes.{attempts-code}
 use Rattle.proc_state.specs.Tie.{Represents}
 use Rattle.proc_state.specs.declared.state.ProcState.{ProcState}
-use Rattle.device_io.specs.Moving.{AreTerminals, StaysIfPending, StaysRead}
+use Rattle.device_io.specs.Moving.{AreTerminals, StaysIfPending}
 use Rattle.call_dispatch.specs.Staying.{MayAttempt, StaysAllowed}
 
 -- each terminal that a path was opened on is there
@@ -59,22 +60,19 @@ module _ (m : Processes) (io : Io) (p code : ℕ) (call : IoCall) (kept_all : Ar
 
 -- a read that is allowed stays so
 stays-if : (call : IoCall) (cells : Cells) (regs : Regs) (io : Io) (p : ℕ) → (IsAllowed call cells regs io p
-    → StaysRead cells regs io p) → IfSome (pending_at io p) (λ pending. IsAllowed call cells regs io p) → StaysIfPending cells
+    → IsReadAllowed cells regs io p) → IfSome (pending_at io p) (λ pending. IsAllowed call cells regs io p) → StaysIfPending cells
     regs io p
 stays-if call cells regs io p reads = by_kept (pending_at io p)
   where
-    by_kept : (place : Option PendingCall) → IfSome place (λ pending. IsAllowed call cells regs io p) → IfSome place (λ pending. StaysRead cells regs io p)
+    by_kept : (place : Option PendingCall) → IfSome place (λ pending. IsAllowed call cells regs io p) → IfSome place (λ pending. IsReadAllowed cells regs io p)
     by_kept None allowed = tt
     by_kept (Some pending) allowed = reads allowed
 
-stays-read : (cells : Cells) (regs : Regs) (io : Io) (p : ℕ) → AllowedRead cells regs io p → StaysRead cells regs io p
-stays-read cells regs io p it = record { named = it.named; may = it.mode }
-
 stays-of : (call : IoCall) (cells : Cells) (regs : Regs) (io : Io) (p : ℕ) → IfSome (pending_at io p) (λ pending. IsAllowed call cells regs io p) → StaysAllowed call cells regs io p
 stays-of Call.Read cells regs io p allowed =
-    stays-if Call.Read cells regs io p (λ it. stays-read cells regs io p (it refl)) allowed
+    stays-if Call.Read cells regs io p (λ it. it refl) allowed
 stays-of Call.ReadLn cells regs io p allowed =
-    stays-if Call.ReadLn cells regs io p (λ it. stays-read cells regs io p (it refl)) allowed
+    stays-if Call.ReadLn cells regs io p (λ it. it refl) allowed
 stays-of Call.Dup cells regs io p allowed = tt
 stays-of Call.Create cells regs io p allowed = tt
 stays-of Call.Open cells regs io p allowed = tt

@@ -1,4 +1,5 @@
 -- What waits stays where another process goes on: its call, and what is kept of it.
+use Rattle.io_model.specs.Read.{IsReadAllowed}
 use Rattle.std.proofs.Common.{◌≡◌, ◌≢◌, ℕ, ◌≤◌, not, true, Option, Some, None, is_some, List, length, refl, sym, ap, ◌∙◌, subst, inl, inr, arith}
 use Rattle.std.specs.Prelude.{IsSomeAnd, slice_index_or}
 use Rattle.std.proofs.lemmas.Bool.{cases_eq, false≢true}
@@ -24,7 +25,7 @@ use Rattle.call_laws.proofs.CallsKept.{Left}
 use Rattle.call_laws.specs.Objects.{KeepsSizes}
 use Rattle.call_laws.proofs.OthersKept.{living-record}
 use Rattle.call_laws.specs.PathOthers.{LeavesPaths}
-use Rattle.call_laws.specs.Pending.{AreInCalls, ArePending, IsPendingCall, StaysAllowed, StaysRead, WaitsInCall}
+use Rattle.call_laws.specs.Pending.{AreInCalls, ArePending, IsPendingCall, StaysAllowed, WaitsInCall}
 use Rattle.call_laws.specs.Terminals.{AreOnTerminals}
 use Rattle.call_laws.proofs.InCalls.{IsWaiting, waits-runs}
 use Rattle.call_laws.proofs.KeptEvents.{lives-runs, there-at, there-lives}
@@ -129,7 +130,7 @@ stays-so : (call : IoCall) (cells later : Cells) (regs now : Regs) (old new : Io
     → StaysAllowed call later now new q
 stays-so call cells later regs now old new q same fits paths stays reads =
     let it = stays reads in
-    subst (λ (regs : Regs). StaysRead later regs new q) (sym same) (record {
+    subst (λ (regs : Regs). IsReadAllowed later regs new q) (sym same) (record {
       named = fits regs.x regs.y it.named;
       mode = mode-so old new q regs.a (paths regs.a) it.mode;
     })

@@ -1,4 +1,5 @@
 -- What each call on paths does where it is refused: each call by its code.
+use Rattle.file_laws.specs.Causes.{IsNoDrive}
 use Rattle.std.proofs.Common.{◌≡◌, ◌⊎◌, ℕ, zero, suc, ◌+◌, ◌≤◌, ◌==◌, not, Bool, true, false, Option, Some, None, IsSome, Result, Ok, Err, List, [], ◌∷◌, ◌++◌, length, take, drop, refl, sym, ap, ◌∙◌, subst, inl, inr, arith}
 use Rattle.std.specs.Prelude.{IfSome, is_some, is_none, min, option_map, option_and_then, unwrap_or, ◌||◌, slice_set, if◌then◌else◌}
 use Rattle.std.specs.Option.{option_map_or}
@@ -53,7 +54,7 @@ use Rattle.io_model.specs.declared.io_call.IoCall.{IoCall}
 use Rattle.io_model.specs.declared.io_call.IoCall.TheVariants as Call
 use Rattle.io_model.specs.declared.modes.TheConstants.{STANDARD_ERROR}
 use Rattle.io_model.specs.declared.status.TheConstants.{SS_OPT, SS_READY, SS_EOF, OPTION_BYTES}
-use Rattle.call_laws.specs.Causes.{IsFull, IsNoDrive, IsOn, IsUnreadable, LacksMode, LooksFor, StatedCause, asked_by, bad_address, bad_mode, bad_path_name, bad_path_number, behind, device_at, dots, no_module, no_name, not_found, not_ready, numbers, path_table_full, paths, pipes, root, search_of, unknown_service}
+use Rattle.call_laws.specs.Causes.{IsFull, IsOn, IsUnreadable, LacksMode, LooksFor, StatedCause, asked_by, bad_address, bad_mode, bad_path_name, bad_path_number, behind, device_at, dots, no_module, no_name, not_found, not_ready, numbers, path_table_full, paths, pipes, root, search_of, unknown_service}
 use Rattle.call_laws.specs.Refusals.{FindsNoByte, FindsNoReader, IsRequest, kind_of, moved_before, on_pipe, path_of, put_by, sent_by}
 use Rattle.call_laws.proofs.Gaps.{bytes-gap, list-breaks-off, names-nothing, sent-gap}
 

@@ -1,5 +1,6 @@
 -- Why a call that is on no file is refused: what a path list that leads to a terminal or a pipe, and a number that names
 -- no file, leave of the causes that terminals and pipes have.
+use Rattle.file_laws.specs.Causes.{IsNoDrive}
 use Rattle.std.proofs.Common.{◌≡◌, ◌⊎◌, ℕ, Bool, true, false, Option, Some, None, Result, Ok, Err, List, length, refl, sym, ap, ◌∙◌, subst, inl, inr}
 use Rattle.std.specs.Prelude.{IsSome, is_some, option_and_then, option_map, if◌then◌else◌}
 use Rattle.std.proofs.lemmas.Bool.{false≢true}
@@ -28,7 +29,7 @@ use Rattle.file_rules.specs.declared.path_call.PathCall.TheVariants as Call
 use Rattle.lock_model.specs.declared.place.FilePlace.{FilePlace}
 use Rattle.file_laws.specs.Kinds.{AreKinds, IsOnTarget}
 use Rattle.file_laws.proofs.Named.{path-desc}
-use Rattle.call_laws.specs.Causes.{HasNoDevice, IsBadName, IsNoDrive, IsOn, IsOnDisk, IsUnreadable, ListBreaksOff, LooksFor, StatedCause, device_at, search_of}
+use Rattle.call_laws.specs.Causes.{HasNoDevice, IsBadName, IsOn, IsOnDisk, IsUnreadable, ListBreaksOff, LooksFor, StatedCause, device_at, search_of}
 use Rattle.call_laws.specs.Causes as Stated
 use Rattle.file_laws.specs.Devices.{IsOnNoFile, LeadsToDevice, device_call}
 use Rattle.file_laws.proofs.TouchNamed.{create-leads, open-leads}

@@ -1,4 +1,5 @@
 -- Where a byte or a name is missing that a call reads.
+use Rattle.os9_base.specs.UserLines.{line_at, line_with}
 use Rattle.std.proofs.Common.{◌≡◌, ◌≢◌, ◌⊎◌, ℕ, zero, suc, ◌+◌, ◌-◌, ◌<◌, ◌≤◌, ◌==◌, ◌&&◌, Bool, true, false, Option, Some, None, Result, Ok, Err, List, [], ◌∷◌, length, refl, sym, ap, ◌∙◌, subst, inl, inr, arith}
 use Rattle.std.specs.Prelude.{nat_le, nat_lt, option_map, if◌then◌else◌}
 use Rattle.std.specs.Option.{option_map_or}
@@ -16,7 +17,6 @@ use Rattle.io_model.specs.declared.pending.PendingCall.{PendingCall}
 use Rattle.io_model.specs.Io.{Io, pending_at}
 use Rattle.io_model.specs.PathList.{Behind, Names, another, a_slash, nothing, unreadable, behind_name, behind_slash, behind, device_list, from_device, is_marked, list_with, name_before, names_at, names_behind, names_from, names_with, path_list, relative_list}
 use Rattle.io_model.specs.Step.{Caller}
-use Rattle.io_model.specs.Transfer.{line_at, line_with}
 use Rattle.io_model.specs.Write.{line_bytes}
 use Rattle.call_laws.specs.Causes.{HasGap, IsOfList, ListBreaksOff, NamesNothing, asked_by}
 

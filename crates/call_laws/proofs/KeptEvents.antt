@@ -1,4 +1,5 @@
 -- What is kept of the call of a process after what it does.
+use Rattle.io_model.specs.Read.{IsReadAllowed}
 use Rattle.std.proofs.Common.{◌≡◌, ℕ, ◌<◌, not, Bool, true, false, Option, Some, None, List, length, refl, sym, ap, ◌∙◌, subst, inl, inr}
 use Rattle.std.specs.Prelude.{IsSomeAnd, slice_index_or, unwrap_or}
 use Rattle.std.proofs.lemmas.Bool.{cases_lt, false≢true}
@@ -31,7 +32,7 @@ use Rattle.io_model.specs.declared.io_call.IoCall.{IoCall}
 use Rattle.call_laws.specs.Objects.{KeepsSizes}
 use Rattle.call_laws.proofs.MemoryKept.{kept-written}
 use Rattle.call_laws.proofs.OthersKept.{living-record, living-within}
-use Rattle.call_laws.specs.Pending.{ArePending, IsPendingCall, StaysAllowed, StaysRead}
+use Rattle.call_laws.specs.Pending.{ArePending, IsPendingCall, StaysAllowed}
 use Rattle.call_laws.proofs.Codes.{attempts-code}
 use Rattle.call_laws.proofs.CallCodes.{code-is}
 use Rattle.call_laws.proofs.Keeping.{Again, MayWait, does-keep, step-keeps}
@@ -78,7 +79,7 @@ pub stays-on : (call : IoCall) (cells later : Cells) (regs now : Regs) (io new :
     → StaysAllowed call later now new p
 stays-on call cells later regs now io new p same fits paths stays reads =
     let it = stays reads in
-    subst (λ (regs : Regs). StaysRead later regs new p) (sym same) (record {
+    subst (λ (regs : Regs). IsReadAllowed later regs new p) (sym same) (record {
       named = fits regs.x regs.y it.named;
       mode = mode-on io new p regs.a (paths regs.a) it.mode;
     })

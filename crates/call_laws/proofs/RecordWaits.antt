@@ -1,4 +1,5 @@
 -- A call that waits for a record of a file is kept, like one that waits on a terminal or a pipe.
+use Rattle.io_model.specs.Read.{IsReadAllowed}
 use Rattle.std.proofs.Common.{◌≡◌, ℕ, ◌<◌, Option, Some, None, IsSome, is_some, true, List, [], length, refl, sym, ap, ◌∙◌, subst, inr, arith}
 use Rattle.std.specs.Prelude.{IsSomeAnd, MatchOption, unwrap_or}
 use Rattle.std.proofs.lemmas.Bool.{false≢true}
@@ -43,7 +44,7 @@ use Rattle.file_laws.proofs.Keeps.{file-opened, file-slot}
 use Rattle.file_laws.proofs.Lengths.{user-fits}
 use Rattle.call_laws.proofs.CallsKept.{AttemptLeft}
 use Rattle.call_laws.proofs.OthersKept.{living-within}
-use Rattle.call_laws.specs.Pending.{IsPendingCall, StaysAllowed, StaysRead, WaitsInCall}
+use Rattle.call_laws.specs.Pending.{IsPendingCall, StaysAllowed, WaitsInCall}
 use Rattle.call_laws.proofs.Codes.{attempts-code}
 use Rattle.call_laws.proofs.EndsKept.{by-end}
 use Rattle.call_laws.proofs.OthersLeft.{left-leaves}
@@ -83,7 +84,7 @@ number-same call device asker is =
     by_call Call.PErr = refl
 
 module _ (asker : Asker) (io : Io) (p : ℕ) (found : OpenFile) where
-  read-stays : CanRead asker found → open_path io p asker.caller.regs.a ≡ Some found.opened → StaysRead asker.caller.cells asker.caller.regs io p
+  read-stays : CanRead asker found → open_path io p asker.caller.regs.a ≡ Some found.opened → IsReadAllowed asker.caller.cells asker.caller.regs io p
   read-stays (there, may, some) is = record {
     named = by_bytes (user_bytes asker.caller.cells asker.caller.regs.x asker.caller.regs.y) refl there;
     mode = subst (λ (path : Option OpenPath). IsSomeAnd path (λ opened. can_read opened.desc.mode ≡ true)) (sym is) may;

@@ -1,5 +1,6 @@
 -- Why a call on paths is refused (System Programmer's Manual, "I/O service requests"), except the end of a file and a
 -- write error.
+use Rattle.file_laws.specs.Causes.{IsNoDrive}
 use Rattle.std.specs.Prelude.{◌≡◌, ◌≢◌, ◌⊎◌, ℕ, ◌+◌, ◌-◌, ◌<◌, ◌≤◌, ⊤, false, true, Option, Some, None, IsSome, option_and_then, Err, Ok, length}
 use Rattle.std.specs.Option.{option_map_or}
 use Rattle.os9_base.specs.Cells.{Cells}
@@ -51,12 +52,6 @@ pub record LooksFor (call : IoCall) (caller : Caller) (search : Search) (list : 
 -- the device at which a list starts, if it names an existing one
 abbrev pub device_at : ℕ → ℕ → PathList → Option Dev
 device_at drives terms list = option_and_then (device_of drives terms) list.device
-
--- a device that is not a drive
-abbrev pub IsNoDrive : Dev → Type 0
-IsNoDrive (Device.Drive drive) = ⊥
-IsNoDrive (Device.Term terminal) = ⊤
-IsNoDrive Device.Pipe = ⊤
 
 -- the byte belongs to a list and is not its last: a character of a name without bit 7, or a slash
 abbrev pub IsOfList : Option ℕ → Type 0

@@ -1,25 +1,20 @@
 -- Pending calls on a terminal or a pipe (Level Two manual, "I/O system").
-use Rattle.std.specs.Prelude.{◌≡◌, ℕ, true, Some, IsSome, IsSomeAnd}
-use Rattle.os9_base.specs.Cells.{Cells, FitsIn}
+use Rattle.io_model.specs.Read.{IsReadAllowed}
+use Rattle.std.specs.Prelude.{◌≡◌, ℕ, true, Some, IsSome}
+use Rattle.os9_base.specs.Cells.{Cells}
 use Rattle.os9_base.specs.declared.registers.Regs.{Regs}
 use Rattle.proc_model.specs.Records.{IsLiving, record_at, is_waiting}
 use Rattle.proc_model.specs.Processes.{Processes, own_at, regs_at, cells_at}
 use Rattle.io_model.specs.declared.pending.PendingCall.{PendingCall}
 use Rattle.io_model.specs.Again.{IsPending}
 use Rattle.io_model.specs.Codes.{io_call_of, direction_of_call}
-use Rattle.io_model.specs.Io.{Io, pending_at, open_path}
-use Rattle.io_model.specs.Modes.{can_read}
+use Rattle.io_model.specs.Io.{Io, pending_at}
 use Rattle.io_model.specs.declared.io_call.Direction.TheVariants.{Reading}
 use Rattle.io_model.specs.declared.io_call.IoCall.{IoCall}
 
--- a read is not refused: its buffer is named, and its path may be read
-pub record StaysRead (cells : Cells) (regs : Regs) (io : Io) (p : ℕ) : Type 0 where
-  pub named : FitsIn cells regs.x regs.y
-  pub mode : IsSomeAnd (open_path io p regs.a) (λ opened. can_read opened.desc.mode ≡ true)
-
 -- if a call is a read, it is not refused
 abbrev pub StaysAllowed : IoCall → Cells → Regs → Io → ℕ → Type 0
-StaysAllowed call cells regs io p = direction_of_call call ≡ Some Reading → StaysRead cells regs io p
+StaysAllowed call cells regs io p = direction_of_call call ≡ Some Reading → IsReadAllowed cells regs io p
 
 -- this is the pending call of a process, which it made with its current registers, and which is not refused if it is
 -- attempted again

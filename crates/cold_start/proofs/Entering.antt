@@ -13,13 +13,13 @@ use Rattle.proc_model.specs.declared.memory.MemoryFault.{MemoryFault}
 use Rattle.proc_model.specs.declared.memory.MemoryFault.TheVariants.{NoRam}
 use Rattle.proc_model.specs.declared.module.ModId.{ModId}
 use Rattle.proc_model.specs.Loading.{EntersModules, no_entries, with_module}
-use Rattle.proc_model.specs.Memory.{MemoryState, first_memory, free_blocks}
+use Rattle.proc_model.specs.Memory.{MemoryState, first_memory, free_blocks, with_modules}
 use Rattle.proc_model.specs.MemoryChanges.{entered, entered_beside}
 use Rattle.proc_model.specs.Objects.{file_blocks}
 use Rattle.proc_model.specs.ModuleList.{ModuleEntry, module_entry_at, free_number, new_entry, with_module_entry}
 use Rattle.proc_model.proofs.ModuleListLaws.{entry_at-with_entry_other}
 use Rattle.machine_model.specs.ProcessStart.{boot_group, boot_memory}
-use Rattle.cold_start.specs.Booting.{BeginsBoot, HasGroup, IsBooting, IsEmpty, with_modules, with_boot_module}
+use Rattle.cold_start.specs.Booting.{BeginsBoot, HasGroup, IsBooting, IsEmpty, with_boot_module}
 use Rattle.cold_start.proofs.Seen.{entered-here, free-seen, some-here}
 
 -- the modules of a boot file from one place up to another are entered, and what the rest comes to, they all come to

@@ -4,7 +4,7 @@ use Rattle.guest_memory.specs.declared.memory.Memory.{Memory}
 use Rattle.guest_memory.specs.Tie.{Represents}
 use Rattle.proc_model.specs.declared.module.ModuleInfo.{ModuleInfo}
 use Rattle.proc_model.specs.Loading.{EntersModules, entry_refusal, no_entries, with_module}
-use Rattle.proc_model.specs.Memory.{MemoryState, first_memory}
+use Rattle.proc_model.specs.Memory.{MemoryState, first_memory, with_modules}
 use Rattle.proc_model.specs.ModuleList.{ModuleEntry, module_entry_at}
 use Rattle.machine_model.specs.ProcessStart.{EntersBoot, boot_group, boot_memory}
 
@@ -22,10 +22,7 @@ pub record HasGroup (file : List ℕ) (number : ℕ) (m : MemoryState) : Type 0 
 abbrev pub IsBooting : List ℕ → ℕ → Memory → Type 0
 IsBooting file number memory = (m : MemoryState) × Represents memory m × HasGroup file number m
 
--- the memory with other entries of modules, and with one more module of the boot file
-abbrev pub with_modules : MemoryState → List (Option ModuleEntry) → MemoryState
-with_modules m entries = record m { modules = entries }
-
+-- the memory with one more module of the boot file
 abbrev pub with_boot_module : List ℕ → MemoryState → ModuleInfo → MemoryState
 with_boot_module file m info = with_modules m (with_module m.modules info (boot_group file) true)
 

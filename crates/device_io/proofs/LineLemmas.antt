@@ -1,4 +1,5 @@
 -- The bytes and the lines that a process sends.
+use Rattle.os9_base.specs.UserLines.{line_at, line_with}
 use Rattle.std.proofs.Common.{◌≡◌, ◌∙◌, ℕ, zero, suc, ◌+◌, ◌<◌, ◌≤◌, ◌==◌, Bool, true, false, Option, Some, None, List, [], ◌∷◌, length, get_or, inl, inr, refl, sym, subst, ap, arith}
 use Rattle.std.specs.Prelude.{IfSome, option_map, codes, if◌then◌else◌, ◌/◌, ◌%◌, ◌||◌, ◌++◌}
 use Rattle.std.specs.List.{list_any}
@@ -8,7 +9,6 @@ use Rattle.std.proofs.lemmas.List.Quantifiers.{position-Some}
 use Rattle.std.proofs.lemmas.Option.{none-some, same_Some}
 use Rattle.os9_base.specs.Cells.{Cells}
 use Rattle.os9_base.specs.declared.registers.Regs.{Regs}
-use Rattle.os9_base.specs.UserLines as User
 use Rattle.os9_base.specs.UserNames.{user_cell}
 use Rattle.proc_model.specs.UserBytes.{byte_before, user_bytes}
 use Rattle.io_model.specs.Line.{line_length, return_place}
@@ -17,7 +17,6 @@ use Rattle.io_model.specs.declared.pending.PendingCall.{PendingCall}
 use Rattle.io_model.specs.Again.{IsPending}
 use Rattle.io_model.specs.Io.{Io}
 use Rattle.io_model.specs.Step.{Caller}
-use Rattle.io_model.specs.Transfer.{line_at, line_with}
 use Rattle.io_model.specs.Write.{digit, error_line, line_bytes}
 use Rattle.io_model.specs.declared.io_call.IoCall.TheVariants as Call
 
@@ -32,24 +31,6 @@ user-length cells at (suc count) bytes is = by_byte (user_cell cells at) (user_b
         let few : length rest ≡ count = there rest refl in
         let all : length (byte ∷ rest) ≡ length bytes = ap (length {A = ℕ}) (same_Some (byte ∷ rest) bytes is) in
         omega (arith, all, few)
-
--- the line that the kernel reads is the one that the rules of the calls have
-pub line-same : (cells : Cells) (at most : ℕ) → User.line_at cells at most ≡ line_at cells at most
-line-same cells at zero = refl
-line-same cells at (suc most) = by_byte (user_cell cells at) (line-same cells (at + 1) most)
-  where
-    by_return : (byte : ℕ) (return : Bool) → (byte == 13) ≡ return → User.line_at cells (at + 1) most ≡ line_at cells
-        (at + 1) most → (if return then Some (13 ∷ []) else option_map (λ (line : List ℕ). byte ∷ line)
-        (User.line_at cells (at + 1) most)) ≡ (if return then Some (byte ∷ []) else option_map
-        (λ (line : List ℕ). byte ∷ line) (line_at cells (at + 1) most))
-    by_return byte true is later = ap (λ (b : ℕ). Some (b ∷ [])) (sym (eqb-true byte 13 is))
-    by_return byte false is later = ap (λ (rest : Option (List ℕ)). option_map (λ (line : List ℕ). byte ∷ line) rest) later
-
-    by_byte : (byte : Option ℕ) → User.line_at cells (at + 1) most ≡ line_at cells (at + 1) most
-        → User.line_with (λ next. User.line_at cells next most) at byte ≡ line_with (λ next. line_at cells next most)
-        at byte
-    by_byte None later = refl
-    by_byte (Some byte) later = by_return byte (byte == 13) refl later
 
 -- ---- lines
 

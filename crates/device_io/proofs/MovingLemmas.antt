@@ -1,4 +1,5 @@
 -- What is known of a read or a write once its path is found.
+use Rattle.io_model.specs.Read.{read_call, read_code}
 use Rattle.std.proofs.Common.{◌≡◌, ◌≢◌, ℕ, Bool, true, false, Option, Some, None, is_some, is_none, option_map, option_and_then, unwrap_or, inl, sym, ap, refl, ◌∙◌, subst, arith}
 use Rattle.std.specs.Prelude.{IfSome}
 use Rattle.std.proofs.lemmas.Bool.{false≢true}
@@ -28,7 +29,7 @@ use Rattle.proc_state.specs.declared.state.ProcState.{ProcState}
 use Rattle.proc_model.specs.Records.{record_at}
 use Rattle.io_state.specs.Context.{InCall}
 use Rattle.io_state.specs.declared.requester.Requester.{Requester}
-use Rattle.device_io.specs.Moving.{MayAttempt, StaysAllowed, StaysIfPending, read_call, read_code}
+use Rattle.device_io.specs.Moving.{MayAttempt, StaysAllowed, StaysIfPending}
 
 -- the registers of the processes are those of the machine
 pub regs-tied : (s : ProcState) (m : Processes) (p : ℕ) → Represents s m → (record_at s.table p).regs ≡ regs_at m p

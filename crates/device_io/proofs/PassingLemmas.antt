@@ -11,13 +11,13 @@ use Rattle.io_model.specs.declared.terminal.ReadKind.{ReadKind}
 use Rattle.io_model.specs.Again.{path_number}
 use Rattle.io_model.specs.Io.{Io, OpenPath, open_path, pending_at}
 use Rattle.io_model.specs.Modes.{can_read, can_write}
-use Rattle.io_model.specs.Read.{reads_target}
+use Rattle.io_model.specs.Read.{reads_target, read_code}
 use Rattle.io_model.specs.Step.{Caller, IoStep, done, needs, refused, refuses}
 use Rattle.io_model.specs.Transfer.{call_now, first_call}
 use Rattle.io_model.specs.Write.{writes_target}
 use Rattle.device_io.proofs.MovingLemmas.{none-of, some-of}
 use Rattle.device_io.proofs.SendingLemmas.{done-regs}
-use Rattle.device_io.specs.Moving.{read_code, read_named, read_on, read_open, read_step}
+use Rattle.device_io.specs.Moving.{read_named, read_on, read_open, read_step}
 use Rattle.device_io.specs.Sending.{regs_done, sent, write_call, write_code, write_named, write_on, write_open}
 use Rattle.device_io.specs.declared.sending.WriteKind.{WriteKind}
 

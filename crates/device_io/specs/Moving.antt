@@ -1,7 +1,6 @@
 -- Reads and writes as a process may attempt them, and what they do on a path that they found.
-use Rattle.std.specs.Prelude.{◌≡◌, ℕ, ◌<◌, true, ⊤, IfSome, IsSomeAnd, Some, is_none}
-use Rattle.os9_base.specs.Cells.{Cells, FitsIn}
-use Rattle.os9_base.specs.declared.calls.TheConstants.{I_READ, I_READLN}
+use Rattle.std.specs.Prelude.{◌≡◌, ℕ, ◌<◌, ⊤, IfSome, Some, is_none}
+use Rattle.os9_base.specs.Cells.{Cells}
 use Rattle.os9_base.specs.declared.errors.TheConstants.{E_BPADDR}
 use Rattle.os9_base.specs.declared.registers.Regs.{Regs}
 use Rattle.proc_model.specs.Records.{record_at}
@@ -12,11 +11,10 @@ use Rattle.io_model.specs.declared.pending.PendingCall.{PendingCall}
 use Rattle.io_model.specs.declared.path.Target.{Target}
 use Rattle.io_model.specs.declared.path.Target.TheVariants.{Term}
 use Rattle.io_model.specs.declared.terminal.ReadKind.{ReadKind}
-use Rattle.io_model.specs.declared.terminal.ReadKind.TheVariants.{Bytes, WholeLine}
 use Rattle.io_model.specs.Again.{IsAgain}
-use Rattle.io_model.specs.Io.{Io, OpenPath, open_path, pending_at}
+use Rattle.io_model.specs.Io.{Io, OpenPath, pending_at}
 use Rattle.io_model.specs.Modes.{can_read}
-use Rattle.io_model.specs.Read.{reads_target}
+use Rattle.io_model.specs.Read.{reads_target, read_code, IsReadAllowed}
 use Rattle.io_model.specs.Step.{Caller, IoStep, reads, refuses}
 use Rattle.io_model.specs.Transfer.{on_path, unless_nothing, call_now}
 use Rattle.io_model.specs.declared.io_call.IoCall.{IoCall}
@@ -30,23 +28,9 @@ AreTerminals paths count = (s n : ℕ) → target_at paths s ≡ Some (Term n) �
 
 -- ---- reads
 
--- the call for this kind of read, and its code
-abbrev pub read_call : ReadKind → IoCall
-read_call Bytes = Call.Read
-read_call WholeLine = Call.ReadLn
-
-abbrev pub read_code : ReadKind → ℕ
-read_code Bytes = I_READ
-read_code WholeLine = I_READLN
-
--- a pending read is not refused: its buffer is still there, and so is its path, which may be read
-pub record StaysRead (cells : Cells) (regs : Regs) (io : Io) (p : ℕ) : Type 0 where
-  pub named : FitsIn cells regs.x regs.y
-  pub may : IsSomeAnd (open_path io p regs.a) (λ opened. can_read opened.desc.mode ≡ true)
-
 -- if a read of the process is pending, it is not refused
 abbrev pub StaysIfPending : Cells → Regs → Io → ℕ → Type 0
-StaysIfPending cells regs io p = IfSome (pending_at io p) (λ pending. StaysRead cells regs io p)
+StaysIfPending cells regs io p = IfSome (pending_at io p) (λ pending. IsReadAllowed cells regs io p)
 
 -- an attempt on a terminal
 abbrev pub read_terminal : ReadKind → ℕ → PendingCall → Caller → Io → IoStep

@@ -1,10 +1,11 @@
 //! I$Read and I$ReadLn (System Programmer's Manual, I$Read and I$ReadLn).
 
+ghost use Rattle.io_model.specs.Read as read_rules;
+ghost use Rattle.io_model.specs.Read.{read_call};
 ghost use Rattle.std.specs.Prelude.{◌≡◌, ℕ, vec_len};
 ghost use Rattle.io_model.specs.declared.io_call.IoCall.TheVariants as Call;
 ghost use Rattle.io_state.specs.Context.{InCall, SameDrives};
-ghost use Rattle.device_io.specs.Moving as model;
-ghost use Rattle.device_io.specs.Moving.{MayAttempt, read_call, read_step};
+ghost use Rattle.device_io.specs.Moving.{MayAttempt, read_step};
 ghost use Rattle.device_io.specs.Streams.{streams};
 ghost use Rattle.device_io.specs.Trying.{AttemptsFrom, TriesFrom, WantsMemoryFrom};
 
@@ -122,7 +123,7 @@ fn read(
 
 /// The code of the call for this kind of read.
 fn read_code(kind: ReadKind) -> u8
-    ensures { result ≡ model.read_code kind }
+    ensures { result ≡ read_rules.read_code kind }
 {
     match kind {
         ReadKind::Bytes => I_READ,

@@ -1,4 +1,5 @@
 -- Attempts that reach no device: which calls make none, and what such an attempt is.
+use Rattle.io_model.specs.Rows.{effect_of}
 use Rattle.std.proofs.Common.{◌≡◌, ℕ, Bool, true, false, Option, Some, None, List, refl, sym, subst, is_none, min, ◌==◌, if◌then◌else◌}
 use Rattle.os9_base.specs.declared.call.CallEnd.{CallEnd}
 use Rattle.os9_base.specs.declared.registers.Regs.{Regs}
@@ -19,7 +20,7 @@ use Rattle.io_model.specs.declared.status.TheConstants.{SS_OPT, SS_READY, SS_EOF
 use Rattle.io_model.specs.Step.{Caller, IoStep, refused, comes, reads, writes, needs, refuses, done, stores, answers}
 use Rattle.io_model.specs.declared.io_call.IoCall.{IoCall}
 use Rattle.io_state.specs.Attempt.{Attempts}
-use Rattle.device_paths.specs.Quiet.{effect_of, Ends}
+use Rattle.device_paths.specs.Quiet.{Ends}
 use Rattle.proc_state.specs.Tie.{Represents}
 use Rattle.proc_state.specs.declared.state.ProcState.{ProcState}
 use Rattle.std.specs.Prelude.{⊤}

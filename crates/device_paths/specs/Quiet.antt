@@ -1,19 +1,13 @@
 -- Attempts that reach no device.
+use Rattle.io_model.specs.Rows.{effect_of}
 use Rattle.std.specs.Prelude.{◌≡◌, ℕ}
 use Rattle.os9_base.specs.declared.call.CallEnd.{CallEnd}
 use Rattle.proc_model.specs.Processes.{Processes}
 use Rattle.io_model.specs.Attempts.{io_after, result_of}
 use Rattle.io_model.specs.Io.{Io}
-use Rattle.io_model.specs.Step.{IoEffect, IoStep, refused, comes, reads, writes, leaves, fails}
+use Rattle.io_model.specs.Step.{IoStep}
 use Rattle.proc_state.specs.Tie.{Comes}
 use Rattle.proc_state.specs.declared.state.ProcState.{ProcState}
-
--- what such an attempt leaves
-abbrev pub effect_of : IoStep → Io → IoEffect
-effect_of (refused number) io = leaves (fails number) io
-effect_of (comes effect) io = effect
-effect_of (reads read) io = leaves (fails 0) io
-effect_of (writes write) io = leaves (fails 0) io
 
 -- an attempt of a process that reaches no device ends in this way, and leaves these processes and this state
 abbrev pub Ends : IoStep → Processes → Io → ℕ → CallEnd → ProcState → Io → Type 0

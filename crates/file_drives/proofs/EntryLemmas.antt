@@ -4,7 +4,7 @@ use Rattle.std.specs.Prelude.{if◌then◌else◌}
 use Rattle.os9_base.specs.declared.registers.TimePacket.{TimePacket}
 use Rattle.rbf_model.specs.File.{DiskFile, file_at}
 use Rattle.rbf_model.specs.Space.{has_cluster}
-use Rattle.rbf_model.specs.Volume.{DiskVolume}
+use Rattle.rbf_model.specs.Volume.{DiskVolume, in_file}
 use Rattle.rbf_model.specs.Walk.{look_up}
 use Rattle.rbf_model.specs.Writes.{put_file}
 use Rattle.rbf_change.specs.Calls.{cluster_size, free_total, replaced, shape}
@@ -22,7 +22,6 @@ use Rattle.rbf_access.specs.declared.faults.FileFault.TheVariants.{Device, NoClu
 use Rattle.rbf_access.specs.declared.volume.Volume.{Volume}
 use Rattle.rbf_entries.specs.Entering.{AnswersEntering, Entering, EnteringStops, unchanged, took, entering_calls, refusal_of, widened}
 use Rattle.rbf_entries.specs.Creating.{request}
-use Rattle.rbf_entries.specs.Deleted.{clusters_of}
 use Rattle.rbf_entries.proofs.Entries.{listing_size}
 use Rattle.rbf_entries.specs.Asked.{folder_request}
 use Rattle.rbf_entries.specs.FolderMade.{folder_calls}
@@ -203,7 +202,7 @@ module _ (new : Volume) (before after : DriveView) (found : NewPlace) (name : Li
   same_calls v left n file image is_image on there =
       let shown : file ≡ file_at (sector_at after.media) n = on.vol.sound.shows.shown n file there ∙ ap (λ m. file_at (sector_at m) n) (sym on.is) in
       ap (λ (f : DiskFile). min (file_clusters (cluster_size v) 64) (marking_sectors (shape v) (has_cluster (shape v) n f)) + 2) (sym shown)
-      ∙ ap (λ o. min (file_clusters (cluster_size v) 64) (marking_sectors (shape v) (clusters_of (shape v) n o)) + 2) (sym there)
+      ∙ ap (λ o. min (file_clusters (cluster_size v) 64) (marking_sectors (shape v) (in_file (shape v) n o)) + 2) (sym there)
 
   make_leaves : (result : Result ℕ FileFault) (v : DiskVolume) (dir : DiskFile) → Represents before.media v
       → AnswersEntering v dir folder_asked before.media after.media (widened result) → MovesCounts (file_fault result)

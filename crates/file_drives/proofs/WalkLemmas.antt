@@ -1,11 +1,12 @@
 -- A walk by one name.
+use Rattle.rbf_access.specs.Mounted.{OnVolume}
 use Rattle.std.proofs.Common.{◌≡◌, ℕ, ◌+◌, ◌∙◌, Bool, Option, Some, List, [], ◌∷◌, Result, refl, ap, subst, add-zero}
 use Rattle.rbf_model.specs.File.{DiskFile}
 use Rattle.rbf_model.specs.Volume.{DiskVolume}
 use Rattle.rbf_model.specs.Walk.{WalkEnd, arrives, not_allowed, not_found, go_on, step, walk}
 use Rattle.rbf_access.specs.Drive.{DriveCounts, MovesCounts}
 use Rattle.rbf_access.specs.Reading.{OnVolumeFile}
-use Rattle.rbf_walk.specs.Walk.{AnswersWalk, OnVolume, calls_on, step_calls, walk_calls}
+use Rattle.rbf_walk.specs.Walk.{AnswersWalk, calls_on, step_calls, walk_calls}
 use Rattle.rbf_walk.specs.declared.error.DirError.{DirError}
 
 no-further : (end : WalkEnd) → go_on end (λ n. arrives n) ≡ end

@@ -2,14 +2,13 @@
 use Rattle.std.specs.Prelude.{ℕ, ◌+◌, min, Option, Some, None, Result, Ok, Err}
 use Rattle.rbf_model.specs.File.{DiskFile}
 use Rattle.rbf_model.specs.Geometry.{map_sectors}
-use Rattle.rbf_model.specs.Volume.{DiskVolume}
+use Rattle.rbf_model.specs.Volume.{DiskVolume, in_file}
 use Rattle.rbf_change.specs.Calls.{shape, cluster_size}
 use Rattle.rbf_change.specs.NewFiles.{file_clusters}
 use Rattle.rbf_access.specs.MapMarks.{marking_sectors}
 use Rattle.rbf_access.specs.declared.faults.FileFault.{FileFault}
 use Rattle.rbf_access.specs.declared.faults.FileFault.TheVariants.{Device, NoCluster, TooManyRuns}
 use Rattle.rbf_entries.specs.Entering.{entering_calls}
-use Rattle.rbf_entries.specs.Deleted.{clusters_of}
 use Rattle.rbf_alloc.specs.Grown.{is_gained}
 use Rattle.rbf_walk.specs.declared.error.DirError.{DirError}
 use Rattle.rbf_write.specs.Outcomes.{write_calls}
@@ -46,7 +45,7 @@ sizing_calls sizing result v file left =
 abbrev pub directory_calls : Result ℕ DirError → DiskVolume → DiskVolume → ℕ
 directory_calls (Ok n) v left =
     min (file_clusters (cluster_size v) new_directory_size)
-    (marking_sectors (shape v) (clusters_of (shape v) n (left.files n))) + 2
+    (marking_sectors (shape v) (in_file (shape v) n (left.files n))) + 2
 directory_calls (Err error) v left = file_clusters (cluster_size v) new_directory_size + 2
 
 -- the directory and its entry
@@ -56,4 +55,4 @@ making_calls answer v dir left = entering_calls v dir (directory_calls answer v 
 -- a deletion of file n: a read and a write of its entry's sector, and one for each sector of the map that has a mark of
 -- the file's clusters
 abbrev pub deleting_calls : ℕ → DiskVolume → DiskFile → DiskVolume → ℕ
-deleting_calls n v dir left = 2 + marking_sectors (shape v) (clusters_of (shape v) n (v.files n))
+deleting_calls n v dir left = 2 + marking_sectors (shape v) (in_file (shape v) n (v.files n))

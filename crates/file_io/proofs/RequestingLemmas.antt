@@ -1,4 +1,5 @@
 -- A read of a path that may be written too: it requests its bytes.
+use Rattle.io_model.specs.Read.{read_code}
 use Rattle.std.proofs.Common.{◌≡◌, ◌∙◌, ℕ, ◌+◌, nat_le, Bool, true, false, Some, None, List, length, refl, sym, ap, subst, arith}
 use Rattle.std.specs.Prelude.{unwrap_or}
 use Rattle.os9_base.specs.declared.registers.Pid.{Pid}
@@ -26,7 +27,7 @@ use Rattle.file_rules.specs.Attempts.{asker_of}
 use Rattle.file_rules.specs.Files.{Asker, Files, volume_at}
 use Rattle.file_rules.specs.Files as rules
 use Rattle.file_rules.specs.Locking.{answer_to, asks_by, end_by, first_request, is_for_update, range_of, pending_request, request_now}
-use Rattle.file_rules.specs.Read.{bytes_at, read_claim, read_code}
+use Rattle.file_rules.specs.Read.{bytes_at, read_claim}
 use Rattle.file_rules.specs.Step.{FileEffect, FileStep, MayBeLeft, comes, deed_of, leaves_so, reaches, refuses}
 use Rattle.file_state.proofs.RequestLemmas.{asks-ends, lacks-none, reached-fails, reached-refused, reached-then, same-request, start-same}
 use Rattle.file_state.specs.Asking.{asked, claimed}

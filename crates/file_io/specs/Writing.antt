@@ -1,9 +1,9 @@
 -- Writes of bytes to a file.
+use Rattle.os9_base.specs.UserLines.{line_at}
 use Rattle.std.specs.Prelude.{ℕ, ◌+◌, Option, Some, None, List, length}
 use Rattle.os9_base.specs.Cells.{Cells}
 use Rattle.os9_base.specs.declared.registers.Regs.{Regs}
 use Rattle.proc_model.specs.UserBytes.{user_bytes}
-use Rattle.io_model.specs.Transfer.{line_at}
 use Rattle.lock_model.specs.Records.{written_by}
 use Rattle.lock_model.specs.declared.lock.Held.{Held}
 use Rattle.lock_model.specs.declared.lock.Request.{Request}

@@ -1,5 +1,6 @@
 //! I$Read and I$ReadLn (System Programmer's Manual, I$Read and I$ReadLn).
 
+ghost use Rattle.io_model.specs.Read.{read_code};
 ghost use Rattle.io_state.specs.Context.{InCall, SameTerminals};
 ghost use Rattle.file_state.specs.Context.{InFileCall, machine_seen};
 ghost use Rattle.std.specs.Prelude.{◌≡◌, ◌+◌, ◌<◌, ◌≤◌, ◌^◌, List, length, take};
@@ -10,7 +11,7 @@ ghost use Rattle.file_io.specs.Opened.{IsOnFile, IsOpened, IsPathOf};
 ghost use Rattle.file_io.specs.Reading as model;
 ghost use Rattle.file_io.specs.Reading.{HasRoom, IsBuffer, MayRead, MayUpdate, part_of};
 ghost use Rattle.file_io.specs.Trying.{TriesAlways, TriesGranted};
-ghost use Rattle.file_rules.specs.Read.{line_range, lock_by, read_code};
+ghost use Rattle.file_rules.specs.Read.{line_range, lock_by};
 ghost use Rattle.file_rules.specs.declared.path_call.PathCall.TheVariants as Call;
 ghost use Rattle.file_state.specs.Asking.{IsGranted, TriesAgain};
 ghost use Rattle.file_state.specs.Lacks.{TriesWithin};

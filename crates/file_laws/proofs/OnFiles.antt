@@ -1,5 +1,6 @@
 -- Calls on a number of a path: I$Read, I$Write, I$Seek, I$GetStt, I$SetStt and their like move positions and change one
 -- file, which keeps its kind.
+use Rattle.os9_base.specs.UserLines.{line_at}
 use Rattle.std.proofs.Common.{◌≡◌, ℕ, ◌+◌, ◌%◌, ◌==◌, Bool, true, false, not, Option, Some, None, List, [], length, refl, ap, ◌∙◌, subst}
 use Rattle.std.specs.Prelude.{is_none, nat_le, nat_lt, take, if◌then◌else◌}
 use Rattle.std.proofs.lemmas.Option.{same_Some}
@@ -24,7 +25,6 @@ use Rattle.io_model.specs.Pipes.{count_regs}
 use Rattle.io_model.specs.Read.{i_read as reads_device, i_readln as reads_device_line}
 use Rattle.io_model.specs.Status.{i_getstt as gets_of_device, i_setstt as sets_of_device, options}
 use Rattle.io_model.specs.Step.{IoStep, answers}
-use Rattle.io_model.specs.Transfer.{line_at}
 use Rattle.io_model.specs.Write.{i_write as writes_device, i_writln as writes_device_line, f_perr as tells_device, error_line}
 use Rattle.io_model.specs.declared.modes.TheConstants.{STANDARD_ERROR}
 use Rattle.io_model.specs.declared.status.TheConstants.{SS_OPT, SS_READY, SS_EOF, OPTION_BYTES}

@@ -1,4 +1,5 @@
 -- What a call claims at its first attempt, by its code and its count.
+use Rattle.os9_base.specs.UserLines.{line_at}
 use Rattle.std.proofs.Common.{◌≡◌, ℕ, ◌<◌, ne_eqb, Some, None, List, length, refl, sym, ap, ◌∙◌, subst, arith}
 use Rattle.std.specs.Prelude.{⊤}
 use Rattle.os9_base.specs.declared.calls.TheConstants.{F_PERR, I_WRITE, I_WRITLN}
@@ -9,7 +10,6 @@ use Rattle.lock_model.specs.Laws.{Covers}
 use Rattle.lock_model.specs.declared.lock.Range.{Range}
 use Rattle.io_model.specs.Again.{KeepsCount}
 use Rattle.io_model.specs.Codes.{io_call_of}
-use Rattle.io_model.specs.Transfer.{line_at}
 use Rattle.io_model.specs.Write.{error_line}
 use Rattle.io_model.specs.declared.io_call.IoCall.{IoCall}
 use Rattle.io_model.specs.declared.io_call.IoCall.TheVariants as Device

@@ -4,7 +4,6 @@
 -- holds the bytes that were asked for; if a whole line was read, it holds that line. Errors: E$BPAddr, E$BPNum,
 -- E$BMode, E$EOF, E$Lock, E$DeadLk.
 use Rattle.std.specs.Prelude.{ℕ, ◌+◌, is_none, nat_le, Some, List, length, if◌then◌else◌}
-use Rattle.os9_base.specs.declared.calls.TheConstants.{I_READ, I_READLN}
 use Rattle.os9_base.specs.declared.errors.TheConstants.{E_BPADDR, E_EOF}
 use Rattle.proc_model.specs.UserBytes.{user_bytes}
 use Rattle.io_model.specs.Line.{first_line, has_return}
@@ -17,7 +16,7 @@ use Rattle.lock_model.specs.Records.{holding}
 use Rattle.rbf_change.specs.Contents.{bytes_from}
 use Rattle.io_model.specs.Modes.{can_read}
 use Rattle.io_model.specs.Pipes.{count_regs}
-use Rattle.io_model.specs.Read.{i_read as reads_device, i_readln as reads_device_line}
+use Rattle.io_model.specs.Read.{i_read as reads_device, i_readln as reads_device_line, read_code}
 use Rattle.io_model.specs.Step.{IoStep}
 use Rattle.file_rules.specs.Files.{Files, Asker, OpenFile, with_position, with_records}
 use Rattle.file_rules.specs.Locking.{is_for_update, position_of, range_from, request_now, asks}
@@ -29,10 +28,6 @@ use Rattle.file_rules.specs.Step.{FileEffect, FileStep, comes, reaches, leaves_s
 abbrev pub part_of : ReadKind → List ℕ → List ℕ
 part_of Bytes bytes = bytes
 part_of WholeLine bytes = first_line bytes
-
-abbrev pub read_code : ReadKind → ℕ
-read_code Bytes = I_READ
-read_code WholeLine = I_READLN
 
 -- the bytes that a call takes of a file from a position on, at most as many as it asks for
 abbrev pub bytes_at : ReadKind → Asker → OpenFile → ℕ → List ℕ

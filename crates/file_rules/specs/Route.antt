@@ -3,7 +3,7 @@
 -- device it starts at the execution directory of the process if the mode is for execution, else at its data directory.
 -- Errors, in this order: E$BPAddr, E$BMode (of the call's mode), E$BPNam, E$MNF; then on the drive E$FNA and E$PNNF at
 -- the first name that fails.
-use Rattle.std.specs.Prelude.{ℕ, ◌-◌, ◌==◌, ◌&&◌, ◌||◌, Bool, true, false, Option, Some, None, Result, Ok, Err, List, length, take, slice_get, if◌then◌else◌}
+use Rattle.std.specs.Prelude.{◌≡◌, ℕ, ◌-◌, ◌==◌, ◌&&◌, ◌||◌, Bool, true, false, Option, Some, None, Result, Ok, Err, List, length, take, slice_get, if◌then◌else◌}
 use Rattle.std.specs.Option.{option_map_or}
 use Rattle.os9_base.specs.declared.errors.TheConstants.{E_BPADDR, E_BPNAM, E_MNF, E_FNA, E_PNNF}
 use Rattle.device_table.specs.Names.{device_of}
@@ -105,6 +105,12 @@ pub record Found : Type 0 where
   pub place : FilePlace
   pub volume : DiskVolume
   pub file : DiskFile
+
+-- it is the file at this place
+pub record IsFoundAt (files : Files) (place : FilePlace) (found : Found) : Type 0 where
+  pub place_is : found.place ≡ place
+  pub volume_is : volume_at files place.drive ≡ Some found.volume
+  pub file_is : found.volume.files place.number ≡ Some found.file
 
 -- it goes on with the file of a number; a walk ends at files only
 abbrev pub finds : {E : Type 0} → ℕ → DiskVolume → ℕ → (Found → Step E) → Step E

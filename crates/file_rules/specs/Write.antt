@@ -5,6 +5,7 @@
 -- position moves past the bytes written. If a write begins past the old end, zeros fill the gap. The path then holds no
 -- lock.
 -- Errors: E$BPAddr, E$BPNum, E$BMode, E$Lock, E$DeadLk, E$Full, E$SLF.
+use Rattle.os9_base.specs.UserLines.{line_at}
 use Rattle.std.specs.Prelude.{ℕ, ◌+◌, nat_lt, not, Option, Some, None, List, length}
 use Rattle.os9_base.specs.declared.calls.TheConstants.{I_WRITE, I_WRITLN, F_PERR}
 use Rattle.os9_base.specs.declared.errors.TheConstants.{E_BPADDR, E_BMODE, E_FULL}
@@ -16,7 +17,6 @@ use Rattle.rbf_change.specs.Growth.{clusters_needed}
 use Rattle.io_model.specs.Modes.{can_write}
 use Rattle.io_model.specs.Pipes.{count_regs}
 use Rattle.io_model.specs.Step.{answers}
-use Rattle.io_model.specs.Transfer.{line_at}
 use Rattle.io_model.specs.Write.{i_write as writes_device, i_writln as writes_device_line, f_perr as tells_device, error_line}
 use Rattle.io_model.specs.declared.modes.TheConstants.{STANDARD_ERROR}
 use Rattle.file_rules.specs.Change.{Change, writes}

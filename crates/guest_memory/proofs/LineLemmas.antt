@@ -8,7 +8,7 @@ use Rattle.std.proofs.lemmas.List.{append-nil, length-append, length-take-le, ta
 use Rattle.std.proofs.lemmas.List.Quantifiers.{position-Some}
 use Rattle.std.proofs.lemmas.List.Sums.{fails_before_first}
 use Rattle.std.proofs.lemmas.Option.{none-some, slice_get-get_or}
-use Rattle.std.proofs.lemmas.Bool.{cases_lt, cond-true, ne_eqb, eqb-true, eqb-false, lt-ltb, false≢true}
+use Rattle.std.proofs.lemmas.Bool.{cases_lt, cond-true, ne_eqb, eqb-false, lt-ltb, false≢true}
 use Rattle.os9_base.specs.Cells.{Cells, Holds}
 use Rattle.os9_base.specs.UserNames.{user_cell}
 use Rattle.os9_base.specs.UserLines.{line_at}
@@ -18,7 +18,7 @@ line_at-unnamed : (cells : Cells) (at most : ℕ) → user_cell cells at ≡ Non
 line_at-unnamed cells at most is = rw is refl
 
 line_at-named : (cells : Cells) (at most byte : ℕ) → user_cell cells at ≡ Some byte → line_at cells at (suc most) ≡
-    (if byte == 13 then Some (13 ∷ []) else option_map (λ line. byte ∷ line) (line_at cells (at + 1) most))
+    (if byte == 13 then Some (byte ∷ []) else option_map (λ line. byte ∷ line) (line_at cells (at + 1) most))
 line_at-named cells at most byte is = rw is refl
 
 -- bytes before others, and others before these
@@ -126,15 +126,14 @@ module _ (cells : Cells) (at most count : ℕ) (into : List ℕ) (left : count <
         (omega (arith, first.0)) (omega (arith, first.0, piece.few)) (λ k within. eqb-false (get_or bytes k 0) 13
         (first.2 k within)) in
         let still : (most - count) - place ≡ suc (most - (count + (place + 1))) = omega (arith, first.0, piece.few) in
-        let here : line_at cells ((at + count) + place) (suc (most - (count + (place + 1)))) ≡ Some (13 ∷ []) =
+        let here : line_at cells ((at + count) + place) (suc (most - (count + (place + 1)))) ≡ Some (get_or bytes place 0 ∷ []) =
         line_at-named cells ((at + count) + place) (most - (count + (place + 1))) (get_or bytes place 0)
         (user_cell-in cells (at + count) bytes place piece.fits first.0 piece.holds) ∙ rw first.1 refl in
-        let return : get_or bytes place 0 ≡ 13 = eqb-true (get_or bytes place 0) 13 first.1 in
         so_far
         ∙ ap (option_map (λ rest. take count into ++ rest))
         (through ∙ ap (λ n. option_map (λ rest. take place bytes ++ rest) (line_at cells ((at + count) + place)
         n)) still ∙ ap (option_map (λ rest. take place bytes ++ rest)) here)
-        ∙ ap Some (ap (λ b. take count into ++ (take place bytes ++ b ∷ [])) (sym return) ∙ ap (λ front. take count into ++ front) (sym (take_more bytes place 0 first.0)) ∙ sym is)
+        ∙ ap Some (ap (λ front. take count into ++ front) (sym (take_more bytes place 0 first.0)) ∙ sym is)
 
     -- other bytes go onto it
     pub line-more : position (λ byte. byte == 13) bytes ≡ None → take (count + length bytes) now ≡ take count into ++ take (length bytes) bytes → IsReadTo cells at most (count + length bytes) now

@@ -1,4 +1,5 @@
 -- What the descriptors and LSN 0 say.
+use Rattle.rbf_change.specs.Contents.{sector_count}
 use Rattle.std.proofs.Common.{◌≡◌, ℕ, ltb, ◌^◌, ◌+◌, ◌*◌, ◌<◌, ◌≤◌, ◌==◌, Bool, true, false, not, List, [], ◌∷◌, ◌++◌, length, take, map, refl, ap, ◌∙◌, arith}
 use Rattle.std.specs.Prelude.{flat_map, take_while}
 use Rattle.std.specs.List.{range_with_len}
@@ -9,7 +10,7 @@ use Rattle.rbf_model.specs.File.{file_at, file_from, segment_bytes}
 use Rattle.rbf_model.specs.Space.{is_marked}
 use Rattle.rbf_model.specs.Geometry.{Geometry, geometry, sector, image_geometry}
 use Rattle.rbf_model.specs.Tree.{dot, dot_dot, IsEntry}
-use Rattle.guest_mods.specs.BootDisk.{sector_with, sectors_for, used_sectors, ident_front, root_front, root_entries, file_front, boot_image, root_directory, boot_entry}
+use Rattle.guest_mods.specs.BootDisk.{sector_with, used_sectors, ident_front, root_front, root_entries, file_front, boot_image, root_directory, boot_entry}
 use Rattle.guest_mods.proofs.Marks.{marked-are}
 use Rattle.guest_mods.proofs.Parts.{sector-0, sector-3, sector-4, sector-5, file-joined, length-root_entries}
 
@@ -70,18 +71,18 @@ root-from disk entries =
     }
 
 -- ---- the file
-file-segments : (size : ℕ) → 1 ≤ size → segments_field (sector_with (file_front size)) ≡ (6, sectors_for size) ∷ []
+file-segments : (size : ℕ) → 1 ≤ size → segments_field (sector_with (file_front size)) ≡ (6, sector_count size) ∷ []
 unfolding sector_with
 file-segments size some =
-    let count : 0 * 256 ^ 1 + (sectors_for size * 256 ^ 0 + 0) ≡ sectors_for size = omega arith in
-    one-segment (sector_with (file_front size)) (6, sectors_for size) (λ i. (6, count i))
-    (ap (λ n. not (n == 0)) count ∙ some-sectors (sectors_for size) (omega arith)) refl
+    let count : 0 * 256 ^ 1 + (sector_count size * 256 ^ 0 + 0) ≡ sector_count size = omega arith in
+    one-segment (sector_with (file_front size)) (6, sector_count size) (λ i. (6, count i))
+    (ap (λ n. not (n == 0)) count ∙ some-sectors (sector_count size) (omega arith)) refl
 
 pub file-size-field : (size : ℕ) → size_field (sector_with (file_front size)) ≡ size
 unfolding sector_with
 file-size-field size = omega arith
 
-file-from : (disk : ℕ → List ℕ) (file : List ℕ) → 1 ≤ length file → take (length file) (flat_map disk (range_with_len 6 (sectors_for (length file)))) ≡ file
+file-from : (disk : ℕ → List ℕ) (file : List ℕ) → 1 ≤ length file → take (length file) (flat_map disk (range_with_len 6 (sector_count (length file)))) ≡ file
     → file_from disk (sector_with (file_front (length file))) ≡ boot_entry file
 unfolding sector_with
 file-from disk file some there =
@@ -89,7 +90,7 @@ file-from disk file some there =
     let contents : take (size_field (sector_with (file_front (length file)))) (segment_bytes disk (segments_field (sector_with (file_front (length file))))) ≡ file =
     ap (λ n. take n (segment_bytes disk (segments_field (sector_with (file_front (length file)))))) (file-size-field (length file))
     ∙ ap (λ s. take (length file) (segment_bytes disk s)) segments
-    ∙ ap (λ sectors. take (length file) (flat_map disk sectors)) (append-nil (range_with_len 6 (sectors_for (length file))))
+    ∙ ap (λ sectors. take (length file) (flat_map disk sectors)) (append-nil (range_with_len 6 (sector_count (length file))))
     ∙ there in
     λ i. record {
       attributes = 3;

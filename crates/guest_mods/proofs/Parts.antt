@@ -1,4 +1,5 @@
 -- Which sector of the image each part is.
+use Rattle.rbf_change.specs.Contents.{sector_count}
 use Rattle.std.proofs.Common.{◌≡◌, ℕ, zero, suc, ◌+◌, ◌-◌, ◌*◌, ◌≤◌, List, [], ◌++◌, length, take, drop, replicate, refl, sym, ap, ◌∙◌, arith, append_assoc, length-append}
 use Rattle.std.specs.Prelude.{flat_map}
 use Rattle.std.specs.List.{range_with_len}
@@ -8,7 +9,7 @@ use Rattle.rbf_model.specs.Geometry.{sector}
 use Rattle.vol_tools.specs.Image.{marks_map}
 use Rattle.vol_tools.proofs.Laid.{dropped, behind, first}
 use Rattle.vol_tools.proofs.Marks.{length-marks}
-use Rattle.guest_mods.specs.BootDisk.{sector_with, sectors_for, used_sectors, ident_front, root_front, root_entries, file_front, used_part, boot_image}
+use Rattle.guest_mods.specs.BootDisk.{sector_with, used_sectors, ident_front, root_front, root_entries, file_front, used_part, boot_image}
 
 pub length-sector_with : (bytes : List ℕ) → length bytes ≤ 256 → length (sector_with bytes) ≡ 256
 unfolding sector_with
@@ -139,8 +140,8 @@ module _ (file : List ℕ) (short : length file ≤ 57344) where
   pub file-there : take size (drop 1536 image) ≡ file
   file-there = ap (take size) from-6 ∙ take_at file (replicate (1047040 - size) 0) size refl
 
-  pub file-joined : take size (flat_map (sector image) (range_with_len 6 (sectors_for size))) ≡ file
+  pub file-joined : take size (flat_map (sector image) (range_with_len 6 (sector_count size))) ≡ file
   file-joined =
-      ap (take size) (joined image 6 (sectors_for size))
-      ∙ take-take size (256 * sectors_for size) (drop 1536 image) (omega arith)
+      ap (take size) (joined image 6 (sector_count size))
+      ∙ take-take size (256 * sector_count size) (drop 1536 image) (omega arith)
       ∙ file-there

@@ -1,4 +1,5 @@
 -- A disk with a boot file keeps the nine rules.
+use Rattle.rbf_change.specs.Contents.{sector_count}
 use Rattle.std.proofs.Common.{◌≡◌, ◌≢◌, ◌⊎◌, ℕ, suc, ◌+◌, ◌*◌, ◌/◌, ◌<◌, ◌≤◌, leb, true, false, List, [], ◌∷◌, length, refl, sym, ap, ◌∙◌, subst, inl, inr, ⊎_elim, arith}
 use Rattle.std.specs.List.{range_with_len, list_all}
 use Rattle.std.proofs.lemmas.Bool.{cond-true, cond-false, lt-ltb, le-leb, cases_lt, cases_eq, false≢true}
@@ -18,7 +19,7 @@ use Rattle.rbf_model.proofs.Lists.{four_pass, first_fails}
 use Rattle.rbf_model.proofs.Segments.{range_has, has_range}
 use Rattle.rbf_model.proofs.Space.{cluster_from_owns, owns_from_cluster}
 use Rattle.rbf_model.proofs.Growth.{distinct_range}
-use Rattle.guest_mods.specs.BootDisk.{root_entries, sectors_for, used_sectors}
+use Rattle.guest_mods.specs.BootDisk.{root_entries, used_sectors}
 use Rattle.guest_mods.proofs.Parts.{length-root_entries}
 use Rattle.guest_mods.proofs.Fields.{boot_geometry, boot_name, first-entry, second-entry, third-entry, third-used, HasParts}
 
@@ -97,7 +98,7 @@ module _ (disk : ℕ → List ℕ) (file : List ℕ) (parts : HasParts disk file
   on = disk_of boot_geometry disk
 
   abbrev count : ℕ
-  count = sectors_for (length file)
+  count = sector_count (length file)
 
   few-sectors : (1 ≤ count) × (count ≤ 224) × (length file ≤ 256 * count)
   few-sectors = let some = parts.some in let short = parts.short in (omega arith, omega arith, omega arith)

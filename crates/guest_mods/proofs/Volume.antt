@@ -1,4 +1,5 @@
 -- The image represents the volume of its file.
+use Rattle.rbf_change.specs.Contents.{sector_count}
 use Rattle.std.proofs.Common.{◌≡◌, ◌⊎◌, ℕ, ◌+◌, ◌*◌, ◌≤◌, ◌==◌, ◌&&◌, ◌||◌, Bool, true, false, not, List, [], ◌∷◌, length, drop, Some, None, refl, sym, ap, ◌∙◌, subst, inl, inr, ⊎_elim, arith, eqb-true}
 use Rattle.std.specs.Prelude.{if◌then◌else◌}
 use Rattle.std.specs.List.{list_any}
@@ -14,7 +15,7 @@ use Rattle.rbf_model.specs.Search.{IsFound, IsReachedOn, image_volume}
 use Rattle.rbf_model.specs.Keeps.{Keeps}
 use Rattle.rbf_model.specs.Volume.{Vol}
 use Rattle.rbf_model.proofs.Images.{vol_from_keeps}
-use Rattle.guest_mods.specs.BootDisk.{sectors_for, boot_image, boot_files, boot_volume, BootsFile}
+use Rattle.guest_mods.specs.BootDisk.{boot_image, boot_files, boot_volume, BootsFile}
 use Rattle.guest_mods.proofs.Parts.{image-long, sector-0, file-there}
 use Rattle.guest_mods.proofs.Fields.{boot_geometry, image-geometry, image-boot, image-boot_size, HasParts, has-parts}
 use Rattle.guest_mods.proofs.Rules.{reached, reached-root, reached-file, used-is, keeps}
@@ -98,11 +99,11 @@ module _ (file : List ℕ) (some : 1 ≤ length file) (short : length file ≤ 5
       (used-is (sector image) file parts c low)))
       (λ high. ⊎_elim
       (λ within. second-fails (is_whole boot_geometry c) (is_marked (sector image) c) (list_any (λ n. has_cluster boot_geometry n (file_at (sector image) n) c) numbers)
-      (parts.marks c within ∙ le-ltb c (6 + sectors_for (length file)) high))
+      (parts.marks c within ∙ le-ltb c (6 + sector_count (length file)) high))
       (λ past. first-fails (is_whole boot_geometry c) (is_marked (sector image) c) (list_any (λ n. has_cluster boot_geometry n (file_at (sector image) n) c) numbers)
       (lt-leb ((c + 1) * 1) 4096 (omega arith)))
       (cases_lt c 4096))
-      (cases_lt c (6 + sectors_for (length file)))
+      (cases_lt c (6 + sector_count (length file)))
 
   lost-none : (c : ℕ) → (is_whole (image_geometry image) c && is_marked (sector image) c && not (list_any (λ n. has_cluster (image_geometry image) n (file_at (sector image) n) c) numbers)) ≡ false
   lost-none c =

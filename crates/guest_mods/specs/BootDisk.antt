@@ -1,13 +1,14 @@
 -- An RBF disk with one file, from which a machine boots (OS-9 Technical Reference, Random Block File Manager; its 4,096
 -- sectors and the place of each part are this project's own): LSN 0, the allocation map in sectors 1 and 2, the root's
 -- descriptor in sector 3 and its entries in sector 4, the file's descriptor in sector 5, and the file from sector 6 on.
+use Rattle.rbf_change.specs.Contents.{sector_count}
+use Rattle.os9_base.specs.Name.{marked_name}
 use Rattle.std.specs.Prelude.{◌≡◌, ℕ, ◌+◌, ◌-◌, ◌*◌, ◌/◌, ◌%◌, ◌≤◌, ◌==◌, false, Option, Some, None, List, [], ◌∷◌, ◌++◌, codes, length, take, drop, replicate, if◌then◌else◌}
 use Rattle.rbf_model.specs.Fields.{boot_field, boot_size_field}
 use Rattle.rbf_model.specs.File.{DiskFile}
 use Rattle.rbf_model.specs.Geometry.{sector}
 use Rattle.rbf_model.specs.Tree.{dot, dot_dot}
 use Rattle.rbf_model.specs.Volume.{DiskVolume}
-use Rattle.rbf_change.specs.Names.{marked_name}
 use Rattle.vol_tools.specs.Image.{marks_map}
 
 -- ---- the parts
@@ -16,13 +17,9 @@ use Rattle.vol_tools.specs.Image.{marks_map}
 unfoldable pub sector_with : List ℕ → List ℕ
 sector_with bytes = bytes ++ replicate (256 - length bytes) 0
 
--- the number of sectors that a file of this size fills
-abbrev pub sectors_for : ℕ → ℕ
-sectors_for size = (size + 255) / 256
-
 -- the number of used sectors of the disk: six, and those of the file
 abbrev pub used_sectors : ℕ → ℕ
-used_sectors size = 6 + sectors_for size
+used_sectors size = 6 + sector_count size
 
 -- LSN 0: 4,096 sectors, 512 bytes of map, clusters of one sector, root 3, and the bootstrap file from sector 6 on
 abbrev pub ident_front : ℕ → List ℕ
@@ -47,7 +44,7 @@ root_entries =
 -- the file's descriptor: attributes 03, one link, its size, one segment from sector 6 on
 abbrev pub file_front : ℕ → List ℕ
 file_front size =
-    3 ∷ 0 ∷ 0 ∷ 0 ∷ 0 ∷ 0 ∷ 0 ∷ 0 ∷ 1 ∷ 0 ∷ 0 ∷ size / 256 ∷ size % 256 ∷ 0 ∷ 0 ∷ 0 ∷ 0 ∷ 0 ∷ 6 ∷ 0 ∷ sectors_for size
+    3 ∷ 0 ∷ 0 ∷ 0 ∷ 0 ∷ 0 ∷ 0 ∷ 0 ∷ 1 ∷ 0 ∷ 0 ∷ size / 256 ∷ size % 256 ∷ 0 ∷ 0 ∷ 0 ∷ 0 ∷ 0 ∷ 6 ∷ 0 ∷ sector_count size
     ∷ []
 
 -- the disk up to the end of the file
@@ -89,7 +86,7 @@ boot_entry file = record {
   modified = no_date;
   links = 1;
   created = no_day;
-  segments = (6, sectors_for (length file)) ∷ [];
+  segments = (6, sector_count (length file)) ∷ [];
   contents = file;
 }
 

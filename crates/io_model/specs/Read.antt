@@ -1,22 +1,40 @@
 -- I$Read and I$ReadLn: read bytes, and a line (System Programmer's Manual, I$Read and I$ReadLn).
 -- Take the path in A, the address of the buffer in X and the maximum count of bytes in Y; return the count in Y.
 -- Errors: E$BPAddr, E$BPNum, E$BMode, E$EOF; E$Write if a terminal fails.
-use Rattle.std.specs.Prelude.{ℕ, is_none}
+use Rattle.std.specs.Prelude.{◌≡◌, ℕ, true, is_none, IsSomeAnd}
+use Rattle.os9_base.specs.Cells.{Cells, FitsIn}
+use Rattle.os9_base.specs.declared.registers.Regs.{Regs}
 use Rattle.os9_base.specs.declared.calls.TheConstants.{I_READ, I_READLN}
 use Rattle.os9_base.specs.declared.errors.TheConstants.{E_BPADDR, E_UNKSVC}
 use Rattle.proc_model.specs.UserBytes.{user_bytes}
+use Rattle.io_model.specs.declared.io_call.IoCall.{IoCall}
+use Rattle.io_model.specs.declared.io_call.IoCall.TheVariants as Call
 use Rattle.io_model.specs.declared.pending.PendingCall.{PendingCall}
 use Rattle.io_model.specs.declared.path.Target.{Target}
 use Rattle.io_model.specs.declared.path.Target.TheVariants.{File, Folder, Term, Pipe}
 use Rattle.io_model.specs.declared.terminal.ReadKind.{ReadKind}
 use Rattle.io_model.specs.declared.terminal.ReadKind.TheVariants.{Bytes, WholeLine}
 use Rattle.io_model.specs.Alone.{is_alone}
-use Rattle.io_model.specs.Io.{Io}
+use Rattle.io_model.specs.Io.{Io, open_path}
 use Rattle.io_model.specs.Modes.{can_read}
 use Rattle.io_model.specs.Pipes.{reads_pipe, reads_pipe_line}
 use Rattle.io_model.specs.Step.{Caller, IoEffect, IoStep, refused, comes, reads, refuses}
 use Rattle.io_model.specs.Transfer.{on_path, unless_nothing, call_now}
 use Rattle.io_model.specs.declared.io_call.Direction.TheVariants.{Reading}
+
+-- the call for this kind of read, and its code
+abbrev pub read_call : ReadKind → IoCall
+read_call Bytes = Call.Read
+read_call WholeLine = Call.ReadLn
+
+abbrev pub read_code : ReadKind → ℕ
+read_code Bytes = I_READ
+read_code WholeLine = I_READLN
+
+-- a read by process p is not refused: its buffer is named, and its path may be read
+pub record IsReadAllowed (cells : Cells) (regs : Regs) (io : Io) (p : ℕ) : Type 0 where
+  pub named : FitsIn cells regs.x regs.y
+  pub mode : IsSomeAnd (open_path io p regs.a) (λ opened. can_read opened.desc.mode ≡ true)
 
 -- an attempt on a pipe
 abbrev pub pipe_read : ReadKind → Caller → Io → ℕ → PendingCall → IoEffect

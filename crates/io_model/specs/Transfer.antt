@@ -1,9 +1,6 @@
 -- Reads and writes: what they have in common (System Programmer's Manual, I$Read and I$Write).
-use Rattle.std.specs.Prelude.{ℕ, zero, suc, ◌+◌, ◌==◌, not, Bool, Option, Some, None, option_map, unwrap_or, List, [], ◌∷◌, if◌then◌else◌}
-use Rattle.os9_base.specs.Cells.{Cells}
+use Rattle.std.specs.Prelude.{ℕ, ◌==◌, not, Bool, unwrap_or, if◌then◌else◌}
 use Rattle.os9_base.specs.declared.errors.TheConstants.{E_BPNUM, E_BMODE}
-use Rattle.os9_base.specs.UserNames.{user_cell}
-use Rattle.io_model.specs.declared.keys.TheConstants.{RETURN}
 use Rattle.io_model.specs.declared.pending.PendingCall.{PendingCall}
 use Rattle.io_model.specs.Io.{Io, OpenPath, open_path, pending_at}
 use Rattle.io_model.specs.Step.{Caller, IoStep, needs, refuses, done}
@@ -25,14 +22,3 @@ first_call code opened count = record { code = code; path = opened.path; moved =
 -- the call as an attempt finds it: the pending call, or at the first attempt the call for this code, path and count
 abbrev pub call_now : Caller → Io → ℕ → OpenPath → ℕ → PendingCall
 call_now caller io code opened count = unwrap_or (pending_at io caller.process.0) (first_call code opened count)
-
-abbrev pub line_with : (ℕ → Option (List ℕ)) → ℕ → Option ℕ → Option (List ℕ)
-line_with rest at None = None
-line_with rest at (Some byte) =
-    if byte == RETURN then Some (byte ∷ []) else option_map (λ line. byte ∷ line) (rest (at + 1))
-
--- the bytes from an address on, up to and with the first carriage return, at most this count; None if one of them is in
--- no named slot or past FFFF
-abbrev pub line_at : Cells → ℕ → ℕ → Option (List ℕ)
-line_at cells at zero = Some []
-line_at cells at (suc most) = line_with (λ next. line_at cells next most) at (user_cell cells at)

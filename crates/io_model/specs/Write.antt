@@ -3,6 +3,7 @@
 -- I$Write and I$WritLn take the path in A, the address of the bytes in X and their count, or the maximum count of the
 -- line, in Y; they return the count in Y. F$PErr takes the number in B, and writes it as a line to standard error.
 -- Errors: E$BPAddr, E$BPNum, E$BMode, E$Write.
+use Rattle.os9_base.specs.UserLines.{line_at}
 use Rattle.std.specs.Prelude.{ℕ, ◌+◌, ◌/◌, ◌%◌, Option, Some, None, List, [], ◌∷◌, ◌++◌, codes, length}
 use Rattle.os9_base.specs.declared.calls.TheConstants.{I_WRITE, I_WRITLN, F_PERR}
 use Rattle.os9_base.specs.declared.errors.TheConstants.{E_BPADDR, E_UNKSVC}
@@ -18,7 +19,7 @@ use Rattle.io_model.specs.Io.{Io, OpenPath, pending_at}
 use Rattle.io_model.specs.Modes.{can_write}
 use Rattle.io_model.specs.Pipes.{count_regs, writes_pipe}
 use Rattle.io_model.specs.Step.{Caller, IoStep, refused, comes, writes, needs}
-use Rattle.io_model.specs.Transfer.{on_path, unless_nothing, call_now, line_at}
+use Rattle.io_model.specs.Transfer.{on_path, unless_nothing, call_now}
 use Rattle.io_model.specs.declared.io_call.Direction.TheVariants.{Writing}
 use Rattle.io_model.specs.declared.modes.TheConstants.{STANDARD_ERROR}
 

@@ -10,14 +10,14 @@ use Rattle.proc_model.specs.declared.module.ModuleInfo.{ModuleInfo}
 use Rattle.proc_model.specs.declared.module.ModuleFault.{ModuleFault}
 use Rattle.proc_model.specs.declared.module.ModuleStep.TheVariants.{Module, End, Fault}
 use Rattle.proc_model.specs.Loading.{EntersModules, at_end, broken, entered, entry_refusal, refused, with_module}
-use Rattle.proc_model.specs.Memory.{MemoryState}
+use Rattle.proc_model.specs.Memory.{MemoryState, with_modules}
 use Rattle.proc_model.specs.MemoryChanges.{entered_beside}
 use Rattle.proc_model.specs.Module.{step_from}
 use Rattle.proc_model.specs.ModuleList.{ModuleEntry, free_number, module_entry_at, new_entry, with_module_entry}
 use Rattle.proc_model.proofs.LoadingLemmas.{Enters-one}
 use Rattle.proc_model.proofs.ModuleListLaws.{entry_at-with_entry_other}
 use Rattle.load_calls.proofs.SeenLemmas.{entered-here, refusal-seen, some-here}
-use Rattle.load_calls.specs.Entering.{IsOfGroup, with_modules}
+use Rattle.load_calls.specs.Entering.{IsOfGroup}
 
 -- ---- one module
 

@@ -10,7 +10,7 @@ use Rattle.rbf_model.specs.Volume.{DiskVolume}
 use Rattle.file_rules.specs.Files.{Files, file_in, with_drives}
 use Rattle.file_rules.specs.ProgramFile.{ProgramFile, reading_of}
 use Rattle.file_rules.specs.Step.{Step, drive_of}
-use Rattle.file_rules.specs.Route.{Found}
+use Rattle.file_rules.specs.Route.{Found, IsFoundAt}
 use Rattle.lock_model.specs.declared.place.FilePlace.{FilePlace}
 use Rattle.file_drives.specs.Drives.{DriveView, drive_states, media_of}
 use Rattle.file_drives.specs.Mounted.{ReadsFile}
@@ -22,7 +22,7 @@ use Rattle.file_state.specs.Reached.{HasRead}
 use Rattle.file_state.specs.declared.state.FileState.{FileState}
 use Rattle.load_calls.proofs.FoundLemmas.{size-whole}
 use Rattle.load_calls.specs.Calls.{found_calls, size_calls}
-use Rattle.load_calls.specs.Found.{IsFoundAt, IsWhole, program_by, program_size, program_there}
+use Rattle.load_calls.specs.Found.{IsWhole, program_by, program_size, program_there}
 use Rattle.load_calls.specs.Reading.{AnswersReading, ReadsTo, read_by}
 use Rattle.load_calls.specs.declared.reading.ProgramRead.{ProgramRead}
 

@@ -16,7 +16,7 @@ use Rattle.rbf_walk.specs.declared.error.DirError.TheVariants.{NotAllowed, BadPa
 use Rattle.file_rules.specs.Files.{Asker, DriveState, Files, file_in, volume_at}
 use Rattle.file_rules.specs.ProgramFile.{ProgramFile, program_file, program_found, program_on_route, reading_of}
 use Rattle.file_rules.specs.Step.{Step, refused, comes, reaches, drive_of, needs}
-use Rattle.file_rules.specs.Route.{along, to_device, nowhere, Found, list_of, reads_list, walk_ends, route_of}
+use Rattle.file_rules.specs.Route.{along, to_device, nowhere, Found, list_of, reads_list, walk_ends, route_of, IsFoundAt}
 use Rattle.file_rules.specs.Route as Rule
 use Rattle.lock_model.specs.declared.place.FilePlace.{FilePlace}
 use Rattle.file_drives.specs.Drives.{DriveView, drive_state}
@@ -43,7 +43,7 @@ use Rattle.device_paths.specs.Standing.{NamesFrom}
 use Rattle.load_calls.proofs.FoundLemmas.{found-step}
 use Rattle.load_calls.proofs.ReadingLemmas.{OnlyReads, only-none, only-read, reads-behind, reads-broken, reads-well}
 use Rattle.load_calls.specs.Calls.{calls_at_end, calls_on_volume, found_calls, list_calls, program_calls, program_route_calls}
-use Rattle.load_calls.specs.Found.{IsFoundAt, program_by, program_size, program_there}
+use Rattle.load_calls.specs.Found.{program_by, program_size, program_there}
 use Rattle.load_calls.specs.Reading.{ReadsTo}
 use Rattle.load_calls.specs.declared.reading.ProgramRead.{ProgramRead}
 

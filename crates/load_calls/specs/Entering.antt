@@ -18,9 +18,6 @@ pub record IsOfGroup (group : List ℕ) (number : ℕ) (m : MemoryState) : Type 
   pub group_is : entry.group ≡ group
   pub no_boot : entry.is_boot ≡ false
 
-abbrev pub with_modules : MemoryState → List (Option ModuleEntry) → MemoryState
-with_modules m entries = record m { modules = entries }
-
 -- the modules of a file from a place on can be entered in the group of this module, which has room for the file
 pub record CanEnter (file : List ℕ) (number from : ℕ) (memory : Memory) : Type 0 where
   pub m : MemoryState

@@ -1,22 +1,15 @@
 -- A file of modules that was found: its tests, and what is read of it.
-use Rattle.std.specs.Prelude.{◌≡◌, ℕ, not, nat_lt, Some, Result, Ok, Err, List, length, take, if◌then◌else◌}
+use Rattle.std.specs.Prelude.{◌≡◌, ℕ, not, nat_lt, Result, Ok, Err, List, length, take, if◌then◌else◌}
 use Rattle.os9_base.specs.declared.errors.TheConstants.{E_FNA, E_SHARE, E_MEMFUL}
 use Rattle.os9_base.specs.declared.limits.TheConstants.{MOST_GROUP_BYTES}
 use Rattle.io_model.specs.declared.modes.TheConstants.{MODE_EXECUTE}
 use Rattle.rbf_model.specs.File.{DiskFile}
-use Rattle.file_rules.specs.Files.{Files, volume_at}
+use Rattle.file_rules.specs.Files.{Files}
 use Rattle.file_rules.specs.Open.{may_open}
 use Rattle.file_rules.specs.ProgramFile.{ProgramFile}
 use Rattle.file_rules.specs.Sharing.{is_not_shared}
 use Rattle.file_rules.specs.Step.{Step, refused, comes, reaches}
 use Rattle.file_rules.specs.Route.{Found}
-use Rattle.lock_model.specs.declared.place.FilePlace.{FilePlace}
-
--- the file at a place
-pub record IsFoundAt (files : Files) (place : FilePlace) (found : Found) : Type 0 where
-  pub place_is : found.place ≡ place
-  pub volume_is : volume_at files place.drive ≡ Some found.volume
-  pub file_is : found.volume.files place.number ≡ Some found.file
 
 -- ---- its size
 

@@ -9,7 +9,7 @@ use Rattle.file_rules.specs.Attempts.{asker_of}
 use Rattle.file_rules.specs.Files.{Asker, Files}
 use Rattle.file_rules.specs.ProgramFile.{ProgramFile, ReadsProgram, program_on_route}
 use Rattle.file_rules.specs.Step.{Step, drive_of}
-use Rattle.file_rules.specs.Route.{Found, along}
+use Rattle.file_rules.specs.Route.{Found, along, IsFoundAt}
 use Rattle.lock_model.specs.declared.place.FilePlace.{FilePlace}
 use Rattle.file_drives.specs.Drives.{DriveView, media_of}
 use Rattle.file_state.specs.Attempt.{Standing}
@@ -20,7 +20,6 @@ use Rattle.file_state.specs.declared.state.FileState.{FileState}
 use Rattle.rbf_access.specs.Faults.{file_error}
 use Rattle.rbf_access.specs.declared.faults.FileFault.{FileFault}
 use Rattle.load_calls.specs.Calls.{program_route_calls}
-use Rattle.load_calls.specs.Found.{IsFoundAt}
 use Rattle.load_calls.specs.declared.reading.ProgramRead.{ProgramRead}
 
 -- the file is at the front of a buffer

@@ -1,12 +1,12 @@
 //! A file of modules in memory.
 
 ghost use Rattle.std.specs.Prelude.{◌≡◌, ℕ, ◌≤◌, false, IsSome, Ok, Option, List, length};
-ghost use Rattle.load_calls.specs.Entering.{CanEnter, ComesLoaded, EntersFile, IsOfGroup, TriesFile, with_modules};
+ghost use Rattle.load_calls.specs.Entering.{CanEnter, ComesLoaded, EntersFile, IsOfGroup, TriesFile};
 ghost use Rattle.file_rules.specs.Load.{Loaded, Loads};
 ghost use Rattle.guest_memory.specs.Tie.{Represents, modules_of};
 ghost use Rattle.os9_base.specs.declared.limits.TheConstants.{MOST_GROUP_BYTES};
 ghost use Rattle.proc_model.specs.Loading.{EntersModules};
-ghost use Rattle.proc_model.specs.Memory.{MemoryState};
+ghost use Rattle.proc_model.specs.Memory.{MemoryState, with_modules};
 ghost use Rattle.proc_model.specs.Module.{step_from};
 ghost use Rattle.proc_model.specs.ModuleList.{ModuleEntry, module_entry_at};
 

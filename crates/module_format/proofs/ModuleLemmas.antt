@@ -4,12 +4,12 @@ use Rattle.std.proofs.lemmas.Bool.{le-leb, lt-ltb, and_from, eq-eqb, agree_below
 use Rattle.std.proofs.lemmas.List.{take_at, drop_at}
 use Rattle.std.proofs.lemmas.Nat.{xor_of_8}
 use Rattle.byteorder.specs.Endian.{big_number}
-use Rattle.os9_base.specs.Name.{stored_name, IsName}
+use Rattle.os9_base.specs.Name.{stored_name, IsName, marked_name}
 use Rattle.proc_model.specs.CrcModel.{crc_of}
 use Rattle.proc_model.specs.Module.{header_word, module_size, name_offset, header_length, module_entry, module_storage, crc_offset, module_name, has_sync, has_size, has_module_name, has_entry, keeps_header_rule, keeps_parity_rule, crc_field, keeps_crc_rule, info_at, IsModule}
 use Rattle.proc_model.specs.declared.module.ModuleFault.TheVariants.{BadSync, BadParity, BadCrc}
 use Rattle.module_format.specs.declared.maker.Header.{Header}
-use Rattle.module_format.specs.GuestModule.{is_program_kind, kind_header_length, code_offset, guest_size, marked_name, header_front, parity_of, made_body, crc_bytes, made_module, made_info, BeginsWithin, at_code, guest_module, guest_info}
+use Rattle.module_format.specs.GuestModule.{is_program_kind, kind_header_length, code_offset, guest_size, header_front, parity_of, made_body, crc_bytes, made_module, made_info, BeginsWithin, at_code, guest_module, guest_info}
 use Rattle.module_format.proofs.NameLemmas.{stored_name-marked, length-marked_name}
 
 -- ---- the parity

@@ -4,8 +4,7 @@ use Rattle.std.specs.Option.{option_and_then}
 use Rattle.std.proofs.lemmas.Bool.{and_parts, leb-true, le-leb, lt-ltb, le-ltb}
 use Rattle.std.proofs.lemmas.List.{take_more}
 use Rattle.std.proofs.Math.Nat.{mod-eq_of_lt}
-use Rattle.os9_base.specs.Name.{is_stored_character, low_bits, marked_run, if_name, stored_name, IsName}
-use Rattle.module_format.specs.GuestModule.{marked_name}
+use Rattle.os9_base.specs.Name.{is_stored_character, low_bits, marked_run, if_name, stored_name, IsName, marked_name}
 
 -- where a character stands
 got-at : (name : List ℕ) (n c : ℕ) → slice_get name n ≡ Some c → (n < length name) × (c ≡ get_or name n 0)

@@ -1,4 +1,5 @@
 -- Modules made from their parts (System Programmer's Manual, "Memory module structure").
+use Rattle.os9_base.specs.Name.{marked_name}
 use Rattle.std.specs.Prelude.{ℕ, ◌<◌, ◌+◌, ◌-◌, ◌/◌, ◌%◌, ◌==◌, bit_xor, Bool, List, [], ◌∷◌, ◌++◌, length, fold, if◌then◌else◌}
 use Rattle.proc_model.specs.CrcModel.{crc_of}
 use Rattle.proc_model.specs.declared.module.ModuleInfo.{ModuleInfo}
@@ -19,16 +20,6 @@ code_offset name kind = kind_header_length kind + length name
 -- the whole size: the header, the name, the code and the three bytes of the CRC
 abbrev pub guest_size : List ℕ → ℕ → List ℕ → ℕ
 guest_size name kind code = code_offset name kind + length code + 3
-
--- a word's two bytes, the high one first
-abbrev pub word_bytes : ℕ → List ℕ
-word_bytes word = word / 256 ∷ word % 256 ∷ []
-
--- a name with bit 7 on its last character
-abbrev pub marked_name : List ℕ → List ℕ
-marked_name [] = []
-marked_name (c ∷ []) = (c + 128) ∷ []
-marked_name (c ∷ next ∷ name) = c ∷ marked_name (next ∷ name)
 
 -- a header's bytes before the parity: the sync bytes, the size, the name's offset, type and language, attributes and
 -- revision

@@ -1,8 +1,9 @@
+ghost use Rattle.proc_model.specs.UserBytes.{word_bytes};
 ghost use Rattle.std.specs.Prelude.{◌≡◌, ◌≤◌, ◌<◌, ◌+◌, ◌-◌, ◌++◌, ◌∷◌, [], length, IfOk, slice_range};
-ghost use Rattle.os9_base.specs.Name.{IsName};
+ghost use Rattle.os9_base.specs.Name.{IsName, marked_name};
 ghost use Rattle.os9_base.specs.declared.limits.TheConstants.{MOST_GROUP_BYTES};
 ghost use Rattle.proc_model.specs.Module.{IsModule, info_at};
-ghost use Rattle.module_format.specs.GuestModule.{made_module, made_info, BeginsWithin, guest_module, guest_info, guest_size, code_offset, is_program_kind, kind_header_length, header_front, parity_of, program_fields, marked_name, word_bytes, crc_bytes};
+ghost use Rattle.module_format.specs.GuestModule.{made_module, made_info, BeginsWithin, guest_module, guest_info, guest_size, code_offset, is_program_kind, kind_header_length, header_front, parity_of, program_fields, crc_bytes};
 
 use crate::crc24;
 use os9_base::call::OutOfMemory;

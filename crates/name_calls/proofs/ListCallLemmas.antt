@@ -6,7 +6,7 @@ use Rattle.os9_base.specs.declared.name_fault.NameFault.{NameFault}
 use Rattle.os9_base.specs.declared.name_fault.NameFault.TheVariants.{Unreadable, NoName}
 use Rattle.io_model.specs.PathList.{PathList}
 use Rattle.rbf_model.specs.File.{DiskFile}
-use Rattle.rbf_model.specs.Volume.{DiskVolume}
+use Rattle.rbf_model.specs.Volume.{DiskVolume, in_file}
 use Rattle.rbf_model.specs.Walk.{WalkEnd, arrives, not_allowed, not_found, walk}
 use Rattle.rbf_change.specs.Calls.{cluster_size, shape}
 use Rattle.rbf_change.specs.NewFiles.{file_clusters}
@@ -14,7 +14,6 @@ use Rattle.rbf_access.specs.MapMarks.{marking_sectors}
 use Rattle.rbf_access.specs.declared.faults.FileFault.{FileFault}
 use Rattle.rbf_access.specs.declared.faults.FileFault.TheVariants.{Device, NoCluster, TooManyRuns}
 use Rattle.rbf_entries.specs.Entering.{entry_calls, widened}
-use Rattle.rbf_entries.specs.Deleted.{clusters_of}
 use Rattle.rbf_walk.specs.Walk.{calls_on, walk_calls}
 use Rattle.file_rules.specs.Files.{Asker, Files, volume_at}
 use Rattle.file_rules.specs.MakDir.{new_directory_size}
@@ -224,7 +223,7 @@ pub making-within : (result : Result ℕ FileFault) (v : DiskVolume) (dir : Disk
     → drives.making_calls (widened result) v dir left ≤ file_clusters (cluster_size v) new_directory_size + 2 +
     entry_calls v dir
 making-within (Ok n) v dir left =
-    let few = min-le_left (file_clusters (cluster_size v) new_directory_size) (marking_sectors (shape v) (clusters_of (shape v) n (left.files n))) in
+    let few = min-le_left (file_clusters (cluster_size v) new_directory_size) (marking_sectors (shape v) (in_file (shape v) n (left.files n))) in
     omega (arith, few)
 making-within (Err (Device number)) v dir left = omega arith
 making-within (Err NoCluster) v dir left = omega arith

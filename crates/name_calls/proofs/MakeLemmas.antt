@@ -33,7 +33,7 @@ use Rattle.file_rules.specs.Change.{creates}
 use Rattle.file_rules.specs.Files.{Asker, Files, volume_at, with_drives, with_path_table, with_volume}
 use Rattle.file_rules.specs.Open.{is_for_execution, says_directory}
 use Rattle.file_rules.specs.Step.{FileDoes, FileEffect, FileStep, MayBeLeft, VolumeChange, changes, deed_of, leaves, leaves_so, reaches, refuses_so}
-use Rattle.file_rules.specs.Route.{Found, last_of}
+use Rattle.file_rules.specs.Route.{Found, last_of, IsFoundAt}
 use Rattle.lock_model.specs.declared.place.FilePlace.{FilePlace}
 use Rattle.file_drives.specs.Changed.{Asked, ChangesVolume, IsRefused, has_no_segment, is_full_for, is_refused}
 use Rattle.file_drives.specs.Drives.{DriveView, drive_states}
@@ -53,7 +53,7 @@ use Rattle.name_calls.proofs.CreateLemmas.{change_by, create-stays, creates-exis
 use Rattle.name_calls.proofs.OpenEndLemmas.{broken, ends-as, well-refused}
 use Rattle.name_calls.specs.OpenCalls.{calls_at_place, new_file_calls}
 use Rattle.name_calls.specs.Ends.{EndsQuietly, HasReadIn}
-use Rattle.name_calls.specs.Steps.{IsFoundAt, begins, creates_there}
+use Rattle.name_calls.specs.Steps.{begins, creates_there}
 
 -- some names have a last one
 pub last-there : (names : List (List ℕ)) → 1 ≤ length names → (name : List ℕ) × (last_of names ≡ Some name)

@@ -12,7 +12,7 @@ use Rattle.rbf_access.specs.declared.faults.FileFault.TheVariants.{Device, NoClu
 use Rattle.file_rules.specs.Attempts.{asker_of}
 use Rattle.file_rules.specs.Files.{Files, with_drives}
 use Rattle.file_rules.specs.Step.{FileDoes, FileStep, MayBeLeft, deed_of, drive_of, refuses_so}
-use Rattle.file_rules.specs.Route.{Found}
+use Rattle.file_rules.specs.Route.{Found, IsFoundAt}
 use Rattle.lock_model.specs.declared.place.FilePlace.{FilePlace}
 use Rattle.file_drives.specs.Drives.{DriveView, drive_states}
 use Rattle.file_drives.specs.Mounted.{OnDisks, ReadsFile}
@@ -21,7 +21,6 @@ use Rattle.file_state.proofs.ReachedLemmas as reached
 use Rattle.file_state.specs.declared.state.FileState.{FileState}
 use Rattle.name_calls.proofs.OpenEndLemmas.{broken}
 use Rattle.name_calls.specs.Ends.{HasReadIn}
-use Rattle.name_calls.specs.Steps.{IsFoundAt}
 
 module _ (was : Files) (place : FilePlace) (found : Found) (it : IsFoundAt was place found) (mid new : FileState)
     (before views now : List DriveView) (few : ℕ) (read : HasReadIn few None place.drive was mid before views) where

@@ -22,7 +22,7 @@ use Rattle.file_rules.specs.Attempts.{asker_of}
 use Rattle.file_rules.specs.Open.{is_for_execution}
 use Rattle.file_rules.specs.Files.{Files, volume_at, with_drives}
 use Rattle.file_rules.specs.Step.{FileDoes, FileStep, MayBeLeft, deed_of, drive_of, reaches, refuses_so}
-use Rattle.file_rules.specs.Route.{Found, walks}
+use Rattle.file_rules.specs.Route.{Found, walks, IsFoundAt}
 use Rattle.lock_model.specs.declared.place.FilePlace.{FilePlace}
 use Rattle.file_drives.specs.Drives.{DriveView, drive_states}
 use Rattle.file_drives.specs.Mounted.{HasFileAt}
@@ -40,7 +40,7 @@ use Rattle.name_calls.proofs.OpenCallLemmas.{walk-found, walk-within}
 use Rattle.name_calls.proofs.OpenEndLemmas.{broken, ends-as, read-ends, read-more, regs-tied, user-tied, well-refused}
 use Rattle.file_routes.specs.Calls.{walk_and}
 use Rattle.name_calls.specs.Ends.{HasReadIn}
-use Rattle.name_calls.specs.Steps.{IsFoundAt, walker_at}
+use Rattle.name_calls.specs.Steps.{walker_at}
 
 module _ (m : Processes) (was : Files) (now : TimePacket) (p : ℕ) (terms : List TerminalState) (walker : Walker)
     (from : FilePlace) (names : List (List ℕ)) (state new : FileState) (before after : List DriveView)

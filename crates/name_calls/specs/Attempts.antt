@@ -12,7 +12,7 @@ use Rattle.rbf_change.specs.Names.{is_dots}
 use Rattle.file_rules.specs.Attempts.{asker_of}
 use Rattle.file_rules.specs.Files.{Files}
 use Rattle.file_rules.specs.Step.{FileStep}
-use Rattle.file_rules.specs.Route.{Found, along}
+use Rattle.file_rules.specs.Route.{Found, along, IsFoundAt}
 use Rattle.lock_model.specs.declared.place.FilePlace.{FilePlace}
 use Rattle.file_drives.specs.Drives.{DriveView}
 use Rattle.file_state.specs.Attempt.{Standing}
@@ -20,7 +20,7 @@ use Rattle.file_state.specs.Ends.{Ends}
 use Rattle.file_state.specs.Tie.{StandsFor}
 use Rattle.name_calls.specs.OpenCalls.{creating_calls, new_file_calls, opening_calls}
 use Rattle.name_calls.specs.Ends.{HasReadIn}
-use Rattle.name_calls.specs.Steps.{IsFoundAt, creates_along, creates_there, opens_along}
+use Rattle.name_calls.specs.Steps.{creates_along, creates_there, opens_along}
 use Rattle.name_calls.specs.declared.naming.LastLocated.{LastLocated}
 
 -- an attempt of a process, at a time, does what the step says, for any terminals: it ends so, and leaves this state;

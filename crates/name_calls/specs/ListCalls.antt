@@ -3,13 +3,12 @@
 use Rattle.std.specs.Prelude.{ℕ, ◌+◌, Bool, false, Option, Some, None, List}
 use Rattle.std.specs.Option.{option_map_or}
 use Rattle.rbf_model.specs.File.{DiskFile}
-use Rattle.rbf_model.specs.Volume.{DiskVolume}
+use Rattle.rbf_model.specs.Volume.{DiskVolume, in_file}
 use Rattle.rbf_model.specs.Walk.{look_up}
 use Rattle.rbf_change.specs.Calls.{cluster_size, shape}
 use Rattle.rbf_change.specs.NewFiles.{file_clusters}
 use Rattle.rbf_access.specs.MapMarks.{marking_sectors}
 use Rattle.rbf_entries.specs.Entering.{entry_calls}
-use Rattle.rbf_entries.specs.Deleted.{clusters_of}
 use Rattle.rbf_entries.specs.Places.{place_calls}
 use Rattle.rbf_entries.specs.Deletions.{deletion_calls}
 use Rattle.file_rules.specs.Files.{Asker, Files, volume_at}
@@ -69,7 +68,7 @@ i_makdir_calls asker files terms = named_calls New false (making_calls asker.use
 abbrev pub deleting_calls : ℕ → Bool → List ℕ → DiskVolume → DiskFile → ℕ
 deleting_calls user execute name v dir =
     deletion_calls dir name user execute
-    + option_map_or (λ n. 2 + marking_sectors (shape v) (clusters_of (shape v) n (v.files n)))
+    + option_map_or (λ n. 2 + marking_sectors (shape v) (in_file (shape v) n (v.files n)))
     (look_up dir.contents name) 0
 
 -- for execution or not

@@ -1,5 +1,5 @@
 -- The steps of I$Open and I$Create, one after another, in the order of the code.
-use Rattle.std.specs.Prelude.{◌≡◌, ℕ, List, Some}
+use Rattle.std.specs.Prelude.{ℕ, List}
 use Rattle.os9_base.specs.declared.errors.TheConstants.{E_BPNAM, E_PTHFUL}
 use Rattle.os9_base.specs.declared.registers.Pid.{Pid}
 use Rattle.io_model.specs.Path.{new_number, paths_after_begin}
@@ -10,7 +10,7 @@ use Rattle.io_model.specs.PathList.{PathList}
 use Rattle.proc_model.specs.Records.{record_at}
 use Rattle.proc_state.specs.declared.state.ProcState.{ProcState}
 use Rattle.file_rules.specs.Create.{creates_in}
-use Rattle.file_rules.specs.Files.{Asker, Files, volume_at, with_path_table}
+use Rattle.file_rules.specs.Files.{Asker, Files, with_path_table}
 use Rattle.file_rules.specs.Open.{is_for_execution, opens_found}
 use Rattle.file_rules.specs.Step.{FileStep, done, needs, reaches}
 use Rattle.file_rules.specs.Route.{Found, before_last, last_of, walks}
@@ -26,12 +26,6 @@ walker_at s p = record {
     execute = is_for_execution (record_at s.table p.0).regs.a;
   };
 }
-
--- the file at a place
-pub record IsFoundAt (files : Files) (place : FilePlace) (found : Found) : Type 0 where
-  pub place_is : found.place ≡ place
-  pub volume_is : volume_at files place.drive ≡ Some found.volume
-  pub file_is : found.volume.files place.number ≡ Some found.file
 
 -- opens a path on a file or a directory, if the process has a number for it
 abbrev pub begins : Asker → Files → PathList → Target → FileStep

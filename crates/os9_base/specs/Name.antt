@@ -15,6 +15,12 @@ is_stored_character c = nat_le 33 c && nat_le c 126 && not (c == 47)
 abbrev pub low_bits : ℕ → ℕ
 low_bits byte = byte % 128
 
+-- a name with bit 7 on its last character, as a module header and a directory entry have it
+abbrev pub marked_name : List ℕ → List ℕ
+marked_name [] = []
+marked_name (c ∷ []) = (c + 128) ∷ []
+marked_name (c ∷ next ∷ name) = c ∷ marked_name (next ∷ name)
+
 -- the longest run of name characters at the front; one that has bit 7 ends it
 abbrev pub name_run : List ℕ → List ℕ
 name_run [] = []

@@ -5,10 +5,10 @@ use Rattle.os9_base.specs.UserNames.{user_cell}
 
 abbrev pub line_with : (ℕ → Option (List ℕ)) → ℕ → Option ℕ → Option (List ℕ)
 line_with rest at None = None
-line_with rest at (Some byte) = if byte == 13 then Some (13 ∷ []) else option_map (λ line. byte ∷ line) (rest (at + 1))
+line_with rest at (Some byte) = if byte == 13 then Some (byte ∷ []) else option_map (λ line. byte ∷ line) (rest (at + 1))
 
--- the bytes from an address on, up to and with the first carriage return, but at most this many; nothing if one of them
--- is in no named slot or past FFFF
+-- the bytes from an address on, up to and with the first carriage return, but at most this many; None if one of them is
+-- in no named slot or past FFFF
 abbrev pub line_at : Cells → ℕ → ℕ → Option (List ℕ)
 line_at cells at zero = Some []
 line_at cells at (suc most) = line_with (λ next. line_at cells next most) at (user_cell cells at)

@@ -16,6 +16,10 @@ pub record MemoryState : Type 0 where
   pub maps : List (Slots ℕ)  -- by process number: the map of each process
   pub modules : List (Option ModuleEntry)  -- by number: the module directory, with groups of objects' numbers
 
+-- the memory with other entries of modules
+abbrev pub with_modules : MemoryState → List (Option ModuleEntry) → MemoryState
+with_modules m entries = record m { modules = entries }
+
 -- the error of a refused change of memory
 abbrev pub memory_error : MemoryFault → ℕ
 memory_error MemFull = E_MEMFUL

@@ -61,6 +61,10 @@ pub record Represents (media : Option (List ℕ)) (v : DiskVolume) : Type 0 wher
   pub is : media ≡ Some image
   pub vol : Vol image v
 
+-- a fact about the volume that the media represents
+abbrev pub OnVolume : Option (List ℕ) → (DiskVolume → Type 0) → Type 0
+OnVolume media fact = (v : DiskVolume) → Represents media v → fact v
+
 -- the media represents some volume
 abbrev pub IsSound : Option (List ℕ) → Type 0
 IsSound media = (v : DiskVolume) × Represents media v

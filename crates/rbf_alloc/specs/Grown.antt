@@ -13,7 +13,7 @@ use Rattle.rbf_access.specs.Faults.{file_fault}
 use Rattle.rbf_access.specs.declared.faults.FileFault.{FileFault}
 use Rattle.rbf_access.specs.declared.faults.FileFault.TheVariants as fault
 use Rattle.rbf_access.specs.MapMarks.{marking_sectors}
-use Rattle.rbf_access.specs.Mounted.{Represents}
+use Rattle.rbf_access.specs.Mounted.{OnVolume}
 use Rattle.rbf_alloc.specs.Gained.{AreChosen, IsTooMany}
 
 -- only sectors of the map have changed, and no mark past the clusters has
@@ -64,10 +64,6 @@ pub record Grows (v : DiskVolume) (count : ℕ) (before : List (ℕ × ℕ)) (ol
   pub runs : IsErrOf result fault.TooManyRuns → IsTooMany (cluster_size v) count (is_free_in v) before
   -- a write of the drive has failed
   pub ends : IfSome (file_fault result) (λ _. GrowthEnds v count old new before)
-
--- a fact about the volume that the media represents
-abbrev pub OnVolume : Option (List ℕ) → (DiskVolume → Type 0) → Type 0
-OnVolume media fact = (v : DiskVolume) → Represents media v → fact v
 
 -- no free cluster has a sector of the segments
 abbrev pub AreTaken : Option (List ℕ) → List (ℕ × ℕ) → Type 0

@@ -2,8 +2,8 @@ ghost use Rattle.std.specs.Prelude.{◌≡◌, ◌↔◌, ℕ, ◌<◌, ◌≤�
 ghost use Rattle.rbf_model.specs.Volume.{DiskVolume};
 ghost use Rattle.rbf_access.specs.Drive.{Counts};
 ghost use Rattle.rbf_access.specs.Faults.{file_fault};
-ghost use Rattle.rbf_access.specs.Mounted.{IsMounted, Represents};
-ghost use Rattle.rbf_alloc.specs.Grown.{Grows, OnVolume, AreTaken, NoFault, growth_calls};
+ghost use Rattle.rbf_access.specs.Mounted.{IsMounted, Represents, OnVolume};
+ghost use Rattle.rbf_alloc.specs.Grown.{Grows, AreTaken, NoFault, growth_calls};
 
 use crate::marks::write_marks;
 use crate::returned::{ClusterRange, give_back};

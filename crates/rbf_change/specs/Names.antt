@@ -1,16 +1,10 @@
 -- Entries of directories: their bytes and places, and what a user may do with them.
 use Rattle.std.specs.Prelude.{ℕ, ◌+◌, ◌/◌, ◌%◌, ◌&&◌, ◌||◌, Bool, false, not, bytes_eq, List, [], ◌∷◌, ◌++◌, length, drop, position, unwrap_or, Option, Some, None, if◌then◌else◌}
-use Rattle.os9_base.specs.Name.{padded_name}
+use Rattle.os9_base.specs.Name.{padded_name, marked_name}
 use Rattle.rbf_model.specs.Fields.{is_used}
 use Rattle.rbf_model.specs.File.{DiskFile, is_directory}
 use Rattle.rbf_model.specs.Tree.{dot, dot_dot}
 use Rattle.rbf_model.specs.Walk.{WalkEnd, arrives, not_allowed, not_found, directory_entries, entry_has_name, look_up, may_search, file_permits}
-
--- a name with bit 7 on its last character ("Directories", DIR.NM)
-abbrev pub marked_name : List ℕ → List ℕ
-marked_name [] = []
-marked_name (c ∷ []) = (c + 128) ∷ []
-marked_name (c ∷ next ∷ name) = c ∷ marked_name (next ∷ name)
 
 -- the 32 bytes of a new entry: its name, zeros after it, and the number of its descriptor
 abbrev pub new_entry : List ℕ → ℕ → List ℕ

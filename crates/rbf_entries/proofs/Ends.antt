@@ -3,7 +3,7 @@ use Rattle.std.proofs.Common.{◌≡◌, ◌⊎◌, ℕ, ◌+◌, Bool, Option, 
 use Rattle.std.specs.Prelude.{OnErr, IsNone}
 use Rattle.std.proofs.lemmas.Bool.{false≢true}
 use Rattle.rbf_model.specs.File.{DiskFile}
-use Rattle.rbf_model.specs.Volume.{DiskVolume}
+use Rattle.rbf_model.specs.Volume.{DiskVolume, in_file}
 use Rattle.rbf_model.specs.Walk.{WalkEnd, arrives}
 use Rattle.rbf_change.specs.Calls.{shape}
 use Rattle.rbf_change.specs.Names.{deletion_end}
@@ -21,7 +21,7 @@ use Rattle.rbf_walk.specs.declared.error.DirError.TheVariants.{NotAllowed, BadPa
 use Rattle.rbf_walk.proofs.Stepping.{same_content}
 use Rattle.rbf_entries.specs.Deletions.{IsDeletable}
 use Rattle.rbf_entries.specs.declared.deletion.Deletable.{Deletable}
-use Rattle.rbf_entries.specs.Deleted.{AnswersDeletion, AnswersDeletionOf, IsHalfDeleted, DeletionStops, as_before, lost_now, MayBeDeleted, clusters_of, file_deletion_calls}
+use Rattle.rbf_entries.specs.Deleted.{AnswersDeletion, AnswersDeletionOf, IsHalfDeleted, DeletionStops, as_before, lost_now, MayBeDeleted, file_deletion_calls}
 
 -- no entry was made free
 pub kept_answer : (end : WalkEnd) (e : DirError) (r : Result (Unit {0}) DirError) → r ≡ Err e → AnswersWalk end (Err e) → AnswersDeletion end r
@@ -112,5 +112,5 @@ all_calls n m end k goes most same f s t w one other =
     (subst (λ x. MovesCounts f (n + x) s w) same (counts_then f n most s t w one other))
 
 -- of which the bound asks the volume
-pub file_marks : (v : DiskVolume) (n : ℕ) (file : DiskFile) → v.files n ≡ Some file → file_deletion_calls v n file ≡ 2 + marking_sectors (shape v) (clusters_of (shape v) n (v.files n))
-file_marks v n file is = ap (λ o. 2 + marking_sectors (shape v) (clusters_of (shape v) n o)) (sym is)
+pub file_marks : (v : DiskVolume) (n : ℕ) (file : DiskFile) → v.files n ≡ Some file → file_deletion_calls v n file ≡ 2 + marking_sectors (shape v) (in_file (shape v) n (v.files n))
+file_marks v n file is = ap (λ o. 2 + marking_sectors (shape v) (in_file (shape v) n o)) (sym is)

@@ -3,8 +3,7 @@ use Rattle.std.proofs.Common.{◌≡◌, ◌≤◌, ◌<◌, ℕ, zero, suc, ◌
 use Rattle.std.proofs.lemmas.Bool.{and_parts, leb-true}
 use Rattle.std.proofs.lemmas.List.{take_more, take_all}
 use Rattle.std.proofs.Math.Seq.{set-append_seam}
-use Rattle.os9_base.specs.Name.{is_stored_character, padded_name, IsName}
-use Rattle.rbf_change.specs.Names.{marked_name}
+use Rattle.os9_base.specs.Name.{is_stored_character, padded_name, IsName, marked_name}
 
 -- where a character stands
 got_at : (name : List ℕ) (n c : ℕ) → slice_get name n ≡ Some c → (n < length name) × (c ≡ get_or name n 0)

@@ -9,12 +9,12 @@ use Rattle.std.proofs.lemmas.List.Sums.{fails_before_first}
 use Rattle.std.proofs.lemmas.List.FromFn.{get_or-map-range_with_len, length-map-range_with_len}
 use Rattle.std.proofs.lemmas.Slice.Eq.{bytes_eq-Decides}
 use Rattle.std.proofs.Math.Nat.{mod-eq_of_lt}
-use Rattle.os9_base.specs.Name.{is_stored_character, low_bits, lower, marked_run, if_name, stored_name, padded_name, SameName, IsName}
+use Rattle.os9_base.specs.Name.{is_stored_character, low_bits, lower, marked_run, if_name, stored_name, padded_name, SameName, IsName, marked_name}
 use Rattle.rbf_model.specs.Fields.{directory_entry, descriptor_field, entry_name_field, is_used}
 use Rattle.rbf_model.specs.Tree.{HasEntry, IsProper}
 use Rattle.rbf_model.specs.Walk.{directory_entries, entry_has_name, same_names}
 use Rattle.rbf_model.specs.Writes.{IsNewEntry}
-use Rattle.rbf_change.specs.Names.{marked_name, new_entry, is_dots, place_of}
+use Rattle.rbf_change.specs.Names.{new_entry, is_dots, place_of}
 use Rattle.rbf_sector.proofs.Written.{big_from-behind}
 use Rattle.rbf_entries.proofs.EntryBytes.{stored_below, length_marked}
 

@@ -1,10 +1,10 @@
 -- Complete deletions.
-use Rattle.std.specs.Prelude.{◌≡◌, ◌≢◌, ◌⊎◌, ℕ, ◌+◌, ◌*◌, ◌%◌, ◌&&◌, Bool, false, Option, Some, None, List, [], ◌∷◌, Result, Ok, Err}
+use Rattle.std.specs.Prelude.{◌≡◌, ◌≢◌, ◌⊎◌, ℕ, ◌+◌, ◌*◌, ◌%◌, ◌&&◌, Bool, Option, Some, List, [], ◌∷◌, Result, Ok, Err}
 use Rattle.rbf_model.specs.File.{DiskFile}
-use Rattle.rbf_model.specs.Geometry.{Geometry, image_geometry, sector}
+use Rattle.rbf_model.specs.Geometry.{image_geometry, sector}
 use Rattle.rbf_model.specs.Laws.{IsMapSector}
 use Rattle.rbf_model.specs.Space.{is_whole, has_cluster}
-use Rattle.rbf_model.specs.Volume.{DiskVolume, Vol}
+use Rattle.rbf_model.specs.Volume.{DiskVolume, Vol, in_file}
 use Rattle.rbf_model.specs.Walk.{WalkEnd, arrives, not_allowed, not_found}
 use Rattle.rbf_model.specs.Writes.{put_at}
 use Rattle.rbf_change.specs.Calls.{shape}
@@ -111,15 +111,10 @@ AnswersDeletion end (Err (File (Device n))) = Unit
 AnswersDeletion end (Err (File NoCluster)) = ⊥
 AnswersDeletion end (Err (File TooManyRuns)) = ⊥
 
--- the clusters of file n, if there is one
-abbrev pub clusters_of : Geometry → ℕ → Option DiskFile → ℕ → Bool
-clusters_of g n None c = false
-clusters_of g n (Some file) c = has_cluster g n file c
-
 -- the greatest number of drive calls of a deletion: those of the search for the entry, and if the file is removed, a
 -- read and a write of the entry's sector, and one for each sector of the map that has a mark of the file's clusters
 abbrev pub deletion_total : DiskVolume → DiskFile → List ℕ → ℕ → Bool → ℕ
 deletion_total v dir name user execute =
     deletion_calls dir name user execute
     + calls_on (deletion_end v.files dir name user execute)
-    (λ n. 2 + marking_sectors (shape v) (clusters_of (shape v) n (v.files n)))
+    (λ n. 2 + marking_sectors (shape v) (in_file (shape v) n (v.files n)))

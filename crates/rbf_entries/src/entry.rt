@@ -1,7 +1,6 @@
 ghost use Rattle.std.specs.Prelude.{◌≡◌, ◌<◌, ◌++◌, [], ◌∷◌, Some, length, slice_get};
-ghost use Rattle.os9_base.specs.Name.{padded_name, IsName};
+ghost use Rattle.os9_base.specs.Name.{padded_name, IsName, marked_name};
 ghost use Rattle.rbf_change.specs.Names as model;
-ghost use Rattle.rbf_change.specs.Names.{marked_name};
 
 use os9_base::name::Name;
 use os9_base::registers::TimePacket;

@@ -1,19 +1,13 @@
 -- The answer of a walk, and the number of its drive calls.
 use Rattle.std.specs.Prelude.{◌≡◌, ℕ, ◌+◌, Bool, Option, Some, None, List, [], ◌∷◌, Result, Ok, Err, if◌then◌else◌}
 use Rattle.rbf_model.specs.File.{DiskFile}
-use Rattle.rbf_model.specs.Volume.{DiskVolume}
 use Rattle.rbf_model.specs.Walk.{WalkEnd, arrives, not_allowed, not_found, may_search, step}
 use Rattle.os9_base.specs.declared.errors.TheConstants.{E_FNA, E_BPNAM, E_PNNF, E_CEF}
 use Rattle.rbf_access.specs.Faults.{file_error}
 use Rattle.rbf_access.specs.declared.faults.FileFault.TheVariants.{Device, NoCluster, TooManyRuns}
-use Rattle.rbf_access.specs.Mounted.{Represents}
 use Rattle.rbf_walk.specs.Search.{sectors_searched}
 use Rattle.rbf_walk.specs.declared.error.DirError.{DirError}
 use Rattle.rbf_walk.specs.declared.error.DirError.TheVariants.{NotAllowed, BadPath, NotFound, Exists, File}
-
--- a fact about the volume that the media represents
-abbrev pub OnVolume : Option (List ℕ) → (DiskVolume → Type 0) → Type 0
-OnVolume media fact = (v : DiskVolume) → Represents media v → fact v
 
 -- the number of the drive's fault that a call reports, if any
 abbrev pub directory_fault : {A : Type 0} → Result A DirError → Option ℕ

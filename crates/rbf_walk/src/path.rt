@@ -1,8 +1,8 @@
 ghost use Rattle.std.specs.Prelude.{◌≡◌, ℕ, IfOk};
 ghost use Rattle.rbf_model.specs.Walk as model;
 ghost use Rattle.rbf_access.specs.Drive.{Counts};
-ghost use Rattle.rbf_access.specs.Mounted.{kept, HasFile, IsMounted};
-ghost use Rattle.rbf_walk.specs.Walk.{OnVolume, AnswersWalk, directory_fault, step_calls, walk_calls};
+ghost use Rattle.rbf_access.specs.Mounted.{kept, HasFile, IsMounted, OnVolume};
+ghost use Rattle.rbf_walk.specs.Walk.{AnswersWalk, directory_fault, step_calls, walk_calls};
 
 use crate::directory::{Searched, search};
 use crate::error::DirError;

@@ -8,7 +8,7 @@ use Rattle.std.proofs.lemmas.List.{length-replicate}
 use Rattle.std.proofs.lemmas.List.Elements.{filter_agree}
 use Rattle.std.proofs.lemmas.List.FromFn.{length-map-range_with_len, length-range_with_len}
 use Rattle.std.proofs.lemmas.List.Quantifiers.{position-Some}
-use Rattle.os9_base.specs.Name.{padded_name}
+use Rattle.os9_base.specs.Name.{padded_name, marked_name}
 use Rattle.rbf_model.specs.Fields.{directory_entry, is_used}
 use Rattle.rbf_model.specs.File.{DiskFile}
 use Rattle.rbf_model.specs.Segments.{appended_segments, has, sectors_of}
@@ -24,7 +24,7 @@ use Rattle.rbf_segs.proofs.Runs.{append_nil, sectors_of-appended}
 use Rattle.rbf_change.specs.Calls.{cluster_size, day_of, free_total, is_free_in, minute_of, shape, written_file}
 use Rattle.rbf_change.specs.Contents.{sector_count, written}
 use Rattle.rbf_change.specs.Growth.{IsChoice, clusters_needed, free_beside, uses, with_clusters}
-use Rattle.rbf_change.specs.Names.{entry_place, marked_name, new_entry}
+use Rattle.rbf_change.specs.Names.{entry_place, new_entry}
 use Rattle.rbf_change.specs.NewFiles.{IsEntered, IsNewFile, Plan, entry_clusters, file_clusters, first_segments, free_but, free_without}
 use Rattle.file_laws.proofs.Volumes.{fresh, unused}
 use Rattle.run_laws.specs.Mounted.{HasNumbers}

@@ -1,4 +1,5 @@
 -- What an attempt, an end and a signal make of the keys of a terminal.
+use Rattle.io_model.specs.Read.{read_call}
 use Rattle.std.proofs.Common.{◌≡◌, ◌≢◌, ◌⊎◌, ℕ, zero, suc, ◌<◌, ◌==◌, Bool, true, false, Option, Some, None, List, [], ◌∷◌, ◌++◌, length, slice_get, slice_set, refl, sym, ap, ◌∙◌, subst, inl, inr, append_assoc}
 use Rattle.std.specs.Prelude.{slice_index_or, if◌then◌else◌}
 use Rattle.std.specs.Option.{option_map_or}
@@ -38,7 +39,7 @@ use Rattle.io_model.specs.declared.io_call.Direction.TheVariants.{Writing}
 use Rattle.io_model.specs.declared.io_call.Direction.TheVariants as Way
 use Rattle.io_model.specs.declared.io_call.IoCall.{IoCall}
 use Rattle.call_laws.proofs.StepWalk.{StepGives}
-use Rattle.stream_laws.specs.Keys.{LineGoes, LineStays, UsesNone, read_call, reading_of}
+use Rattle.stream_laws.specs.Keys.{LineGoes, LineStays, UsesNone, reading_of}
 use Rattle.stream_laws.proofs.KeyReads.{IsReadOn, ReadsOn, StepReads, one-target}
 use Rattle.stream_laws.proofs.KeyWrites.{OnTerminal, StepWrites}
 

@@ -1,4 +1,5 @@
 -- What becomes of the keys of a terminal in an event.
+use Rattle.io_model.specs.Read.{read_call}
 use Rattle.std.proofs.Common.{◌≡◌, ◌⊎◌, ℕ, ◌+◌, ◌≤◌, Some, None, Result, Ok, Err, List, [], ◌++◌, length, refl, sym, ap, ◌∙◌, subst, inl, inr, arith}
 use Rattle.std.proofs.lemmas.List.{length-append}
 use Rattle.std.proofs.lemmas.Option.{same_Some}
@@ -31,7 +32,7 @@ use Rattle.machine_model.specs.declared.ends.EventEnd.{EventEnd}
 use Rattle.machine_model.specs.declared.ends.EventEnd.TheVariants.{Ended, Ran, Waits}
 use Rattle.machine_model.specs.ProcessEvent.{call_event_end, delivery_end, instruction_end, next_instruction}
 use Rattle.call_laws.proofs.StepWalk.{StepGives, step-gives}
-use Rattle.stream_laws.specs.Keys.{KeyMove, LineGoes, LineStays, UsesNone, read_call, reading_of, stay, use_up, DropsLine, EventKeys, HasAhead, ReadEnds, ReaderStops, ReadsFrom, StopsReading, WriteFails, ahead_at, keys_to_come}
+use Rattle.stream_laws.specs.Keys.{KeyMove, LineGoes, LineStays, UsesNone, reading_of, stay, use_up, DropsLine, EventKeys, HasAhead, ReadEnds, ReaderStops, ReadsFrom, StopsReading, WriteFails, ahead_at, keys_to_come}
 use Rattle.stream_laws.proofs.CallCodes.{none-delivering, none-executing, same-code}
 use Rattle.stream_laws.proofs.KeyAttempts.{AheadLeft, Ends, Failed, IsReader, Moved, TermLeft, WriteRefused, closed-terminals, come_of, does-come, does-moves, ended-drops, ended-left, interrupted-drops, interrupted-left, left-for, left-same, term-for}
 use Rattle.stream_laws.proofs.KeyReads.{step-reads}

@@ -18,7 +18,7 @@ use Rattle.io_model.specs.Attempts.{io_step}
 use Rattle.io_model.specs.Codes.{direction_of_call}
 use Rattle.io_model.specs.Io.{Io, OpenPath, pending_at, open_path}
 use Rattle.io_model.specs.Modes.{can_read}
-use Rattle.io_model.specs.Read.{reads_path, reads_target}
+use Rattle.io_model.specs.Read.{reads_path, reads_target, read_call}
 use Rattle.io_model.specs.Step.{Caller, IoStep, answers, refused, comes, reads, writes, leaves, needs, refuses, done, TerminalRead}
 use Rattle.io_model.specs.Terminals.{request_of}
 use Rattle.io_model.specs.Transfer.{call_now, first_call, on_path, unless_nothing}
@@ -26,7 +26,7 @@ use Rattle.io_model.specs.declared.io_call.Direction.TheVariants as Way
 use Rattle.io_model.specs.declared.io_call.IoCall.{IoCall}
 use Rattle.io_model.specs.declared.io_call.IoCall.TheVariants as Call
 use Rattle.call_laws.proofs.StepWalk.{StepGives}
-use Rattle.stream_laws.specs.Keys.{asked_by, read_call, reading_of}
+use Rattle.stream_laws.specs.Keys.{asked_by, reading_of}
 
 -- a read of this kind reads the terminal that its path was opened on, for as many bytes as its call asks for
 pub record IsReadOn (kind : ReadKind) (caller : Caller) (io : Io) (read : TerminalRead) : Type 0 where

@@ -1,4 +1,5 @@
 -- What an attempt of a call on paths moves through a pipe: each call by its code.
+use Rattle.call_laws.specs.Refusals.{sent_by}
 use Rattle.std.proofs.Common.{◌≡◌, ◌≢◌, ◌⊎◌, ℕ, zero, suc, ◌+◌, ◌<◌, ◌≤◌, ◌==◌, not, Bool, true, false, Option, Some, None, IsSome, is_none, Result, Ok, Err, List, [], ◌∷◌, ◌++◌, length, take, drop, position, get_or, refl, sym, ap, ◌∙◌, subst, inl, inr, arith}
 use Rattle.std.specs.Prelude.{min, option_map, unwrap_or, ◌||◌, if◌then◌else◌}
 use Rattle.std.specs.Option.{option_map_or}
@@ -37,7 +38,7 @@ use Rattle.io_model.specs.Modes.{can_read, can_write, is_mode}
 use Rattle.io_model.specs.Open.{begins, opened_regs, opens_lead, reads_list}
 use Rattle.io_model.specs.PathList.{PathList, path_list}
 use Rattle.io_model.specs.Pipes.{after_adding, after_taking, count_regs, read_leaves, read_line_leaves, write_leaves, writes_pipe}
-use Rattle.io_model.specs.Read.{pipe_read, reads_target}
+use Rattle.io_model.specs.Read.{pipe_read, reads_target, read_call}
 use Rattle.io_model.specs.Status.{gets_end, gets_options, gets_ready, gets_status, options, ready_count}
 use Rattle.io_model.specs.Step.{Caller, IoEffect, IoEnd, IoStep, answers, fails, keeps, refused, comes, reads, writes, leaves, needs, refuses, done, stores}
 use Rattle.io_model.specs.Transfer.{call_now, first_call, on_path, unless_nothing}
@@ -48,8 +49,7 @@ use Rattle.io_model.specs.declared.io_call.IoCall.{IoCall}
 use Rattle.io_model.specs.declared.io_call.IoCall.TheVariants as Call
 use Rattle.io_model.specs.declared.modes.TheConstants.{STANDARD_ERROR}
 use Rattle.io_model.specs.declared.status.TheConstants.{SS_OPT, SS_READY, SS_EOF, OPTION_BYTES}
-use Rattle.stream_laws.specs.Flow.{MovesNone, ReadCounts, WriteCounts, in_all, moved_before, read_answers, sent_by, stored_from, write_answers}
-use Rattle.stream_laws.specs.Keys.{read_call}
+use Rattle.stream_laws.specs.Flow.{MovesNone, ReadCounts, WriteCounts, in_all, moved_before, read_answers, stored_from, write_answers}
 
 -- ---- one pipe of many
 

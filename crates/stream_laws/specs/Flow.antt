@@ -1,4 +1,5 @@
 -- What events move through a pipe (Level Two manual, "Pipes").
+use Rattle.call_laws.specs.Refusals.{sent_by}
 use Rattle.std.specs.Prelude.{◌≡◌, ◌≢◌, ℕ, ⊤, ◌+◌, ◌-◌, ◌<◌, Option, Some, None, List, [], ◌∷◌, ◌++◌, length, map, take, drop, if◌then◌else◌}
 use Rattle.std.specs.List.{AllByRecursion, filter_map, flat_map}
 use Rattle.std.specs.Option.{option_map_or}
@@ -10,7 +11,6 @@ use Rattle.proc_model.specs.Attempts.{after_attempt, refused_regs}
 use Rattle.proc_model.specs.Delivery.{frame_bytes, stack_top}
 use Rattle.proc_model.specs.Processes.{Processes, regs_at}
 use Rattle.proc_model.specs.Ready.{attempts, delivers, act_of}
-use Rattle.proc_model.specs.UserBytes.{user_bytes}
 use Rattle.io_model.specs.Pipe.{Flows, IsPipe, Movement, In, Out, came_in, pipe_of, pipe_room, went_out}
 use Rattle.io_model.specs.declared.pending.PendingCall.{PendingCall}
 use Rattle.io_model.specs.declared.path.Target.TheVariants.{Pipe}
@@ -20,7 +20,6 @@ use Rattle.io_model.specs.Codes.{direction_of_call, io_call_of}
 use Rattle.io_model.specs.Io.{Io, OpenPath, pending_at, open_path, pipe_bytes, target_of}
 use Rattle.io_model.specs.Pipes.{count_regs}
 use Rattle.io_model.specs.Step.{Caller, IoEffect, IoEnd, answers, fails, keeps}
-use Rattle.io_model.specs.Write.{error_line, line_bytes}
 use Rattle.io_model.specs.declared.io_call.Direction.{Direction}
 use Rattle.io_model.specs.declared.io_call.Direction.TheVariants.{Reading, Writing}
 use Rattle.io_model.specs.declared.io_call.IoCall.{IoCall}
@@ -39,13 +38,6 @@ moved_before io p = option_map_or (λ pending. pending.moved) (pending_at io p) 
 abbrev pub stored_from : IoCall → Regs → ℕ → ℕ
 stored_from Call.ReadLn regs moved = regs.x + moved
 stored_from call regs moved = regs.x
-
--- the bytes that a call sends in all
-abbrev pub sent_by : IoCall → Caller → Io → Option (List ℕ)
-sent_by Call.Write caller io = user_bytes caller.cells caller.regs.x caller.regs.y
-sent_by Call.WritLn caller io = line_bytes caller (pending_at io caller.process.0)
-sent_by Call.PErr caller io = Some (error_line caller.regs.b)
-sent_by call caller io = None
 
 -- a process attempts a call that moves bytes this way, whose path was opened on this pipe
 pub record AttemptsOn (s : State) (p n : ℕ) (call : IoCall) (way : Direction) : Type 0 where

@@ -1,4 +1,5 @@
 -- The use of the keys of a terminal (Level Two manual, SCF).
+use Rattle.io_model.specs.Read.{read_call}
 use Rattle.std.specs.Prelude.{◌≡◌, ◌≢◌, ◌⊎◌, ℕ, ◌-◌, ◌<◌, ◌≤◌, min, true, false, Option, Some, None, List, [], ◌∷◌, ◌++◌, length, slice_get, take}
 use Rattle.std.specs.List.{AllByRecursion, filter_map, flat_map}
 use Rattle.std.specs.Option.{option_map_or}
@@ -15,7 +16,6 @@ use Rattle.io_model.specs.Terminal.{Terminal, is_taken, key_bytes, reader, typed
 use Rattle.io_model.specs.declared.edit.LineEnd.TheVariants.{EndOfFile, Line}
 use Rattle.io_model.specs.declared.path.Target.TheVariants.{Term}
 use Rattle.io_model.specs.declared.terminal.ReadKind.{ReadKind}
-use Rattle.io_model.specs.declared.terminal.ReadKind.TheVariants.{Bytes, WholeLine}
 use Rattle.io_model.specs.declared.terminal.Reading.{Reading}
 use Rattle.io_model.specs.declared.terminal.TheConstants.{TYPE_AHEAD}
 use Rattle.io_model.specs.Again.{path_number}
@@ -100,11 +100,6 @@ pub record KeysArrive (n : ℕ) (s : State) (keys : List Key) (t : State) : Type
   pub line : LineStays (terminal_at s.files.io n) (terminal_at t.files.io n)
 
 -- ---- events
-
--- the call of this kind of read
-abbrev pub read_call : ReadKind → IoCall
-read_call Bytes = Call.Read
-read_call WholeLine = Call.ReadLn
 
 -- the number of bytes that a read of a process with these registers asks for: that of the pending call, or Y at its
 -- first attempt

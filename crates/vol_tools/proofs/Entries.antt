@@ -8,12 +8,12 @@ use Rattle.std.proofs.lemmas.List.Folds.{find_at}
 use Rattle.std.proofs.lemmas.List.FromFn.{get_or-map-range_with_len, length-map-range_with_len}
 use Rattle.std.proofs.lemmas.List.Quantifiers.{position-Some}
 use Rattle.std.proofs.lemmas.Option.{none-some, same_Some, slice_get-get_or}
-use Rattle.os9_base.specs.Name.{is_name_character, padded_name}
+use Rattle.os9_base.specs.Name.{is_name_character, padded_name, marked_name}
 use Rattle.rbf_model.specs.Fields.{directory_entry, descriptor_field}
 use Rattle.rbf_model.specs.File.{DiskFile, is_directory}
 use Rattle.rbf_model.specs.Volume.{DiskVolume}
 use Rattle.rbf_model.specs.Walk.{WalkEnd, arrives, not_allowed, directory_entries, entry_has_name, file_permits, look_up, may_search}
-use Rattle.rbf_change.specs.Names.{deletion_end, deletion_of, entry_place, is_dots, marked_name, may_change, may_delete, new_entry, place_of}
+use Rattle.rbf_change.specs.Names.{deletion_end, deletion_of, entry_place, is_dots, may_change, may_delete, new_entry, place_of}
 use Rattle.rbf_change.specs.NewFiles.{Deletes, Refusal, bad_path, exists}
 use Rattle.rbf_change.specs.NewFiles as new
 use Rattle.rbf_entries.specs.Entering.{Entering, refusal_of}

@@ -1,9 +1,8 @@
 ghost use Rattle.std.specs.Prelude.{◌≡◌, ◌&&◌, IfOk};
 ghost use Rattle.rbf_model.specs.File.{DiskFile};
 ghost use Rattle.rbf_model.specs.Walk.{file_permits};
-ghost use Rattle.rbf_access.specs.Mounted.{IsMounted};
+ghost use Rattle.rbf_access.specs.Mounted.{IsMounted, OnVolume};
 ghost use Rattle.rbf_access.specs.Reading.{IsFdOf, OnFile};
-ghost use Rattle.rbf_walk.specs.Walk.{OnVolume};
 ghost use Rattle.vol_tools.specs.Faults.{Faults, tool_fault};
 ghost use Rattle.vol_tools.specs.Opening.{AnswersBytes, AnswersOpening, HasOpened, is_of_kind};
 

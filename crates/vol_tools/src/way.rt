@@ -1,6 +1,5 @@
 ghost use Rattle.std.specs.Prelude.{◌≡◌, IfOk};
-ghost use Rattle.rbf_access.specs.Mounted.{HasFile, IsMounted};
-ghost use Rattle.rbf_walk.specs.Walk.{OnVolume};
+ghost use Rattle.rbf_access.specs.Mounted.{HasFile, IsMounted, OnVolume};
 ghost use Rattle.vol_tools.specs.Numbers.{way_end};
 ghost use Rattle.vol_tools.specs.Answers.{AnswersWay};
 ghost use Rattle.vol_tools.specs.Faults.{Faults, tool_fault};

@@ -1,3 +1,4 @@
+use Rattle.proc_model.specs.Memory.{with_modules}
 use Rattle.std.proofs.Common.{◌≡◌, ℕ, Err, subst, sym, true, arith}
 use Rattle.std.proofs.lemmas.Result.{err_from_is_err_and}
 use Rattle.proc_model.specs.Loading.{EntersModules, at_end, broken, refused, entered, with_module}
@@ -5,7 +6,6 @@ use Rattle.proc_model.specs.Module.{step_from}
 use Rattle.proc_model.specs.declared.module.ModuleStep.TheVariants.{Module}
 use Rattle.proc_model.proofs.LoadingLemmas.{LiesIn-step}
 use Rattle.machine_model.specs.ProcessStart.{boot_group}
-use Rattle.cold_start.specs.Booting.{with_modules}
 use Rattle.cold_start.proofs.boot.enter_others.Goals as goal
 use Rattle.cold_start.proofs.boot.enter_others.Goals.{In-Some}
 

@@ -8,13 +8,13 @@ use Rattle.io_model.specs.declared.pending.PendingCall.{PendingCall}
 use Rattle.io_model.specs.declared.terminal.ReadKind.{ReadKind}
 use Rattle.io_model.specs.Attempts.{caller_of}
 use Rattle.io_model.specs.Io.{OpenPath, pending_at}
-use Rattle.io_model.specs.Read.{pipe_read, reads_target}
+use Rattle.io_model.specs.Read.{pipe_read, reads_target, IsReadAllowed}
 use Rattle.io_model.specs.Step.{comes, done, refused}
 use Rattle.io_state.specs.Sound.{IsNoRead}
 use Rattle.device_io.proofs.MovingLemmas.{called-read, called-regs, kept-none, stays-read}
 use Rattle.device_io.proofs.PassingLemmas.{reads-nothing, reads-on, unnamed, unopened, unreadable}
 use Rattle.device_io.proofs.TryingLemmas.{tries-comes, tries-done, tries-refused, tries-same}
-use Rattle.device_io.specs.Moving.{StaysRead, read_step}
+use Rattle.device_io.specs.Moving.{read_step}
 use Rattle.device_io.proofs.stream_reads.read.Goals as goal
 
 -- ---- a pending read is not refused
@@ -22,7 +22,7 @@ use Rattle.device_io.proofs.stream_reads.read.Goals as goal
 pub refuse-requires-clause-no_read : goal.refuse-requires-clause-no_read
 refuse-requires-clause-no_read g c =
     let p = c.args.by.p.0 in
-    kept-none (pending_at c.args.io.now p) (λ (call : PendingCall). StaysRead (cells_of c.args.s.now.memory p) c.args.by.regs c.args.io.now p) (λ (call : PendingCall). IsNoRead c.args.io.now call)
+    kept-none (pending_at c.args.io.now p) (λ (call : PendingCall). IsReadAllowed (cells_of c.args.s.now.memory p) c.args.by.regs c.args.io.now p) (λ (call : PendingCall). IsNoRead c.args.io.now call)
     (stays-read c.args.kind c.args.by c.args.s.now c.args.io.now _ c.requires.calls c.requires.may)
     (λ call stays. false≢true (sym c.if-not-is_named.true ∙ c.is_named.ensures.fits.1 stays.named))
 

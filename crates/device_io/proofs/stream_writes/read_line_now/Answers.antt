@@ -1,3 +1,4 @@
+use Rattle.os9_base.specs.UserLines.{line_at}
 use Rattle.std.proofs.Common.{◌∙◌, ◌<◌, None, Option, ap, sym, subst}
 use Rattle.std.specs.Prelude.{IfSome}
 use Rattle.os9_base.specs.declared.registers.Regs.{Regs}
@@ -5,9 +6,7 @@ use Rattle.proc_model.specs.Processes.{cells_at}
 use Rattle.io_model.specs.declared.pending.PendingCall.{PendingCall}
 use Rattle.io_model.specs.Attempts.{caller_of}
 use Rattle.io_model.specs.Io.{pending_at}
-use Rattle.io_model.specs.Transfer.{line_at}
 use Rattle.io_model.specs.Write.{line_bytes}
-use Rattle.device_io.proofs.LineLemmas.{line-same}
 use Rattle.device_io.proofs.MovingLemmas.{called-regs}
 use Rattle.device_io.proofs.ReadingLemmas.{read-all}
 use Rattle.device_io.proofs.stream_writes.read_line_now.Goals as goal
@@ -17,7 +16,6 @@ returns-in-None-read_line-clause-first c m tied none =
     let cells = cells_at m c.args.by.p.0 in
     let same = called-regs c.args.by c.args.s.now m c.requires tied in
     ap (λ (r : Regs). line_at cells r.x r.y) (sym same)
-    ∙ sym (line-same cells c.args.by.regs.x c.args.by.regs.y)
     ∙ c.in-None-read_line.ensures.line m tied
 
 pub returns-in-Some-read_line-clause-first : goal.returns-in-Some-read_line-clause-first
@@ -25,7 +23,6 @@ returns-in-Some-read_line-clause-first c m tied none =
     let cells = cells_at m c.args.by.p.0 in
     let same = called-regs c.args.by c.args.s.now m c.requires tied in
     ap (λ (r : Regs). line_at cells r.x r.y) (sym same)
-    ∙ sym (line-same cells c.args.by.regs.x c.args.by.regs.y)
     ∙ c.in-Some-read_line.ensures.line m tied
 
 pub returns-in-None-read_line-clause-line : goal.returns-in-None-read_line-clause-line
@@ -35,7 +32,6 @@ returns-in-None-read_line-clause-line c m tied =
     read-all c.args.io.now c.args.by.p.0 c.args.by.regs.a (line_bytes (caller_of m c.args.by.p.0) (pending_at c.args.io.now c.args.by.p.0)) None c.read_line.new.self.buffer.items
     (ap (λ (pending : Option PendingCall). line_bytes (caller_of m c.args.by.p.0) pending) (sym c.in-None.ensures.kept)
     ∙ ap (λ (r : Regs). line_at cells r.x r.y) (sym same)
-    ∙ sym (line-same cells c.args.by.regs.x c.args.by.regs.y)
     ∙ c.in-None-read_line.ensures.line m tied)
 
 pub returns-in-Some-read_line-clause-line : goal.returns-in-Some-read_line-clause-line
@@ -45,7 +41,6 @@ returns-in-Some-read_line-clause-line c m tied =
     read-all c.args.io.now c.args.by.p.0 c.args.by.regs.a (line_bytes (caller_of m c.args.by.p.0) (pending_at c.args.io.now c.args.by.p.0)) _ c.read_line.new.self.buffer.items
     (ap (λ (pending : Option PendingCall). line_bytes (caller_of m c.args.by.p.0) pending) (sym c.in-None.ensures.kept)
     ∙ ap (λ (r : Regs). line_at cells r.x r.y) (sym same)
-    ∙ sym (line-same cells c.args.by.regs.x c.args.by.regs.y)
     ∙ c.in-Some-read_line.ensures.line m tied)
 
 -- a call that waits has a byte left to move
