@@ -13,7 +13,7 @@ use Rattle.asm_model.specs.Statements.{Action, label_alone, instruction, module_
 use Rattle.asm_model.specs.Placement.{FieldText, Reached, action_length, action_values, term_value, value_at}
 use Rattle.asm_text.specs.Tails.{tail_by}
 use Rattle.asm_lines.specs.declared.table.Labels.{Labels}
-use Rattle.asm_lines.specs.Labels.{Holds, expression_in, term_in, is_filled_in, is_text_filled_in}
+use Rattle.asm_lines.specs.Labels.{HoldsLabels, expression_in, term_in, is_filled_in, is_text_filled_in}
 use Rattle.asm_lines.proofs.LabelLemmas.{expression-same, list_all-same}
 use Rattle.asm6809.specs.Assembled.{action_bytes, byte_there, word_there, is_filled, is_text_filled, placed_at}
 use Rattle.asm6809.specs.Bytes.{action_bytes_in, byte_in, word_in}
@@ -26,7 +26,7 @@ flat-same : {A B : Type 0} (f g : A → List B) → ((x : A) → f x ≡ g x) �
 flat-same f g same [] = refl
 flat-same f g same (x ∷ xs) = ap (λ y. y ++ flat_map f xs) (same x) ∙ ap (λ ys. g x ++ ys) (flat-same f g same xs)
 
-module _ (table : Labels) (m : Reached) (n : ℕ) (holds : Holds table m.labels) where
+module _ (table : Labels) (m : Reached) (n : ℕ) (holds : HoldsLabels table m.labels) where
   same : (text : List ℕ) → expression_in table (Some n) text ≡ value_at m.labels (Some n) text
   same text = expression-same table m.labels (Some n) text holds
 

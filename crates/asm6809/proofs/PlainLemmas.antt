@@ -12,7 +12,7 @@ use Rattle.cpu_model.specs.declared.instruction.Tail.{Tail}
 use Rattle.cpu_model.specs.declared.instruction.Tail.TheVariants.{Empty, Byte}
 use Rattle.cpu_model.specs.Reading.{Extent, none, byte, word, extent_of_form}
 use Rattle.cpu_model.specs.Table.{postbyte, plain_postbyte, row}
-use Rattle.cpu_table.specs.Spelling.{HasExtent, HasOperand, plain_post, prefix, tail_bytes, spelling, IsPlain}
+use Rattle.cpu_table.specs.Spelling.{HasExtent, HasOperand, plain_post, prefix, tail_bytes, spelling, IsPlainInstr}
 use Rattle.asm_model.specs.declared.operand.Wanted.{Wanted}
 use Rattle.asm_model.specs.declared.operand.Wanted.TheVariants.{Nothing, Fixed, Value}
 use Rattle.asm_model.specs.declared.operand.Field.{Field}
@@ -139,7 +139,7 @@ entry_row name m e is = on_elements (λ e. row e.page e.line.opcode) (λ e. Some
 
 module _ (meaning : Term → Option ℤ) (next : ℕ) (tail : Tail) where
   row_is_plain : (page : Page) (opcode : ℕ) (r : Row) (text : List ℕ) (o : Operand) → row page opcode ≡ Some r → row_operand r text ≡ Some o →
-      tail_by meaning o.wanted next o.expression ≡ Some tail → IsPlain (record { page = page; opcode = opcode; post = o.post; tail = tail })
+      tail_by meaning o.wanted next o.expression ≡ Some tail → IsPlainInstr (record { page = page; opcode = opcode; post = o.post; tail = tail })
   unfolding row_operand
   row_is_plain page opcode r text o is read fills =
       let m = operand_sound o r.0 r.1 text read in
@@ -149,19 +149,19 @@ module _ (meaning : Term → Option ℤ) (next : ℕ) (tail : Tail) where
       )
 
   module _ (s : Shape) (fills : tail_by meaning s.operand.wanted next s.operand.expression ≡ Some tail) (text : List ℕ) where
-    shaped : (e : Entry) (o : Option Operand) → row e.page e.line.opcode ≡ Some e.line.row → row_operand e.line.row text ≡ o → option_map (shape_with e) o ≡ Some s → IsPlain (with_tail s tail)
+    shaped : (e : Entry) (o : Option Operand) → row e.page e.line.opcode ≡ Some e.line.row → row_operand e.line.row text ≡ o → option_map (shape_with e) o ≡ Some s → IsPlainInstr (with_tail s tail)
     shaped e None is read whole = absurd (cc)
     shaped e (Some o) is read whole =
         let same : shape_with e o ≡ s = cc in
-        subst (λ (t : Shape). tail_by meaning t.operand.wanted next t.operand.expression ≡ Some tail → IsPlain (with_tail t tail)) same
+        subst (λ (t : Shape). tail_by meaning t.operand.wanted next t.operand.expression ≡ Some tail → IsPlainInstr (with_tail t tail)) same
         (λ fills. row_is_plain e.page e.line.opcode e.line.row text o is read fills) fills
 
     entered : (name : List ℕ) (e : Option Entry) → entry_of name (mark_of text) ≡ e → option_and_then (λ e. option_map (shape_with e) (row_operand e.line.row text)) e ≡ Some s →
-        IsPlain (with_tail s tail)
+        IsPlainInstr (with_tail s tail)
     entered name None is whole = absurd (cc)
     entered name (Some e) is whole = shaped e (row_operand e.line.row text) (entry_row name (mark_of text) e is) refl whole
 
-    pub shape_plain : (name : List ℕ) → shape_of name text ≡ Some s → IsPlain (with_tail s tail)
+    pub shape_plain : (name : List ℕ) → shape_of name text ≡ Some s → IsPlainInstr (with_tail s tail)
     shape_plain name is = entered name (entry_of name (mark_of text)) refl is
 
   post_fits : (post : Option ℕ) → post_length post ≡ length (option_to_list post)

@@ -13,7 +13,7 @@ use Rattle.proc_model.specs.CrcModel.{crc_of}
 use Rattle.cpu_model.specs.declared.instruction.Tail.{Tail}
 use Rattle.cpu_model.specs.declared.instruction.Tail.TheVariants.{Empty, Byte}
 use Rattle.cpu_model.specs.Reading.{reading}
-use Rattle.cpu_table.specs.Spelling.{spelling, IsPlain}
+use Rattle.cpu_table.specs.Spelling.{spelling, IsPlainInstr}
 use Rattle.cpu_table.proofs.Read.{plain_read}
 use Rattle.module_format.specs.GuestModule.{crc_bytes, kind_header_length}
 use Rattle.asm_model.specs.declared.operand.Wanted.{Wanted}
@@ -22,7 +22,7 @@ use Rattle.asm_model.specs.Instructions.{Shape, shape_length, with_tail}
 use Rattle.asm_model.specs.Statements.{Action, label_alone, instruction, module_start, module_end, equals, byte_list, word_list, characters, system_call, ModuleFields, LineRead, skipped, broken, stated}
 use Rattle.asm_model.specs.Placement.{Reached, action_length, is_start, is_end, term_value, wanted_values}
 use Rattle.asm_text.specs.Tails.{tail_by}
-use Rattle.asm6809.specs.Assembled.{Placed, placed_at, placed_from, actions_of, byte_there, word_there, instr_there, action_bytes, code_of, start_of, first_start, is_empty, is_closed, is_framed, is_text_filled, is_filled, kind_of, StandAt, action_stands, Stands}
+use Rattle.asm6809.specs.Assembled.{Placed, placed_at, placed_from, actions_of, byte_there, word_there, instr_there, action_bytes, code_of, start_of, first_start, is_empty, is_closed, is_framed, is_text_filled, is_filled, kind_of, StandAt, action_stands, HasStatement}
 use Rattle.asm6809.proofs.ShapeLemmas.{IsShaped, AreShaped}
 use Rattle.asm6809.proofs.PlainLemmas.{shape_plain, spelled_long}
 
@@ -54,7 +54,7 @@ module _ (all : Reached) (n : ℕ) (s : Shape) (shaped : IsShaped (instruction s
   instruction-long : length (action_bytes all n (instruction s)) ≡ shape_length s
   instruction-long = ap length spelled ∙ long
 
-  plain_is : IsPlain (with_tail s known.0)
+  plain_is : IsPlainInstr (with_tail s known.0)
   plain_is = shape_plain (term_value all.labels (Some n)) (n + shape_length s) known.0 s known.1 shaped.1 shaped.0 shaped.2
 
   instruction-stands : (bytes rest : List ℕ) → drop n bytes ≡ action_bytes all n (instruction s) ++ rest → action_stands all bytes n (instruction s)
@@ -122,7 +122,7 @@ module _ (all : Reached) (body : List ℕ) where
 
   -- each of these statements stands at its offset, and the last ends the module
   pub record Stood (n : ℕ) (ps : List Placed) : Type 0 where
-    pub stand : All (Stands all bytes) ps
+    pub stand : All (HasStatement all bytes) ps
     pub ends : n + sum_by (λ p. action_length p.action) ps ≡ length bytes
 
   onward : (action : Action) (n : ℕ) (ps : List Placed) → IsShaped action → is_start action ≡ false → is_end action ≡ false →
@@ -140,7 +140,7 @@ module _ (all : Reached) (body : List ℕ) where
       let room : n + action_length action ≤ length bytes = omega (arith, length-drop n bytes, left, behind.room) in
       let stood : Stood (n + action_length action) ps = go_on (record { filled = fills.1; there = next; room = room }) in
       record {
-        stand = All-cons (Stands all bytes) (placed_at n action) ps (stands-here all n bytes rest action shaped fills.0 no_start no_end there) stood.stand;
+        stand = All-cons (HasStatement all bytes) (placed_at n action) ps (stands-here all n bytes rest action shaped fills.0 no_start no_end there) stood.stand;
         ends = omega (arith, sum_by-cons (λ (p : Placed). action_length p.action) (placed_at n action) ps, stood.ends);
       }
 
@@ -153,7 +153,7 @@ module _ (all : Reached) (body : List ℕ) where
       let stands : StandAt bytes n (crc_bytes (crc_of (take n bytes))) =
       subst (λ (b : List ℕ). StandAt bytes n (crc_bytes (crc_of b))) (sym above) (ap (take 3) there) in
       record {
-        stand = All-cons (Stands all bytes) (placed_at n module_end) [] stands (All-nil (Stands all bytes));
+        stand = All-cons (HasStatement all bytes) (placed_at n module_end) [] stands (All-nil (HasStatement all bytes));
         ends = all_there;
       }
 
@@ -199,7 +199,7 @@ module _ (all : Reached) (body : List ℕ) where
       let stood : Stood (0 + action_length (module_start f)) (placed_from (0 + action_length (module_start f)) ls) =
       walk ls (0 + action_length (module_start f)) shaped closed (record { filled = parts.1; there = begins.code; room = begins.room }) in
       record {
-        stand = All-cons (Stands all bytes) (placed_at 0 (module_start f)) (placed_from (0 + action_length (module_start f)) ls) begins.name stood.stand;
+        stand = All-cons (HasStatement all bytes) (placed_at 0 (module_start f)) (placed_from (0 + action_length (module_start f)) ls) begins.name stood.stand;
         ends = omega (arith, sum_by-cons (λ (p : Placed). action_length p.action) (placed_at 0 (module_start f)) (placed_from (0 + action_length (module_start f)) ls), stood.ends);
       }
   first label_alone ls m shaped closed is fills follows = absurd (cc)

@@ -199,8 +199,8 @@ action_stands all bytes offset (module_start m) =
 action_stands all bytes offset module_end = StandAt bytes offset (crc_bytes (crc_of (take offset bytes)))
 action_stands all bytes offset action = StandAt bytes offset (action_bytes all offset action)
 
-abbrev pub Stands : Reached → List ℕ → Placed → Type 0
-Stands all bytes p = action_stands all bytes p.offset p.action
+abbrev pub HasStatement : Reached → List ℕ → Placed → Type 0
+HasStatement all bytes p = action_stands all bytes p.offset p.action
 
 -- the header says what `mod` says, and a program begins at `start`
 pub record Says (all : Reached) (m : ModuleFields) (info : ModuleInfo) : Type 0 where
@@ -224,6 +224,6 @@ pub record Assembled (source bytes : List ℕ) : Type 0 where
   pub says : IsSomeAnd (first_start (actions_of (source_lines source)))
       (λ m. Says (reached_by source) m (info_at 0 bytes))
   -- each statement is at its offset
-  pub stands : All (Stands (reached_by source) bytes) (placed source)
+  pub stands : All (HasStatement (reached_by source) bytes) (placed source)
   -- and there is nothing between or after them
   pub ends : sum_by (λ p. action_length p.action) (placed source) ≡ length bytes

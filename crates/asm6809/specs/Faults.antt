@@ -6,10 +6,10 @@ use Rattle.asm6809.specs.declared.assembler.AsmFault.{AsmFault}
 use Rattle.asm6809.specs.declared.assembler.AsmFault.TheVariants.{Line, OutOfMemory}
 
 -- a fact of the line and the rule that an answer names, if it names one
-abbrev pub OnLine : {T : Type 0} → Result T AsmFault → (ℕ → AsmError → Type 0) → Type 0
-OnLine (Ok value) P = Unit {0}
-OnLine (Err (Line line error)) P = P line error
-OnLine (Err OutOfMemory) P = Unit {0}
+abbrev pub OnAsmError : {T : Type 0} → Result T AsmFault → (ℕ → AsmError → Type 0) → Type 0
+OnAsmError (Ok value) P = Unit {0}
+OnAsmError (Err (Line line error)) P = P line error
+OnAsmError (Err OutOfMemory) P = Unit {0}
 
 -- the number of an error, which its message reports
 abbrev pub error_number : AsmError → ℕ

@@ -2,7 +2,7 @@ ghost use Rattle.std.specs.Prelude.{◌≡◌, Ok, Err, IfOk, IsOkAnd, length};
 ghost use Rattle.asm_model.specs.Placement.{fault_on};
 ghost use Rattle.asm6809.specs.Assembled.{Assembled, outcome_of};
 ghost use Rattle.asm6809.specs.Faults as model;
-ghost use Rattle.asm6809.specs.Faults.{OnLine};
+ghost use Rattle.asm6809.specs.Faults.{OnAsmError};
 
 use crate::module::module_of;
 use asm_lines::{first_fault, reached_by, read_lines};
@@ -69,7 +69,7 @@ pub fn error_number(error: AsmError) -> u8
 pub fn assemble(alloc: Global, source: &[u8]) -> Result<Vec<u8>, AsmFault>
     ensures law { IfOk result (λ bytes. Assembled source.now bytes.items) }
     ensures bytes { IfOk result (λ bytes. outcome_of source.now ≡ Ok bytes.items) }
-    ensures line { OnLine result (λ line error. outcome_of source.now
+    ensures line { OnAsmError result (λ line error. outcome_of source.now
         ≡ Err (fault_on line error)) }
 {
     let lines = read_lines(alloc, source)?;
@@ -91,7 +91,7 @@ pub fn assemble(alloc: Global, source: &[u8]) -> Result<Vec<u8>, AsmFault>
 pub fn size(alloc: Global, source: &[u8]) -> Result<usize, AsmFault>
     ensures size { IfOk result (λ size. IsOkAnd (outcome_of source.now)
         (λ bytes. length bytes ≡ size)) }
-    ensures line { OnLine result (λ line error. outcome_of source.now
+    ensures line { OnAsmError result (λ line error. outcome_of source.now
         ≡ Err (fault_on line error)) }
 {
     Ok(assemble(alloc, source)?.len())

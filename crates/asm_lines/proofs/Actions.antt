@@ -17,7 +17,7 @@ use Rattle.asm_model.specs.Statements.{Action, instruction, module_start, module
 use Rattle.asm_model.proofs.Commas.{split_comma}
 use Rattle.asm_lines.specs.Expressions.{IsExpression, IsExpressionList, last, more}
 use Rattle.asm_lines.specs.Instructions.{EndsThere, nothing, space}
-use Rattle.asm_lines.specs.Statements.{Leads, IsQuoted, IsModuleOperand, Is, IsAction, instructs, starts, ends, gives, bytes, words, quotes, marks, calls}
+use Rattle.asm_lines.specs.Statements.{IsOperandAndComment, IsQuoted, IsModuleOperand, Is, IsAction, instructs, starts, ends, gives, bytes, words, quotes, marks, calls}
 use Rattle.asm_lines.proofs.Bytes.{none-of}
 use Rattle.asm_lines.proofs.Names.{bytes_same}
 use Rattle.asm_lines.proofs.Joined.{one-part, some-parts}
@@ -30,10 +30,10 @@ use Rattle.asm_lines.proofs.Stated.{no-directive}
 
 -- ---- operands and comments
 
-leads-found : (operand text : List ℕ) → Leads operand text → first_word (without_spaces text) ≡ operand
+leads-found : (operand text : List ℕ) → IsOperandAndComment operand text → first_word (without_spaces text) ≡ operand
 leads-found operand text l = ap (λ t. first_word (without_spaces t)) l.text_is ∙ operand-part operand l.comment l.one_operand l.comment_apart l.comment_last
 
-leads-back : (text : List ℕ) → Leads (first_word (without_spaces text)) (without_spaces text)
+leads-back : (text : List ℕ) → IsOperandAndComment (first_word (without_spaces text)) (without_spaces text)
 leads-back text = record {
   comment = behind_word (without_spaces text);
   text_is = sym (word-and-rest (without_spaces text));
@@ -273,7 +273,7 @@ shape-apart word operand s is = by-entry (entry_of word (mark_of operand)) refl 
     by-entry None entered whole = absurd (cc)
     by-entry (Some e) entered whole = no-directive word (mark_of operand) e entered
 
-one-expression : (read : List ℕ → Action) (e text : List ℕ) → Leads e text → IsExpression e → if_expression read (first_word (without_spaces text)) ≡ Some (read e)
+one-expression : (read : List ℕ → Action) (e text : List ℕ) → IsOperandAndComment e text → IsExpression e → if_expression read (first_word (without_spaces text)) ≡ Some (read e)
 one-expression read e text leads is =
     ap (if_expression read) (leads-found e text leads) ∙ ap (λ (b : Bool). if b then Some (read e) else None) (expression-is e is)
 

@@ -26,7 +26,7 @@ use Rattle.asm_text.specs.Terms.{joined}
 use Rattle.asm_text.proofs.Lone.{lone-number}
 use Rattle.asm_lines.specs.Sums.{IsOneNumber, plain, minus}
 use Rattle.asm_lines.specs.Expressions.{IsExpression}
-use Rattle.asm_lines.specs.Operands.{width_mark, IsSized, narrow, wide, five, eight, sixteen, sized, target_post, target_field, IsOffset, from_register, from_pc}
+use Rattle.asm_lines.specs.Operands.{width_mark, IsOffsetSize, narrow, wide, five, eight, sixteen, sized, target_post, target_field, IsOffset, from_register, from_pc}
 use Rattle.asm_lines.proofs.SumValues.{unsigned}
 use Rattle.asm_lines.proofs.Names.{bytes_same, same-any}
 use Rattle.asm_lines.proofs.Joined.{one-part}
@@ -92,7 +92,7 @@ sixteen-by : (indirect : Bool) (e : List ℕ) (o : Option ℤ) → option_and_th
 sixteen-by indirect e None is out = refl
 sixteen-by indirect e (Some z) is out = sixteen-size indirect z (out z (lone-one e z is))
 
-size-is : (indirect : Bool) (e : List ℕ) (w : Width) (size : Size) (r : ℕ) → IsSized indirect e w size → offset_operand w indirect r e ≡ sized_offset size indirect r e
+size-is : (indirect : Bool) (e : List ℕ) (w : Width) (size : Size) (r : ℕ) → IsOffsetSize indirect e w size → offset_operand w indirect r e ≡ sized_offset size indirect r e
 size-is indirect e _ _ r narrow = refl
 size-is indirect e _ _ r wide = refl
 size-is indirect e _ _ r (five {z = z} is direct within) =
@@ -188,7 +188,7 @@ module _ (indirect : Bool) (w : Width) (e name : List ℕ) (is : IsExpression e)
       ap (offset_among indirect) (offset-split w e name is base) ∙ ap (λ o. offset_from indirect o name) (offset-marked w e is)
       ∙ ap (λ (b : Bool). if b then target_operand w indirect e else option_and_then (λ r. offset_operand w indirect r e) (index_number name)) named
 
-  register-among : (size : Size) (r : ℕ) → index_number name ≡ Some r → IsSized indirect e w size →
+  register-among : (size : Size) (r : ℕ) → index_number name ≡ Some r → IsOffsetSize indirect e w size →
       offset_among indirect (slice_split is_comma (offset_text w e name)) ≡ Some (sized size indirect r e)
   register-among size r index its =
       let base = index-base name r index in

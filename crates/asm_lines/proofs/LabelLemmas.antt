@@ -9,15 +9,15 @@ use Rattle.std.proofs.lemmas.List.Folds.{list_all-map}
 use Rattle.asm_model.specs.declared.operand.Field.{Field}
 use Rattle.asm_model.specs.Expressions.{Term, Signed, constant, label, here, terms, value_of, value_after}
 use Rattle.asm_model.specs.Statements.{Action, label_alone, instruction, module_start, module_end, equals, byte_list, word_list, characters, system_call, Statement}
-use Rattle.asm_model.specs.Placement.{Meaning, FieldText, names_fit, is_twice, is_start, is_end, meaning_of, is_known, is_known_term, names_known, value_at, term_value, with_label, is_out, action_values, action_length, has_value_out, has_known_name, nameable, in_field, is_too_long, is_bad_kind, has_bad_value}
+use Rattle.asm_model.specs.Placement.{LabelValue, FieldText, names_fit, is_twice, is_start, is_end, meaning_of, is_known, is_known_term, names_known, value_at, term_value, with_label, is_out, action_values, action_length, has_value_out, has_known_name, nameable, in_field, is_too_long, is_bad_kind, has_bad_value}
 use Rattle.asm_model.specs.Placement as model
 use Rattle.asm_lines.specs.declared.table.Labels.{Labels}
 use Rattle.asm_lines.specs.declared.reached.Reached.{Reached}
-use Rattle.asm_lines.specs.Labels.{Holds, value_in, term_in, is_term_in, names_in, expression_in, all_names_in, value_out_in, name_is_in, is_equals, is_text_filled_in, is_filled_in, IsReached}
+use Rattle.asm_lines.specs.Labels.{HoldsLabels, value_in, term_in, is_term_in, names_in, expression_in, all_names_in, value_out_in, name_is_in, is_equals, is_text_filled_in, is_filled_in, IsReached}
 
 -- ---- options
 
-abbrev value_of_meaning : Meaning → Option ℤ
+abbrev value_of_meaning : LabelValue → Option ℤ
 value_of_meaning m = m.value
 
 is_some-map : {A B : Type 0} (f : A → B) (o : Option A) → is_some (option_map f o) ≡ is_some o
@@ -34,46 +34,46 @@ none-if (Some x) is = cc
 
 -- ---- one label more
 
-push-first : (b : Bool) (x : Meaning) (rest whole last : Option Meaning) → rest ≡ option_or whole last →
+push-first : (b : Bool) (x : LabelValue) (rest whole last : Option LabelValue) → rest ≡ option_or whole last →
     (if b then Some x else rest) ≡ option_or (if b then Some x else whole) last
 push-first true x rest whole last is = refl
 push-first false x rest whole last is = is
 
-meaning_of-push : (labels : List Meaning) (m : Meaning) (name : List ℕ) →
+meaning_of-push : (labels : List LabelValue) (m : LabelValue) (name : List ℕ) →
     meaning_of (labels ++ m ∷ []) name ≡ option_or (meaning_of labels name) (if bytes_eq m.name name then Some m else None)
 meaning_of-push [] m name = refl
 meaning_of-push (x ∷ labels) m name =
     push-first (bytes_eq x.name name) x _ _ _ (meaning_of-push labels m name)
 
-with-one : (b : Bool) (value : Option ℤ) (o : Option Meaning) (m : Meaning) → m.value ≡ value → (b ≡ true → o ≡ None) →
+with-one : (b : Bool) (value : Option ℤ) (o : Option LabelValue) (m : LabelValue) → m.value ≡ value → (b ≡ true → o ≡ None) →
     cond b (Some value) (option_map (λ m. m.value) o) ≡ option_map (λ m. m.value) (option_or o (if b then Some m else None))
 with-one true value o m is none = rw (none refl) (ap Some (sym is))
 with-one false value o m is none = ap (option_map value_of_meaning) (sym (or-none o))
 
-known-in : (table : Labels) (labels : List Meaning) (name : List ℕ) → Holds table labels → is_some (value_in table name) ≡ is_known labels name
+known-in : (table : Labels) (labels : List LabelValue) (name : List ℕ) → HoldsLabels table labels → is_some (value_in table name) ≡ is_known labels name
 known-in table labels name holds = ap is_some (holds.each name) ∙ is_some-map value_of_meaning (meaning_of labels name)
 
-with_label-known : (labels : List Meaning) (name : List ℕ) (value : Option ℤ) (b : Bool) → is_known labels name ≡ b →
+with_label-known : (labels : List LabelValue) (name : List ℕ) (value : Option ℤ) (b : Bool) → is_known labels name ≡ b →
     with_label labels (Some name) value ≡ (if b then labels else labels ++ (record { name = name; value = value } ∷ []))
 with_label-known labels name value b is = ap (λ b. if b then labels else labels ++ (record { name = name; value = value } ∷ [])) is
 
-pub holds-known : (table : Labels) (labels : List Meaning) (name : List ℕ) (value : Option ℤ) → Holds table labels →
-    is_some (value_in table name) ≡ true → Holds table (with_label labels (Some name) value)
+pub holds-known : (table : Labels) (labels : List LabelValue) (name : List ℕ) (value : Option ℤ) → HoldsLabels table labels →
+    is_some (value_in table name) ≡ true → HoldsLabels table (with_label labels (Some name) value)
 holds-known table labels name value holds is =
     let known : is_known labels name ≡ true = sym (known-in table labels name holds) ∙ is in
     record { each = λ q. holds.each q ∙ ap (λ ls. option_map value_of_meaning (meaning_of ls q)) (sym (with_label-known labels name value true known)) }
 
-same-name : (labels : List Meaning) (name q : List ℕ) → is_known labels name ≡ false → bytes_eq name q ≡ true → meaning_of labels q ≡ None
+same-name : (labels : List LabelValue) (name q : List ℕ) → is_known labels name ≡ false → bytes_eq name q ≡ true → meaning_of labels q ≡ None
 same-name labels name q unknown same =
     let is : name ≡ q = (bytes_eq-Decides name q).0 same in
     none-if (meaning_of labels q) (ap (is_known labels) (sym is) ∙ unknown)
 
-pub holds-added : (table new : Labels) (labels : List Meaning) (name : List ℕ) (value : Option ℤ) → Holds table labels →
+pub holds-added : (table new : Labels) (labels : List LabelValue) (name : List ℕ) (value : Option ℤ) → HoldsLabels table labels →
     is_some (value_in table name) ≡ false → ((q : List ℕ) → value_in new q ≡ cond (bytes_eq name q) (Some value) (value_in table q)) →
-    Holds new (with_label labels (Some name) value)
+    HoldsLabels new (with_label labels (Some name) value)
 holds-added table new labels name value holds is added =
     let unknown : is_known labels name ≡ false = sym (known-in table labels name holds) ∙ is in
-    let m : Meaning = record { name = name; value = value } in
+    let m : LabelValue = record { name = name; value = value } in
     record {
       each = λ q.
           added q ∙ ap (λ o. cond (bytes_eq name q) (Some value) o) (holds.each q)
@@ -84,17 +84,17 @@ holds-added table new labels name value holds is added =
 
 -- ---- what is read by a table is what is read by its list
 
-inner : (o : Option Meaning) → option_and_then (λ (v : Option ℤ). v) (option_map value_of_meaning o) ≡ option_and_then (λ (m : Meaning). m.value) o
+inner : (o : Option LabelValue) → option_and_then (λ (v : Option ℤ). v) (option_map value_of_meaning o) ≡ option_and_then (λ (m : LabelValue). m.value) o
 inner None = refl
 inner (Some m) = refl
 
-term-same : (table : Labels) (labels : List Meaning) (offset : Option ℕ) → Holds table labels → (t : Term) →
+term-same : (table : Labels) (labels : List LabelValue) (offset : Option ℕ) → HoldsLabels table labels → (t : Term) →
     term_in table offset t ≡ term_value labels offset t
 term-same table labels offset holds (constant n) = refl
 term-same table labels offset holds (label name) = ap (option_and_then (λ (v : Option ℤ). v)) (holds.each name) ∙ inner (meaning_of labels name)
 term-same table labels offset holds here = refl
 
-is_term-same : (table : Labels) (labels : List Meaning) → Holds table labels → (t : Term) → is_term_in table t ≡ is_known_term labels t
+is_term-same : (table : Labels) (labels : List LabelValue) → HoldsLabels table labels → (t : Term) → is_term_in table t ≡ is_known_term labels t
 is_term-same table labels holds (constant n) = refl
 is_term-same table labels holds (label name) = known-in table labels name holds
 is_term-same table labels holds here = refl
@@ -113,7 +113,7 @@ value_of-same : (f g : Term → Option ℤ) → ((t : Term) → f t ≡ g t) →
 value_of-same f g same None = refl
 value_of-same f g same (Some ts) = value_after-same f g same ts (pos 0)
 
-pub expression-same : (table : Labels) (labels : List Meaning) (offset : Option ℕ) (text : List ℕ) → Holds table labels →
+pub expression-same : (table : Labels) (labels : List LabelValue) (offset : Option ℕ) (text : List ℕ) → HoldsLabels table labels →
     expression_in table offset text ≡ value_at labels offset text
 expression-same table labels offset text holds =
     value_of-same (term_in table offset) (term_value labels offset) (term-same table labels offset holds) (terms text)
@@ -130,23 +130,23 @@ map_or-same : {A : Type 0} (f g : A → Bool) → ((x : A) → f x ≡ g x) → 
 map_or-same f g same d None = refl
 map_or-same f g same d (Some x) = same x
 
-names-same : (table : Labels) (labels : List Meaning) (text : List ℕ) → Holds table labels → names_in table text ≡ names_known labels text
+names-same : (table : Labels) (labels : List LabelValue) (text : List ℕ) → HoldsLabels table labels → names_in table text ≡ names_known labels text
 names-same table labels text holds =
     map_or-same _ _ (λ ts. list_all-same (λ (t : Signed). is_term_in table t.term) (λ (t : Signed). is_known_term labels t.term) (λ t. is_term-same table labels holds t.term) ts) true (terms text)
 
-pub all_names-same : (table : Labels) (labels : List Meaning) (action : Action) → Holds table labels →
+pub all_names-same : (table : Labels) (labels : List LabelValue) (action : Action) → HoldsLabels table labels →
     all_names_in table action ≡ list_all (λ v. names_known labels v.text) (action_values action)
 all_names-same table labels action holds =
     list_all-same (λ (v : FieldText). names_in table v.text) (λ (v : FieldText). names_known labels v.text) (λ v. names-same table labels v.text holds) (action_values action)
 
-pub value_out-same : (table : Labels) (labels : List Meaning) (offset : Option ℕ) (action : Action) → Holds table labels →
+pub value_out-same : (table : Labels) (labels : List LabelValue) (offset : Option ℕ) (action : Action) → HoldsLabels table labels →
     value_out_in table offset action ≡ has_value_out labels offset action
 value_out-same table labels offset action holds =
     list_any-same (λ (v : FieldText). is_out v.field (unwrap_or offset 0 + action_length action) (expression_in table offset v.text))
     (λ (v : FieldText). is_out v.field (unwrap_or offset 0 + action_length action) (value_at labels offset v.text))
     (λ v. ap (is_out v.field (unwrap_or offset 0 + action_length action)) (expression-same table labels offset v.text holds)) (action_values action)
 
-pub name_is-same : (table : Labels) (labels : List Meaning) (name : Option (List ℕ)) → Holds table labels →
+pub name_is-same : (table : Labels) (labels : List LabelValue) (name : Option (List ℕ)) → HoldsLabels table labels →
     name_is_in table name ≡ option_map_or (is_known labels) name false
 name_is-same table labels name holds = map_or-same _ _ (λ n. known-in table labels n holds) false name
 

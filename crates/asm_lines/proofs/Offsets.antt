@@ -17,7 +17,7 @@ use Rattle.asm_model.specs.Operands.{Operand, operand, offset_of, marked, valued
 use Rattle.asm_model.specs.Statements.{is_expression}
 use Rattle.asm_lines.specs.Sums.{IsOneNumber, one}
 use Rattle.asm_lines.specs.Expressions.{IsExpression}
-use Rattle.asm_lines.specs.Operands.{width_mark, IsSized, narrow, wide, five, eight, sixteen, sized, IsOffset, from_register, from_pc, IsIndexed, bare, offset, offset_in, absolute}
+use Rattle.asm_lines.specs.Operands.{width_mark, IsOffsetSize, narrow, wide, five, eight, sixteen, sized, IsOffset, from_register, from_pc, IsIndexed, bare, offset, offset_in, absolute}
 use Rattle.asm_lines.proofs.Expressions.{expression-back, value-expression}
 use Rattle.asm_lines.proofs.Bare.{bare-back}
 use Rattle.asm_lines.proofs.Found.{one-lone, lone-one}
@@ -47,18 +47,18 @@ module _ (indirect : Bool) (e : List ℕ) where
       subst (λ (y : ℤ). between (negsuc 127) (pos 127) y ≡ false) same out
 
   sized-eight : (z : ℤ) → option_and_then lone_value (terms e) ≡ Some z → (indirect ≡ false → between (negsuc 15) (pos 15) z ≡ false) → (b : Bool) → between (negsuc 127) (pos 127) z ≡ b →
-      IsSized indirect e Unmarked (if b then Eight else Sixteen)
+      IsOffsetSize indirect e Unmarked (if b then Eight else Sixteen)
   sized-eight z is other true within = eight (lone-one e z is) other within
   sized-eight z is other false out = sixteen (only-lone z is out)
 
   sized-some : (z : ℤ) → option_and_then lone_value (terms e) ≡ Some z → (d : Bool) → indirect ≡ d → (b : Bool) → between (negsuc 15) (pos 15) z ≡ b →
-      IsSized indirect e Unmarked (if not d && b then Five z else (if between (negsuc 127) (pos 127) z then Eight else Sixteen))
+      IsOffsetSize indirect e Unmarked (if not d && b then Five z else (if between (negsuc 127) (pos 127) z then Eight else Sixteen))
   sized-some z is true direct b within =
       sized-eight z is (λ no. let other : true ≡ false = sym direct ∙ no in absurd (cc)) (between (negsuc 127) (pos 127) z) refl
   sized-some z is false direct true within = five (lone-one e z is) direct within
   sized-some z is false direct false within = sized-eight z is (λ _. within) (between (negsuc 127) (pos 127) z) refl
 
-  sized-by : (o : Option ℤ) → option_and_then lone_value (terms e) ≡ o → IsSized indirect e Unmarked (size_of_value indirect o)
+  sized-by : (o : Option ℤ) → option_and_then lone_value (terms e) ≡ o → IsOffsetSize indirect e Unmarked (size_of_value indirect o)
   sized-by None is = sixteen (lone-none is)
   sized-by (Some z) is = sized-some z is indirect refl (between (negsuc 15) (pos 15) z) refl
 
@@ -68,7 +68,7 @@ module _ (indirect : Bool) (e : List ℕ) where
   size_of Wide = Sixteen
   size_of Unmarked = size_of_value indirect (option_and_then lone_value (terms e))
 
-  pub sized-back : (w : Width) → IsSized indirect e w (size_of w)
+  pub sized-back : (w : Width) → IsOffsetSize indirect e w (size_of w)
   sized-back Narrow = narrow
   sized-back Wide = wide
   sized-back Unmarked = sized-by (option_and_then lone_value (terms e)) refl
@@ -78,7 +78,7 @@ module _ (indirect : Bool) (e : List ℕ) where
   size-read Wide r = refl
   size-read Unmarked r = refl
 
-five-expression : (indirect : Bool) (e : List ℕ) (w : Width) (size : Size) → IsSized indirect e w size → (y : ℤ) → size ≡ Five y → IsExpression e
+five-expression : (indirect : Bool) (e : List ℕ) (w : Width) (size : Size) → IsOffsetSize indirect e w size → (y : ℤ) → size ≡ Five y → IsExpression e
 five-expression indirect e _ _ narrow y same = absurd (cc)
 five-expression indirect e _ _ wide y same = absurd (cc)
 five-expression indirect e _ _ (five {z = z} is direct within) y same = value-expression e z (one is)
@@ -92,7 +92,7 @@ module _ (indirect : Bool) (w : Width) (e name : List ℕ) (o : Operand) where
   abbrev Formed : Type 0
   Formed = IsOffset indirect (width_mark w ++ (e ++ (44 ∷ name))) o
 
-  sized-formed : (size : Size) (r : ℕ) → IsSized indirect e w size → index_number name ≡ Some r → sized_offset size indirect r e ≡ Some o → Formed
+  sized-formed : (size : Size) (r : ℕ) → IsOffsetSize indirect e w size → index_number name ≡ Some r → sized_offset size indirect r e ≡ Some o → Formed
   sized-formed (Five y) r its index read =
       let same : sized (Five y) indirect r e ≡ o = cc in
       subst (IsOffset indirect (width_mark w ++ (e ++ (44 ∷ name)))) same (from_register name (five-expression indirect e w (Five y) its y refl) index its)

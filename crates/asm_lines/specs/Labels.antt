@@ -8,7 +8,7 @@ use Rattle.asm_model.specs.declared.operand.Field.{Field}
 use Rattle.asm_model.specs.Operands.{filled}
 use Rattle.asm_model.specs.Expressions.{Term, constant, label, here, terms, value_of}
 use Rattle.asm_model.specs.Statements.{Action, equals}
-use Rattle.asm_model.specs.Placement.{Meaning, meaning_of, offset_value, action_values, action_length, is_out, SourceFault as FaultOf, fault_on}
+use Rattle.asm_model.specs.Placement.{LabelValue, meaning_of, offset_value, action_values, action_length, is_out, SourceFault as FaultOf, fault_on}
 use Rattle.asm_model.specs.Placement as model
 use Rattle.asm_lines.specs.declared.table.Labels.{Labels}
 use Rattle.asm_lines.specs.declared.reached.Reached.{Reached}
@@ -19,7 +19,7 @@ abbrev pub value_in : Labels → List ℕ → Option (Option ℤ)
 value_in labels name = get_by (λ k. bytes_eq name k.now) labels.values
 
 -- a table has these labels, and no others
-pub record Holds (table : Labels) (labels : List Meaning) : Type 0 where
+pub record HoldsLabels (table : Labels) (labels : List LabelValue) : Type 0 where
   pub each : (name : List ℕ) → value_in table name ≡ option_map (λ m. m.value) (meaning_of labels name)
 
 -- ---- expressions
@@ -71,7 +71,7 @@ is_filled_in labels offset action =
 -- ---- what lines reach
 
 pub record IsReached (r : Reached) (m : model.Reached) : Type 0 where
-  pub labels : Holds r.labels m.labels
+  pub labels : HoldsLabels r.labels m.labels
   pub offset : r.offset ≡ m.offset
   pub has_start : r.has_start ≡ m.has_start
   pub has_end : r.has_end ≡ m.has_end

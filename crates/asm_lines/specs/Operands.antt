@@ -49,15 +49,15 @@ width_mark Wide = codes ">"
 width_mark Unmarked = []
 
 -- the size of an offset from a register: without a mark an expression of one number has the least size that holds it
-pub data IsSized (indirect : Bool) (e : List ℕ) : Width → Size → Type 0 where
-  narrow : IsSized indirect e Narrow Eight
-  wide : IsSized indirect e Wide Sixteen
+pub data IsOffsetSize (indirect : Bool) (e : List ℕ) : Width → Size → Type 0 where
+  narrow : IsOffsetSize indirect e Narrow Eight
+  wide : IsOffsetSize indirect e Wide Sixteen
   five : {z : ℤ} → IsOneNumber e z → indirect ≡ false → between (negsuc 15) (pos 15) z ≡ true
-      → IsSized indirect e Unmarked (Five z)
+      → IsOffsetSize indirect e Unmarked (Five z)
   eight : {z : ℤ} → IsOneNumber e z → (indirect ≡ false → between (negsuc 15) (pos 15) z ≡ false)
-      → between (negsuc 127) (pos 127) z ≡ true → IsSized indirect e Unmarked Eight
+      → between (negsuc 127) (pos 127) z ≡ true → IsOffsetSize indirect e Unmarked Eight
   sixteen : ((z : ℤ) → IsOneNumber e z → between (negsuc 127) (pos 127) z ≡ false)
-      → IsSized indirect e Unmarked Sixteen
+      → IsOffsetSize indirect e Unmarked Sixteen
 
 -- an offset of this size from the register of this number
 abbrev pub sized : Size → Bool → ℕ → List ℕ → Operand
@@ -77,7 +77,7 @@ target_field _ = field.Target16
 -- `e,R` or `e,PCR`, with or without a mark
 pub data IsOffset (indirect : Bool) : List ℕ → Operand → Type 0 where
   from_register : {e : List ℕ} {width : Width} {size : Size} {r : ℕ} (name : List ℕ) → IsExpression e
-      → index_number name ≡ Some r → IsSized indirect e width size
+      → index_number name ≡ Some r → IsOffsetSize indirect e width size
       → IsOffset indirect (width_mark width ++ (e ++ (44 ∷ name))) (sized size indirect r e)
   from_pc : {e : List ℕ} (width : Width) (name : List ℕ) → IsExpression e → same_word (codes "PCR") name ≡ true
       → IsOffset indirect (width_mark width ++ (e ++ (44 ∷ name)))

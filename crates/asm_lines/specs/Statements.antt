@@ -18,7 +18,7 @@ use Rattle.asm_lines.specs.Instructions.{EndsThere, IsShape}
 -- ---- operands
 
 -- a text is an operand, with an optional comment after a space; without an operand there is no comment
-pub record Leads (operand text : List ℕ) : Type 0 where
+pub record IsOperandAndComment (operand text : List ℕ) : Type 0 where
   pub comment : List ℕ
   pub text_is : text ≡ operand ++ comment
   pub one_operand : list_any is_space operand ≡ false
@@ -49,20 +49,22 @@ Is d word = same_word (directive_word d) word ≡ true
 
 -- the action of a word and the text that follows it
 pub data IsAction (word text : List ℕ) : Action → Type 0 where
-  instructs : {operand : List ℕ} {s : Shape} → Leads operand text → IsShape word operand s
+  instructs : {operand : List ℕ} {s : Shape} → IsOperandAndComment operand text → IsShape word operand s
       → IsAction word text (instruction s)
-  starts : {operand : List ℕ} {m : ModuleFields} → Is directive.Mod word → Leads operand text
+  starts : {operand : List ℕ} {m : ModuleFields} → Is directive.Mod word → IsOperandAndComment operand text
       → IsModuleOperand m operand → IsAction word text (module_start m)
   ends : Is directive.Emod word → IsAction word text module_end
-  gives : {e : List ℕ} → Is directive.Equ word → Leads e text → IsExpression e → IsAction word text (equals e)
-  bytes : {operand : List ℕ} {es : List (List ℕ)} → Is directive.Fcb word → Leads operand text
+  gives : {e : List ℕ} → Is directive.Equ word → IsOperandAndComment e text → IsExpression e
+      → IsAction word text (equals e)
+  bytes : {operand : List ℕ} {es : List (List ℕ)} → Is directive.Fcb word → IsOperandAndComment operand text
       → IsExpressionList operand es → IsAction word text (byte_list es)
-  words : {operand : List ℕ} {es : List (List ℕ)} → Is directive.Fdb word → Leads operand text
+  words : {operand : List ℕ} {es : List (List ℕ)} → Is directive.Fdb word → IsOperandAndComment operand text
       → IsExpressionList operand es → IsAction word text (word_list es)
   quotes : {quote : List ℕ} → Is directive.Fcc word → IsQuoted quote text → IsAction word text (characters quote)
   marks : {quote : List ℕ} → Is directive.Fcs word → IsQuoted quote text
       → IsAction word text (characters (marked_name quote))
-  calls : {e : List ℕ} → Is directive.Os9 word → Leads e text → IsExpression e → IsAction word text (system_call e)
+  calls : {e : List ℕ} → Is directive.Os9 word → IsOperandAndComment e text → IsExpression e
+      → IsAction word text (system_call e)
 
 -- ---- lines
 

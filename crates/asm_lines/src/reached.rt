@@ -1,7 +1,7 @@
 ghost use Rattle.std.specs.Prelude.{◌≡◌, map, option_map, List, Option, Some, None, IfOk};
 ghost use Rattle.asm_model.specs.Placement as model;
-ghost use Rattle.asm_model.specs.Placement.{Meaning as MeaningOf, Reached as ReachedOf, after, reached_from, with_label};
-ghost use Rattle.asm_lines.specs.Labels.{Holds, IsReached};
+ghost use Rattle.asm_model.specs.Placement.{LabelValue as MeaningOf, Reached as ReachedOf, after, reached_from, with_label};
+ghost use Rattle.asm_lines.specs.Labels.{HoldsLabels, IsReached};
 ghost use Rattle.asm_lines.specs.Lines.{action_said, line_said, statement_said};
 ghost use Rattle.asm_model.specs.Statements.{stated};
 
@@ -71,8 +71,8 @@ fn add_label<'a>(
     name: Option<&'a [u8]>,
     value: Option<i64>,
 ) -> Result<(), OutOfMemory>
-    ensures { IfOk result (λ _. (known : List MeaningOf) → Holds labels.old known
-        → Holds labels.new (with_label known (option_map (λ n. n.now) name.entry) value)) }
+    ensures { IfOk result (λ _. (known : List MeaningOf) → HoldsLabels labels.old known
+        → HoldsLabels labels.new (with_label known (option_map (λ n. n.now) name.entry) value)) }
 {
     match name {
         Some(name) => labels.add(name, value),

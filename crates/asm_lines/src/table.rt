@@ -1,6 +1,6 @@
 ghost use Rattle.std.specs.Prelude.{◌≡◌, Some, [], List, IfOk};
-ghost use Rattle.asm_model.specs.Placement.{Meaning, with_label};
-ghost use Rattle.asm_lines.specs.Labels.{Holds, value_in};
+ghost use Rattle.asm_model.specs.Placement.{LabelValue, with_label};
+ghost use Rattle.asm_lines.specs.Labels.{HoldsLabels, value_in};
 
 use os9_base::call::OutOfMemory;
 use std::alloc::Global;
@@ -15,7 +15,7 @@ pub struct Labels<'a> {
 impl<'a> Labels<'a> {
     // No labels.
     pub(crate) fn new(alloc: Global) -> Labels<'a>
-        ensures { Holds result [] }
+        ensures { HoldsLabels result [] }
     {
         Labels {
             values: HashMap::new(alloc),
@@ -31,8 +31,8 @@ impl<'a> Labels<'a> {
 
     // Adds a label. A known label keeps its value.
     pub(crate) fn add(&mut self, name: &'a [u8], value: Option<i64>) -> Result<(), OutOfMemory>
-        ensures { IfOk result (λ _. (labels : List Meaning) → Holds self.old labels
-            → Holds self.new (with_label labels (Some name.entry.now) value)) }
+        ensures { IfOk result (λ _. (labels : List LabelValue) → HoldsLabels self.old labels
+            → HoldsLabels self.new (with_label labels (Some name.entry.now) value)) }
     {
         if self.values.contains_key(name) {
             return Ok(());

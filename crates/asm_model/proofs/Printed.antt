@@ -9,7 +9,7 @@ use Rattle.cpu_model.specs.declared.instruction.Tail.{Tail}
 use Rattle.cpu_model.specs.declared.instruction.Tail.TheVariants.{Empty, Byte, Word}
 use Rattle.cpu_model.specs.declared.instruction.Instr.{Instr}
 use Rattle.cpu_model.specs.Table.{row, postbyte, plain_postbyte}
-use Rattle.cpu_table.specs.Spelling.{HasOperand, prefix, tail_bytes, spelling, plain, plain_post, IsPlain}
+use Rattle.cpu_table.specs.Spelling.{HasOperand, prefix, tail_bytes, spelling, plain, plain_post, IsPlainInstr}
 use Rattle.asm_model.specs.declared.operand.Wanted.{Wanted}
 use Rattle.asm_model.specs.declared.operand.Wanted.TheVariants.{Nothing, Fixed, Value}
 use Rattle.asm_model.specs.declared.operand.Field.{Field}
@@ -126,7 +126,7 @@ module _ (page : Page) (opcode : ℕ) (post : Option ℕ) (tail : Tail) (at : �
   if_row (Some r) is has same k h = with_row r is has same k h
 
 -- every instruction that decoding can give is read from its text
-pub printed_back : (i : Instr) (at : ℕ) → IsPlain i → IfSome i.post (λ p. p < 256) → TailFits i.tail → instr_of (printed i at) at ≡ Some i
+pub printed_back : (i : Instr) (at : ℕ) → IsPlainInstr i → IfSome i.post (λ p. p < 256) → TailFits i.tail → instr_of (printed i at) at ≡ Some i
 unfolding printed
 printed_back i at plainly k h =
     if_row i.page i.opcode i.post i.tail at (row i.page i.opcode) refl plainly.0 (ap (λ j. j.post) plainly.1) k h

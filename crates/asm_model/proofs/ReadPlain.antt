@@ -6,7 +6,7 @@ use Rattle.text_values.specs.Cuts.{first_word}
 use Rattle.cpu_model.specs.declared.instruction.Tail.{Tail}
 use Rattle.cpu_model.specs.declared.instruction.Instr.{Instr}
 use Rattle.cpu_model.specs.Table.{row}
-use Rattle.cpu_table.specs.Spelling.{IsPlain}
+use Rattle.cpu_table.specs.Spelling.{IsPlainInstr}
 use Rattle.asm_model.specs.declared.operand.Mark.{Mark}
 use Rattle.asm_model.specs.Characters.{is_line_byte}
 use Rattle.asm_model.specs.Operands.{Operand, row_operand, mark_of}
@@ -29,25 +29,25 @@ entry_row word m e is = on_elements (λ e. row e.page e.line.opcode) (λ e. Some
 
 module _ (at : ℕ) (text : List ℕ) (i : Instr) where
   filled : (e : Entry) (o : Operand) (found : Option Tail) → row e.page e.line.opcode ≡ Some e.line.row → row_operand e.line.row text ≡ Some o →
-      wanted_tail o.wanted (at + shape_length (shape_with e o)) o.expression ≡ found → option_map (with_tail (shape_with e o)) found ≡ Some i → IsPlain i
+      wanted_tail o.wanted (at + shape_length (shape_with e o)) o.expression ≡ found → option_map (with_tail (shape_with e o)) found ≡ Some i → IsPlainInstr i
   filled e o None is read fills whole = absurd (cc)
   filled e o (Some tail) is read fills whole =
       let same : with_tail (shape_with e o) tail ≡ i = cc in
-      subst (λ (j : Instr). IsPlain j) same (row_plain e.page e.line.opcode e.line.row text o _ tail is read fills)
+      subst (λ (j : Instr). IsPlainInstr j) same (row_plain e.page e.line.opcode e.line.row text o _ tail is read fills)
 
   shaped : (e : Entry) (o : Option Operand) → row e.page e.line.opcode ≡ Some e.line.row → row_operand e.line.row text
-      ≡ o → option_and_then (shape_instr at) (option_map (shape_with e) o) ≡ Some i → IsPlain i
+      ≡ o → option_and_then (shape_instr at) (option_map (shape_with e) o) ≡ Some i → IsPlainInstr i
   shaped e None is read whole = absurd (cc)
   shaped e (Some o) is read whole = filled e o (wanted_tail o.wanted (at + shape_length (shape_with e o)) o.expression) is read refl whole
 
   entered : (word : List ℕ) (e : Option Entry) → entry_of word (mark_of text) ≡ e →
-      option_and_then (shape_instr at) (option_and_then (λ e. option_map (shape_with e) (row_operand e.line.row text)) e) ≡ Some i → IsPlain i
+      option_and_then (shape_instr at) (option_and_then (λ e. option_map (shape_with e) (row_operand e.line.row text)) e) ≡ Some i → IsPlainInstr i
   entered word None is whole = absurd (cc)
   entered word (Some e) is whole = shaped e (row_operand e.line.row text) (entry_row word (mark_of text) e is) refl whole
 
-lined : (line : List ℕ) (at : ℕ) (i : Instr) (b : Bool) → (if b then worded_instr line at else None) ≡ Some i → IsPlain i
+lined : (line : List ℕ) (at : ℕ) (i : Instr) (b : Bool) → (if b then worded_instr line at else None) ≡ Some i → IsPlainInstr i
 lined line at i true is = entered at (operand_text line) i (first_word line) (entry_of (first_word line) (mark_of (operand_text line))) refl is
 lined line at i false is = absurd (cc)
 
-pub instr_plain : (line : List ℕ) (at : ℕ) (i : Instr) → instr_of line at ≡ Some i → IsPlain i
+pub instr_plain : (line : List ℕ) (at : ℕ) (i : Instr) → instr_of line at ≡ Some i → IsPlainInstr i
 instr_plain line at i is = lined line at i (list_all is_line_byte line) is

@@ -19,7 +19,7 @@ use Rattle.cpu_model.specs.Table.{postbyte, form_lines, is_pair, plain_postbyte,
 use Rattle.std.specs.Option.{option_map_or}
 use Rattle.cpu_model.specs.declared.rows.Row.{Row}
 use Rattle.cpu_model.specs.declared.instruction.Page.{Page}
-use Rattle.cpu_table.specs.Spelling.{HasExtent, HasOperand, plain_post, IsPlain}
+use Rattle.cpu_table.specs.Spelling.{HasExtent, HasOperand, plain_post, IsPlainInstr}
 use Rattle.asm_model.specs.declared.operand.Wanted.{Wanted}
 use Rattle.asm_model.specs.declared.operand.Wanted.TheVariants.{Nothing, Fixed, Value}
 use Rattle.asm_model.specs.declared.operand.Field.{Field}
@@ -211,7 +211,8 @@ module _ (o : Operand) where
 
   from_sound : (indirect : Bool) (offset : Offset) (base : List ℕ) → Is (offset_from indirect offset base)
   from_sound indirect offset base =
-      choice_sound (same_word (codes "PCR") base) (target_operand offset.width indirect offset.expression) (option_and_then (λ r. offset_operand offset.width indirect r offset.expression) (index_number base))
+      choice_sound (same_word (codes "PCR") base) (target_operand offset.width indirect offset.expression)
+      (option_and_then (λ r. offset_operand offset.width indirect r offset.expression) (index_number base))
       (target_sound offset.width indirect offset.expression) (base_sound indirect offset base (index_number base) refl)
 
   among_sound : (indirect : Bool) (parts : List (List ℕ)) → Is (offset_among indirect parts)
@@ -366,7 +367,7 @@ module _ (w : Wanted) (next : ℕ) (text : List ℕ) (tail : Tail) (is : wanted_
 
 -- what is read of a row's operand is an instruction that decoding can give
 pub row_plain : (page : Page) (opcode : ℕ) (r : Row) (text : List ℕ) (o : Operand) (next : ℕ) (tail : Tail) → row page opcode ≡ Some r → row_operand r text ≡ Some o →
-    wanted_tail o.wanted next o.expression ≡ Some tail → IsPlain (record { page = page; opcode = opcode; post = o.post; tail = tail })
+    wanted_tail o.wanted next o.expression ≡ Some tail → IsPlainInstr (record { page = page; opcode = opcode; post = o.post; tail = tail })
 unfolding row_operand
 row_plain page opcode r text o next tail is read fills =
     let m = operand_sound o r.0 r.1 text read in

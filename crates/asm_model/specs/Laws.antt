@@ -11,6 +11,6 @@ TailFits (Byte b) = b < 256
 TailFits (Word w) = w < 65536
 
 -- the postbyte is a byte, and the operand bytes are a byte or a word, as in each instruction of the program
-pub record HasBytes (i : Instr) : Type 0 where
+pub record InstructionFits (i : Instr) : Type 0 where
   pub post : IfSome i.post (λ p. p < 256)
   pub tail : TailFits i.tail

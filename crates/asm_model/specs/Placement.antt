@@ -41,26 +41,26 @@ action_length (system_call text) = 3
 -- ---- labels
 
 -- a label with its value, if that is known
-pub record Meaning : Type 0 where
+pub record LabelValue : Type 0 where
   pub name : List ℕ
   pub value : Option ℤ
 
 -- what lines reach: their labels, the offset after them, which is unknown if one of them is broken, and whether
 -- `mod` and `emod` are among them
 pub record Reached : Type 0 where
-  pub labels : List Meaning
+  pub labels : List LabelValue
   pub offset : Option ℕ
   pub has_start : Bool
   pub has_end : Bool
 
-abbrev pub meaning_of : List Meaning → List ℕ → Option Meaning
+abbrev pub meaning_of : List LabelValue → List ℕ → Option LabelValue
 meaning_of [] name = None
 meaning_of (m ∷ ms) name = if bytes_eq m.name name then Some m else meaning_of ms name
 
-abbrev pub is_known : List Meaning → List ℕ → Bool
+abbrev pub is_known : List LabelValue → List ℕ → Bool
 is_known labels name = is_some (meaning_of labels name)
 
-abbrev pub is_known_term : List Meaning → Term → Bool
+abbrev pub is_known_term : List LabelValue → Term → Bool
 is_known_term labels (label name) = is_known labels name
 is_known_term labels _ = true
 
@@ -73,16 +73,16 @@ abbrev pub offset_value : Option ℕ → Option ℤ
 offset_value offset = option_and_then (λ n. held (pos n)) offset
 
 -- the value of a term at this offset
-abbrev pub term_value : List Meaning → Option ℕ → Term → Option ℤ
+abbrev pub term_value : List LabelValue → Option ℕ → Term → Option ℤ
 term_value labels offset (constant n) = Some (pos n)
 term_value labels offset (label name) = option_and_then (λ m. m.value) (meaning_of labels name)
 term_value labels offset here = offset_value offset
 
-abbrev pub names_known : List Meaning → List ℕ → Bool
+abbrev pub names_known : List LabelValue → List ℕ → Bool
 names_known labels text = option_map_or (list_all (λ t. is_known_term labels t.term)) (terms text) true
 
 -- the value of an expression at this offset, if its labels have values
-abbrev pub value_at : List Meaning → Option ℕ → List ℕ → Option ℤ
+abbrev pub value_at : List LabelValue → Option ℕ → List ℕ → Option ℤ
 value_at labels offset text = option_and_then (value_of (term_value labels offset)) (terms text)
 
 -- the value of a statement's label: for `equ` by the labels above, otherwise the statement's own offset
@@ -91,7 +91,7 @@ label_value above (equals text) = option_and_then held (value_at above.labels ab
 label_value above _ = offset_value above.offset
 
 -- the labels with one more; a known label keeps its value
-abbrev pub with_label : List Meaning → Option (List ℕ) → Option ℤ → List Meaning
+abbrev pub with_label : List LabelValue → Option (List ℕ) → Option ℤ → List LabelValue
 with_label labels None value = labels
 with_label labels (Some name) value =
     if is_known labels name then labels else labels ++ (record { name = name; value = value } ∷ [])
@@ -147,7 +147,7 @@ action_values (system_call text) = in_field field.Byte text ∷ []
 action_values _ = []
 
 -- the labels that a statement may name: for `equ` those above, otherwise all
-abbrev pub nameable : Reached → Reached → Action → List Meaning
+abbrev pub nameable : Reached → Reached → Action → List LabelValue
 nameable all above (equals text) = above.labels
 nameable all above action = all.labels
 
@@ -168,7 +168,7 @@ is_out f next None = false
 is_out f next (Some z) = is_none (filled f next z)
 
 -- a statement at this offset has a known value that is out of range
-abbrev pub has_value_out : List Meaning → Option ℕ → Action → Bool
+abbrev pub has_value_out : List LabelValue → Option ℕ → Action → Bool
 has_value_out labels offset action =
     list_any (λ v. is_out v.field (unwrap_or offset 0 + action_length action) (value_at labels offset v.text))
     (action_values action)

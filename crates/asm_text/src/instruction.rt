@@ -1,11 +1,11 @@
 ghost use Rattle.std.specs.Prelude.{◌≡◌, Some, IfSome};
 ghost use Rattle.std.specs.List.{list_all};
 ghost use Rattle.cpu_model.specs.declared.instruction.Instr.{Instr as InstrOf};
-ghost use Rattle.cpu_table.specs.Spelling.{IsPlain};
+ghost use Rattle.cpu_table.specs.Spelling.{IsPlainInstr};
 ghost use Rattle.asm_model.specs.Characters.{is_line_byte};
 ghost use Rattle.asm_model.specs.Instructions as model;
 ghost use Rattle.asm_model.specs.Instructions.{instr_of};
-ghost use Rattle.asm_model.specs.Laws.{HasBytes};
+ghost use Rattle.asm_model.specs.Laws.{InstructionFits};
 ghost use Rattle.asm_model.specs.Print.{printed};
 ghost use Rattle.asm_text.specs.Views.{shape_as};
 
@@ -72,9 +72,9 @@ fn read_line(line: &[u8], at: u16) -> Option<Instr>
 pub fn read_instr(line: &[u8], at: u16) -> Option<Instr>
     ensures value { result ≡ instr_of line.now at }
     // The printed text of an instruction is read as that instruction.
-    ensures read_again { (i : InstrOf) → IsPlain i → HasBytes i → line.now ≡ printed i at
-        → result ≡ Some i }
-    ensures plain { IfSome result IsPlain }
+    ensures read_again { (i : InstrOf) → IsPlainInstr i → InstructionFits i → line.now
+        ≡ printed i at → result ≡ Some i }
+    ensures plain { IfSome result IsPlainInstr }
 {
     read_line(line, at)
 }

@@ -1,6 +1,6 @@
 ghost use Rattle.std.specs.Prelude.{◌≡◌, ◌+◌, ◌/◌, ◌%◌, ◌<◌, ◌≤◌, ◌↔◌, IsTrue, IfSome, IfNone, OnSome, length};
 ghost use Rattle.std.specs.Bool.{OnTrue, OnFalse};
-ghost use Rattle.os9_base.specs.Cells.{Holds, FitsIn, store_cells};
+ghost use Rattle.os9_base.specs.Cells.{HoldsBytes, FitsIn, store_cells};
 ghost use Rattle.block_map.specs.TakenBlocks.{NamesLiveBlocks};
 
 use crate::map::Map;
@@ -30,7 +30,7 @@ impl Bus for View<'_> {
 
     fn slice_from(&self, at: u16) -> &[u8]
         ensures fits { at + length result.now ≤ 65536 }
-        ensures bytes { Holds (map_cells self.now.map.now self.now.pool.now) at result.now }
+        ensures bytes { HoldsBytes (map_cells self.now.map.now self.now.pool.now) at result.now }
         ensures whole { IsSlotLive self.now.map.now self.now.pool.now (at / 8192)
             → at % 8192 + length result.now ≡ 8192 }
     {

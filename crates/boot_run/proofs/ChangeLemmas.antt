@@ -1,16 +1,16 @@
--- Files that are written change under their names alone.
+-- HostFiles that are written change under their names alone.
 use Rattle.std.proofs.Common.{◌≡◌, ◌≢◌, ℕ, zero, suc, Bool, true, false, Option, Some, None, List, [], ◌∷◌, take, slice_get, bytes_eq, refl, ap, ◌∙◌, All}
 use Rattle.std.proofs.lemmas.List.Elements.{All-cons, All-head, All-nil, All-tail}
 use Rattle.std.proofs.lemmas.Slice.Eq.{bytes_eq-Decides}
-use Rattle.os9_outer.specs.Host.{Files, IfObserved}
+use Rattle.os9_outer.specs.Host.{HostFiles, IfObserved}
 use Rattle.boot_run.specs.Images.{WritesAll, WritesUpTo, with_images}
 use Rattle.boot_run.specs.Left.{ChangesOnly}
 
 -- files that are as they were have changed under no name
-pub same-changes : (names : List (List ℕ)) (before now : Option Files) → now ≡ before → IfObserved (ChangesOnly names) before now
+pub same-changes : (names : List (List ℕ)) (before now : Option HostFiles) → now ≡ before → IfObserved (ChangesOnly names) before now
 same-changes names None now same = same
 same-changes names (Some before) None same = absurd (cc same)
-same-changes names (Some before) (Some now) same = λ name others. let equal : now ≡ before = cc same in ap (λ (files : Files). files name) equal
+same-changes names (Some before) (Some now) same = λ name others. let equal : now ≡ before = cc same in ap (λ (files : HostFiles). files name) equal
 
 -- no name of these is that one
 abbrev IsNone : List ℕ → List (List ℕ) → Type 0
@@ -24,7 +24,7 @@ differs name other is = by (bytes_eq name other) refl
     by true same = absurd (is ((bytes_eq-Decides name other).0 same))
 
 -- under another name the files are as they were
-with_images-other : (names images : List (List ℕ)) (files : Files) (name : List ℕ) → IsNone name names → with_images files names images name ≡ files name
+with_images-other : (names images : List (List ℕ)) (files : HostFiles) (name : List ℕ) → IsNone name names → with_images files names images name ≡ files name
 with_images-other [] images files name none = refl
 with_images-other (first ∷ names) [] files name none = refl
 with_images-other (first ∷ names) (image ∷ images) files name none =
@@ -45,13 +45,13 @@ not-named (first ∷ names) (suc number) name other named none =
     not-named names number name other named (All-tail (λ other. name ≢ other) first names none)
 
 -- all images were written
-pub all-change : (names images : List (List ℕ)) (before now : Option Files) → IfObserved (WritesAll names images) before now → IfObserved (ChangesOnly names) before now
+pub all-change : (names images : List (List ℕ)) (before now : Option HostFiles) → IfObserved (WritesAll names images) before now → IfObserved (ChangesOnly names) before now
 all-change names images None now wrote = wrote
 all-change names images (Some before) None wrote = wrote
 all-change names images (Some before) (Some now) wrote = λ name none. wrote name ∙ with_images-other names images before name none
 
 -- those up to one were
-pub first-change : (number : ℕ) (names images : List (List ℕ)) (before now : Option Files) → IfObserved (WritesUpTo number names images) before now → IfObserved (ChangesOnly names) before now
+pub first-change : (number : ℕ) (names images : List (List ℕ)) (before now : Option HostFiles) → IfObserved (WritesUpTo number names images) before now → IfObserved (ChangesOnly names) before now
 first-change number names images None now wrote = wrote
 first-change number names images (Some before) None wrote = wrote
 first-change number names images (Some before) (Some now) wrote = λ name none.

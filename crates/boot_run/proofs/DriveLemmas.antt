@@ -9,7 +9,7 @@ use Rattle.rbf_access.specs.Drive.{DriveCounts}
 use Rattle.os9_outer.specs.declared.drive.DriveFault.{DriveFault}
 use Rattle.file_drives.specs.Drives.{ChangesOneDrive, DriveView, drive_state, drive_states, media_at, media_of, unused_drive}
 use Rattle.boot_run.specs.DriveChanges.{IsEjected, IsInserted}
-use Rattle.boot_run.specs.Drives.{IsEmpty, TakesImages, holding, with_media, without_media}
+use Rattle.boot_run.specs.Drives.{IsEmptyDrive, TakesImages, holding, with_media, without_media}
 
 -- what is seen of a driver in the list
 pub seen-at : {Driver : Type 0} (view : Driver → DriveView) (drivers : List Driver) (n : ℕ) (driver : Driver)
@@ -44,18 +44,19 @@ Ejects-from bytes old new handed none faults last calls =
 
 -- ---- images that are put in
 
-empty-at : (drives : List DriveView) (n : ℕ) (drive : DriveView) → All IsEmpty drives → slice_get drives n ≡ Some drive → IsEmpty drive
+empty-at : (drives : List DriveView) (n : ℕ) (drive : DriveView) → All IsEmptyDrive drives → slice_get drives n ≡ Some drive → IsEmptyDrive drive
 empty-at [] n drive empty is = absurd (none-some drive is)
-empty-at (first ∷ drives) zero drive empty is = subst IsEmpty (same_Some first drive is) (All-head IsEmpty first drives empty)
-empty-at (first ∷ drives) (suc n) drive empty is = empty-at drives n drive (All-tail IsEmpty first drives empty) is
+empty-at (first ∷ drives) zero drive empty is = subst IsEmptyDrive (same_Some first drive is) (All-head IsEmptyDrive first drives empty)
+empty-at (first ∷ drives) (suc n) drive empty is = empty-at drives n drive (All-tail IsEmptyDrive first drives empty) is
 
 -- the next drive is still empty
-pub next-empty : (n : ℕ) (images : List (List ℕ)) (drives : List DriveView) (drive : DriveView) → All IsEmpty drives → slice_get (holding (take n images) drives) n ≡ Some drive → IsEmpty drive
+pub next-empty : (n : ℕ) (images : List (List ℕ)) (drives : List DriveView) (drive : DriveView)
+    → All IsEmptyDrive drives → slice_get (holding (take n images) drives) n ≡ Some drive → IsEmptyDrive drive
 next-empty zero images drives drive empty is = empty-at drives 0 drive empty is
 next-empty (suc n) [] drives drive empty is = empty-at drives (suc n) drive empty is
 next-empty (suc n) (image ∷ images) [] drive empty is = absurd (none-some drive is)
 next-empty (suc n) (image ∷ images) (first ∷ drives) drive empty is =
-    next-empty n images drives drive (All-tail IsEmpty first drives empty) is
+    next-empty n images drives drive (All-tail IsEmptyDrive first drives empty) is
 
 set-next : (n : ℕ) (images : List (List ℕ)) (drives : List DriveView) (image : List ℕ) (old : DriveView)
     → slice_get images n ≡ Some image → slice_get (holding (take n images) drives) n ≡ Some old
@@ -189,32 +190,32 @@ length-holding (image ∷ images) [] = refl
 length-holding (image ∷ images) (drive ∷ drives) = ap suc (length-holding images drives)
 
 -- none has an image
-pub empty-without : (drives : List DriveView) → All IsEmpty (map without_media drives)
+pub empty-without : (drives : List DriveView) → All IsEmptyDrive (map without_media drives)
 empty-without [] = λ k d below. absurd (omega (arith, below))
-empty-without (drive ∷ drives) = All-cons IsEmpty (without_media drive) (map without_media drives) refl (empty-without drives)
+empty-without (drive ∷ drives) = All-cons IsEmptyDrive (without_media drive) (map without_media drives) refl (empty-without drives)
 
 -- where none had one, they are as they were
-without-empty : (drives : List DriveView) → All IsEmpty drives → map without_media drives ≡ drives
+without-empty : (drives : List DriveView) → All IsEmptyDrive drives → map without_media drives ≡ drives
 without-empty [] empty = refl
 without-empty (drive ∷ drives) empty =
-    ap (λ media. record drive { media = media } ∷ map without_media drives) (sym (All-head IsEmpty drive drives empty))
-    ∙ ap (λ rest. drive ∷ rest) (without-empty drives (All-tail IsEmpty drive drives empty))
+    ap (λ media. record drive { media = media } ∷ map without_media drives) (sym (All-head IsEmptyDrive drive drives empty))
+    ∙ ap (λ rest. drive ∷ rest) (without-empty drives (All-tail IsEmptyDrive drive drives empty))
 
-pub given-back : (images : List (List ℕ)) (drives : List DriveView) → All IsEmpty drives → map without_media (holding images drives) ≡ drives
+pub given-back : (images : List (List ℕ)) (drives : List DriveView) → All IsEmptyDrive drives → map without_media (holding images drives) ≡ drives
 given-back [] drives empty = without-empty drives empty
 given-back (image ∷ images) [] empty = refl
 given-back (image ∷ images) (drive ∷ drives) empty =
-    ap (λ media. record drive { media = media } ∷ map without_media (holding images drives)) (sym (All-head IsEmpty drive drives empty))
-    ∙ ap (λ rest. drive ∷ rest) (given-back images drives (All-tail IsEmpty drive drives empty))
+    ap (λ media. record drive { media = media } ∷ map without_media (holding images drives)) (sym (All-head IsEmptyDrive drive drives empty))
+    ∙ ap (λ rest. drive ∷ rest) (given-back images drives (All-tail IsEmptyDrive drive drives empty))
 
 -- and the media are the same, whatever was in them
-pub media-without : (before after : List DriveView) → All IsEmpty before → length after ≡ length before → media_of (map without_media after) ≡ media_of before
+pub media-without : (before after : List DriveView) → All IsEmptyDrive before → length after ≡ length before → media_of (map without_media after) ≡ media_of before
 media-without [] [] empty count = refl
 media-without [] (now ∷ after) empty count = absurd (omega (arith, count))
 media-without (was ∷ before) [] empty count = absurd (omega (arith, count))
 media-without (was ∷ before) (now ∷ after) empty count =
-    ap (λ media. media ∷ media_of (map without_media after)) (sym (All-head IsEmpty was before empty))
-    ∙ ap (λ rest. was.media ∷ rest) (media-without before after (All-tail IsEmpty was before empty) (omega (arith, count)))
+    ap (λ media. media ∷ media_of (map without_media after)) (sym (All-head IsEmptyDrive was before empty))
+    ∙ ap (λ rest. was.media ∷ rest) (media-without before after (All-tail IsEmptyDrive was before empty) (omega (arith, count)))
 
 -- ---- images in drives
 

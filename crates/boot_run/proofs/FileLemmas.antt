@@ -1,7 +1,7 @@
 -- What the reads of files say of a longer call.
 use Rattle.std.proofs.Common.{◌≡◌, ℕ, zero, suc, Option, Some, None, Result, Ok, Err, List, [], ◌∷◌, ◌++◌, take, slice_get, refl, ap, ◌∙◌}
 use Rattle.std.specs.Prelude.{IfErr, IfSome}
-use Rattle.os9_outer.specs.Host.{Files, file_contents}
+use Rattle.os9_outer.specs.Host.{HostFiles, file_contents}
 use Rattle.os9_kernel.specs.Outside.{Outside}
 use Rattle.os9_words.specs.declared.command.RunWords.{RunWords}
 use Rattle.boot_run.specs.Images.{images_of}
@@ -24,7 +24,7 @@ stopped-as (Ok value) input name given before after name_of named is ended = tt
 stopped-as (Err end) input name given before after name_of named is ended = λ devices. ended devices name_of (named ∙ is)
 
 -- the three files were read
-pub has-files : (told : Option Files) (run : RunWords) (read : RunFiles) (name : List ℕ) → slice_get run.files 0 ≡
+pub has-files : (told : Option HostFiles) (run : RunWords) (read : RunFiles) (name : List ℕ) → slice_get run.files 0 ≡
     Some name → IfSome told (λ files. read.script.items ≡ script_of files run)
     → IfSome told (λ files. read.slices.items ≡ file_contents files run.slices)
     → IfSome told (λ files. read.modules.items ≡ file_contents files name)
@@ -37,7 +37,7 @@ has-files (Some files) run read name named script slices modules = record {
 }
 
 -- the files of a boot were read
-pub has-boot-files : (told : Option Files) (boot : RunWords) (read : BootFiles)
+pub has-boot-files : (told : Option HostFiles) (boot : RunWords) (read : BootFiles)
     → IfSome told (λ files. read.script.items ≡ script_of files boot)
     → IfSome told (λ files. read.slices.items ≡ file_contents files boot.slices)
     → IfSome told (λ files. read.images ≡ images_of files boot.files) → IfSome told (λ files. HasBootFiles files boot
@@ -46,7 +46,7 @@ has-boot-files None boot read script slices images = tt
 has-boot-files (Some files) boot read script slices images = record { script = script; slices = slices; images = images }
 
 -- one image more was read
-pub images-more : (told : Option Files) (names images : List (List ℕ)) (place : ℕ) (name image : List ℕ)
+pub images-more : (told : Option HostFiles) (names images : List (List ℕ)) (place : ℕ) (name image : List ℕ)
     → slice_get names place ≡ Some name → IfSome told (λ files. images ≡ images_of files (take place names))
     → IfSome told (λ files. image ≡ file_contents files name) → IfSome told (λ files. images ++ image ∷ [] ≡ images_of
     files (take (suc place) names))

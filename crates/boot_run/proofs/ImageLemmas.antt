@@ -4,14 +4,14 @@ use Rattle.std.proofs.lemmas.List.{take_all}
 use Rattle.std.proofs.lemmas.Option.{none-some, same_Some}
 use Rattle.std.proofs.lemmas.Slice.Eq.{bytes_eq-Decides}
 use Rattle.os9_base.specs.Count.{Rose}
-use Rattle.os9_outer.specs.Host.{Files, IfObserved, KeepsOrHoldsPrefix}
+use Rattle.os9_outer.specs.Host.{HostFiles, IfObserved, KeepsOrHoldsPrefix}
 use Rattle.boot_run.specs.World.{World, HasNoFault}
 use Rattle.boot_run.specs.Images.{with_file, with_images, WritesAll, WritesUpTo}
 use Rattle.boot_run.specs.ImageWrites.{WritesImages}
 use Rattle.boot_run.specs.declared.write.WriteFault.TheVariants.{Image, OutOfMemory}
 
 -- one image more
-with_images-more : (n : ℕ) (names images : List (List ℕ)) (name image : List ℕ) (files : Files) → slice_get names n ≡
+with_images-more : (n : ℕ) (names images : List (List ℕ)) (name image : List ℕ) (files : HostFiles) → slice_get names n ≡
     Some name → slice_get images n ≡ Some image → with_images files (take (suc n) names) (take (suc n) images) ≡
     with_file (with_images files (take n names) (take n images)) name image
 with_images-more n [] images name image files named here = absurd (none-some name named)
@@ -22,14 +22,14 @@ with_images-more (suc n) (first ∷ names) (one ∷ images) name image files nam
     with_images-more n names images name image (with_file files first one) named here
 
 -- the images before this number are written
-abbrev pub WritesFirst : ℕ → List (List ℕ) → List (List ℕ) → Files → Files → Type 0
+abbrev pub WritesFirst : ℕ → List (List ℕ) → List (List ℕ) → HostFiles → HostFiles → Type 0
 WritesFirst n names images before now = WritesAll (take n names) (take n images) before now
 
-pub none-written : (names images : List (List ℕ)) (files : Option Files) → IfObserved (WritesFirst 0 names images) files files
+pub none-written : (names images : List (List ℕ)) (files : Option HostFiles) → IfObserved (WritesFirst 0 names images) files files
 none-written names images None = refl
 none-written names images (Some files) = λ name. refl
 
-files-more : (n : ℕ) (names images : List (List ℕ)) (name image : List ℕ) (before mid now : Files) → slice_get names n
+files-more : (n : ℕ) (names images : List (List ℕ)) (name image : List ℕ) (before mid now : HostFiles) → slice_get names n
     ≡ Some name → slice_get images n ≡ Some image → WritesFirst n names images before mid → now name ≡ Some image
     → ((other : List ℕ) → other ≢ name → now other ≡ mid other) → WritesFirst (suc n) names images before now
 files-more n names images name image before mid now named here so_far written kept other =
@@ -41,7 +41,7 @@ files-more n names images name image before mid now named here so_far written ke
         let others : other ≢ name = λ e. let same : bytes_eq other name ≡ true = (bytes_eq-Decides other name).1 e in cc in
         rw differs (kept other others ∙ so_far other)
 
-pub writes-more : (n : ℕ) (names images : List (List ℕ)) (name image : List ℕ) (first mid next : Option Files)
+pub writes-more : (n : ℕ) (names images : List (List ℕ)) (name image : List ℕ) (first mid next : Option HostFiles)
     → slice_get names n ≡ Some name → slice_get images n ≡ Some image → IfObserved (WritesFirst n names images) first
     mid → IfObserved (λ before now. now name ≡ Some image) mid next → IfObserved (λ before now. (other : List ℕ)
     → other ≢ name → now other ≡ before other) mid next → IfObserved (WritesFirst (suc n) names images) first next
@@ -54,7 +54,7 @@ writes-more n names images name image (Some before) (Some mid) (Some now) named 
     files-more n names images name image before mid now named here so_far written kept
 
 -- the next was not written, or in part
-pub writes-up_to : (n : ℕ) (names images : List (List ℕ)) (name image : List ℕ) (first mid next : Option Files)
+pub writes-up_to : (n : ℕ) (names images : List (List ℕ)) (name image : List ℕ) (first mid next : Option HostFiles)
     → slice_get names n ≡ Some name → slice_get images n ≡ Some image → IfObserved (WritesFirst n names images) first
     mid → IfObserved (λ before now. KeepsOrHoldsPrefix (before name) image (now name)) mid next
     → IfObserved (λ before now. (other : List ℕ) → other ≢ name → now other ≡ before other) mid next
@@ -74,7 +74,7 @@ writes-up_to n names images name image (Some before) (Some mid) (Some now) named
 }
 
 -- all are written
-pub all-written : (names images : List (List ℕ)) (n : ℕ) (first next : Option Files) → length names ≤ n
+pub all-written : (names images : List (List ℕ)) (n : ℕ) (first next : Option HostFiles) → length names ≤ n
     → length images ≤ n → IfObserved (WritesFirst n names images) first next → IfObserved (WritesAll names images)
     first next
 all-written names images n None next named count written = written

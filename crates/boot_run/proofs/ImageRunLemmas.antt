@@ -6,7 +6,7 @@ use Rattle.std.proofs.lemmas.List.Elements.{All-head, All-tail}
 use Rattle.std.proofs.lemmas.Option.{none-some, same_Some}
 use Rattle.lock_model.specs.declared.history.Entry.{Entry}
 use Rattle.rbf_model.specs.Volume.{DiskVolume, Vol}
-use Rattle.file_rules.specs.Files.{DriveState, NoneFailed, OneFailed, volume_at}
+use Rattle.file_rules.specs.Files.{DriveState, KeepsDriveFaults, OneFailed, volume_at}
 use Rattle.file_rules.specs.declared.path_call.PathCall.{PathCall}
 use Rattle.file_drives.specs.Drives.{DriveView, drive_states, media_of}
 use Rattle.file_drives.specs.Mounted.{DriveHolds}
@@ -24,13 +24,13 @@ use Rattle.os9_kernel.specs.Outside.{Outside}
 use Rattle.os9_kernel.specs.Volumes.{HoldsVolumes}
 use Rattle.os9_outer.specs.Stream.{stream_with}
 use Rattle.os9_outer.specs.TerminalState.{TerminalState}
-use Rattle.boot_run.specs.Machine.{ComesTo, FailsToMount, IsUnrun, LeavesUnrun, MachineCall, RunsFirst, RunsTo, RunsWhole, Setup, StartsLoaded, boot_of}
+use Rattle.boot_run.specs.Machine.{MachineOutcome, FailsToMount, IsUnrun, LeavesUnrun, MachineCall, RunsFirst, RunsTo, RunsWhole, Setup, StartsLoaded, boot_of}
 use Rattle.boot_run.specs.Slices.{BreaksOutput, RunsPartly}
 use Rattle.boot_run.specs.World.{World, HasNoFault}
 use Rattle.boot_run.specs.declared.machine.RunEnd.{RunEnd}
 use Rattle.boot_run.specs.declared.machine.RunEnd.TheVariants.{Ended, Living, Refused, DriveFailed, OutputFailed, NoMemory}
 use Rattle.boot_run.specs.BootFile.{IsVolume}
-use Rattle.boot_run.specs.Drives.{HaveRoom, IsEmpty, TakesImages, holding, without_media}
+use Rattle.boot_run.specs.Drives.{HaveRoom, IsEmptyDrive, TakesImages, holding, without_media}
 use Rattle.boot_run.specs.Outcome.{EndsWithImages, HasOutcome, IsImageOf, KeepsUnchanged, RunGives, RunsImages, with_images_in}
 use Rattle.boot_run.specs.Ready.{AreEmptyAgain}
 use Rattle.boot_run.proofs.DriveLemmas.{counts-holding, counts-without, empty-without, given-back, holding-at, holding-view, media-without}
@@ -75,7 +75,7 @@ have-images images drives enough = record { as_many = refl; each = holding-at im
 empty-again : (new : List (List ℕ)) (before ran left : List DriveView) → length ran ≡ length before → TakesImages new ran left → AreEmptyAgain before left
 empty-again new before ran left many taken = record {
   as_many = ap length taken.left ∙ length-map ran without_media ∙ many;
-  empty = subst (All IsEmpty) (sym taken.left) (empty-without ran);
+  empty = subst (All IsEmptyDrive) (sym taken.left) (empty-without ran);
 }
 
 -- ---- a world with other drives
@@ -226,8 +226,8 @@ module _ (setup : Setup) (before ran : World) (new : List (List ℕ)) (drives : 
   unrun-after it = record {
     out = it.out;
     terminals = it.terminals;
-    none_failed = subst (λ (states : List DriveState). NoneFailed states (drive_states drives)) before-counted
-        (subst (NoneFailed (drive_states held.devices.drives)) (sym after-counted) it.none_failed);
+    none_failed = subst (λ (states : List DriveState). KeepsDriveFaults states (drive_states drives)) before-counted
+        (subst (KeepsDriveFaults (drive_states held.devices.drives)) (sym after-counted) it.none_failed);
     media_kept = media-again;
   }
 
@@ -280,7 +280,7 @@ module _ (setup : Setup) (before ran : World) (new : List (List ℕ)) (drives : 
 
   -- ---- by the end of the run
 
-  run-gives : (history : List Entry) (end : RunEnd) → ComesTo setup history held ran end → RunGives setup new history before after end
+  run-gives : (history : List Entry) (end : RunEnd) → MachineOutcome setup history held ran end → RunGives setup new history before after end
   run-gives history (Ended begun) it = ends-with false begun history it
   run-gives history (Living begun) it = ends-with true begun history it
   run-gives history (Refused fault) it = tt

@@ -5,7 +5,7 @@ use Rattle.std.proofs.lemmas.Option.{slice_get-map, slice_get_read}
 use Rattle.os9_outer.specs.declared.terminal.Key.{Key}
 use Rattle.os9_outer.specs.TerminalState.{TerminalState, ChangesOneTerminal}
 use Rattle.script_text.specs.declared.script.ScriptKey.{ScriptKey}
-use Rattle.boot_run.specs.Loaded.{keys_for, with_keys, loaded_from, HasNoKeys, IsLoaded, LoadsFrom}
+use Rattle.boot_run.specs.Loaded.{keys_for, with_keys, loaded_from, HasNoKeys, AreKeysLoaded, LoadsTerminalsFrom}
 
 -- the state of the terminal whose driver stands at a place
 pub state-at : {Driver : Type 0} (screen : Driver → TerminalState) (drivers : List Driver) (n : ℕ) (driver : Driver)
@@ -14,7 +14,7 @@ state-at screen drivers n driver inside here =
     slice_get-map screen drivers n ∙ ap (option_map screen) (slice_get_read drivers (length drivers) n driver refl inside here)
 
 -- what was loaded on the terminal of a driver
-pub is-loaded : (keys : List Key) (old new : TerminalState) → new.keys ≡ keys → new.put ≡ old.put → new.faults ≡ old.faults → IsLoaded keys old new
+pub is-loaded : (keys : List Key) (old new : TerminalState) → new.keys ≡ keys → new.put ≡ old.put → new.faults ≡ old.faults → AreKeysLoaded keys old new
 is-loaded keys old new loaded put faults =
     let by : List Key → Option (List ℕ) → ℕ → TerminalState = λ keys put faults. record { keys = keys; put = put; faults = faults } in
     ap (λ k. by k new.put new.faults) loaded ∙ ap (λ p. by keys p new.faults) put ∙ ap (λ f. by keys old.put f) faults
@@ -40,8 +40,8 @@ loads-one (suc at) number keys (terminal ∷ before) old inside here =
     ap (λ rest. terminal ∷ rest) (loads-one at number keys before old (omega (arith, inside)) here)
 
 pub loads-more : (number : ℕ) (keys : List ScriptKey) (own : List Key) (before mid now : List TerminalState)
-    → number < length before → own ≡ keys_for number keys → LoadsFrom (number + 1) keys before mid
-    → ChangesOneTerminal (IsLoaded own) number mid now → LoadsFrom number keys before now
+    → number < length before → own ≡ keys_for number keys → LoadsTerminalsFrom (number + 1) keys before mid
+    → ChangesOneTerminal (AreKeysLoaded own) number mid now → LoadsTerminalsFrom number keys before now
 loads-more number keys own before mid now inside is behind (old, new, here, set, loaded) =
     let there : mid ≡ take (suc number) before ++ loaded_from (suc number) keys (drop (suc number) before) = behind ∙ rw add-one refl in
     set
@@ -57,5 +57,5 @@ all-loaded (suc at) number keys (terminal ∷ before) end =
     ap (λ rest. terminal ∷ rest) (all-loaded at number keys before (omega (arith, end)))
 
 -- where there is no terminal any more, all are loaded
-pub loads-none : (number : ℕ) (keys : List ScriptKey) (before : List TerminalState) → number ≡ length before → LoadsFrom number keys before before
+pub loads-none : (number : ℕ) (keys : List ScriptKey) (before : List TerminalState) → number ≡ length before → LoadsTerminalsFrom number keys before before
 loads-none number keys before end = sym (all-loaded number number keys before end)

@@ -13,14 +13,14 @@ use Rattle.script_text.specs.declared.script.ScriptKey.{ScriptKey}
 use Rattle.boot_run.specs.Loaded.{keys_for, loaded, loaded_from, with_keys, AreUnloaded}
 use Rattle.lock_model.specs.declared.history.Entry.{Entry}
 use Rattle.rbf_model.specs.Volume.{DiskVolume}
-use Rattle.file_rules.specs.Files.{DriveState, NoneFailed}
+use Rattle.file_rules.specs.Files.{DriveState, KeepsDriveFaults}
 use Rattle.file_drives.specs.Drives.{DriveView, boxed_seen, drive_states, drive_views, media_at, media_of, unused_drive}
 use Rattle.file_drives.specs.Mounted.{DriveHolds}
-use Rattle.file_state.specs.Tie.{StandsFor}
+use Rattle.file_state.specs.Tie.{RepresentsFiles}
 use Rattle.cold_start.proofs.FirstLemmas.{some-volume}
 use Rattle.cold_start.specs.Start.{HaveImages, HaveVolumes, StartsDrives}
 use Rattle.cold_start.specs.declared.fault.StartFault.{StartFault}
-use Rattle.machine_model.specs.ProcessStart.{Refuses}
+use Rattle.machine_model.specs.ProcessStart.{RefusesBoot}
 use Rattle.machine_model.specs.Living.{living_count}
 use Rattle.machine_model.specs.declared.ends.BootFault.{BootFault}
 use Rattle.machine_model.specs.declared.ends.BootFault.TheVariants.{OutOfMemory, BadModule, NoFirst, TooLarge}
@@ -33,7 +33,7 @@ use Rattle.os9_kernel.specs.declared.new.StartError.{StartError}
 use Rattle.os9_kernel.specs.declared.new.StartError.TheVariants.{Boot, Drive}
 use Rattle.os9_kernel.specs.Outside.{Outside}
 use Rattle.os9_kernel.specs.Starting.{StartIsRefused, WhereRefused, drive_fault}
-use Rattle.os9_kernel.specs.Tie.{Represents, Stands}
+use Rattle.os9_kernel.specs.Tie.{Represents, RepresentsSomeState}
 use Rattle.os9_kernel.proofs.Holding.{holds-volumes}
 use Rattle.boot_run.specs.declared.machine.RunEnd.{RunEnd}
 use Rattle.boot_run.specs.declared.machine.RunEnd.TheVariants.{Ended, Living, OutputFailed, NoMemory}
@@ -146,7 +146,7 @@ partly-from slices s before after devices ran = record {
 
 module _ (setup : Setup) (kernel : Kernel) (before : World) (started later : Outside)
     (unloaded : AreUnloaded before.devices.terms) (civil : is_time_packet setup.time ≡ true)
-    (none_failed : NoneFailed (drive_states before.devices.drives) (drive_states started.drives))
+    (none_failed : KeepsDriveFaults (drive_states before.devices.drives) (drive_states started.drives))
     (drives : later.drives ≡ started.drives) (media : (n : ℕ) → media_at started.drives n ≡ media_at
     before.devices.drives n) (terms : later.terms ≡ loaded setup.keys before.devices.terms)
     (begins : Begins setup kernel started) where
@@ -185,14 +185,14 @@ module _ (setup : Setup) (kernel : Kernel) (before : World) (started later : Out
   unfolding begun was
   tied = record {
     processes = begins.2.processes;
-    files = subst (λ (views : List DriveView). StandsFor kernel.machine.files views was.files) (sym drives) begins.2.files;
+    files = subst (λ (views : List DriveView). RepresentsFiles kernel.machine.files views was.files) (sym drives) begins.2.files;
     is = λ i. record (begins.2.is i) { terms = later.terms };
     run = start-open (boot_with setup (drive_states started.drives) later.terms) begun starts (omega (arith, count, unloaded.some)) (omega (arith, count, unloaded.few)) civil;
     looked = begins.2.looked;
     known = begins.2.known;
   }
 
-  pub stands-loaded : Stands kernel later
+  pub stands-loaded : RepresentsSomeState kernel later
   stands-loaded = (begun, tied)
 
   observed : All IsObserved before.devices.terms → All IsObserved later.terms
@@ -319,7 +319,7 @@ module _ (setup : Setup) (kernel : Kernel) (before : World) (started later : Out
 -- ---- nothing was run
 
 -- memory was out before the first slice
-pub called-nothing : (setup : Setup) (world : World) (devices : Outside) → NoneFailed (drive_states world.devices.drives) (drive_states devices.drives)
+pub called-nothing : (setup : Setup) (world : World) (devices : Outside) → KeepsDriveFaults (drive_states world.devices.drives) (drive_states devices.drives)
     → media_of devices.drives ≡ media_of world.devices.drives → devices.terms ≡ world.devices.terms → MachineCall setup [] world (with_devices world devices) NoMemory
 called-nothing setup world devices none_failed media terms = record {
   comes = λ told. inl (record { out = refl; terminals = terms; none_failed = none_failed; media_kept = media });
@@ -344,7 +344,7 @@ called-refused setup config world devices (Boot OutOfMemory) blocks images refus
     called-nothing setup world devices moved.moves (media-kept world.devices.drives devices.drives count moved.media) terms
 called-refused setup config world devices (Boot (BadModule at error)) blocks images refused same moved count terms = record {
   comes = λ told. tt;
-  judged = subst (λ (blocks : ℕ). Refuses setup.file blocks (BadModule at error)) blocks (refused (λ e. cc e));
+  judged = subst (λ (blocks : ℕ). RefusesBoot setup.file blocks (BadModule at error)) blocks (refused (λ e. cc e));
   unrun = ap (λ (devices : Outside). with_devices world devices) (same (λ e. cc e));
   output_fault = λ e. cc e;
   no_fault = λ no. (refl, refl, refl);
@@ -352,7 +352,7 @@ called-refused setup config world devices (Boot (BadModule at error)) blocks ima
 }
 called-refused setup config world devices (Boot NoFirst) blocks images refused same moved count terms = record {
   comes = λ told. tt;
-  judged = subst (λ (blocks : ℕ). Refuses setup.file blocks NoFirst) blocks (refused (λ e. cc e));
+  judged = subst (λ (blocks : ℕ). RefusesBoot setup.file blocks NoFirst) blocks (refused (λ e. cc e));
   unrun = ap (λ (devices : Outside). with_devices world devices) (same (λ e. cc e));
   output_fault = λ e. cc e;
   no_fault = λ no. (refl, refl, refl);
@@ -360,7 +360,7 @@ called-refused setup config world devices (Boot NoFirst) blocks images refused s
 }
 called-refused setup config world devices (Boot TooLarge) blocks images refused same moved count terms = record {
   comes = λ told. tt;
-  judged = subst (λ (blocks : ℕ). Refuses setup.file blocks TooLarge) blocks (refused (λ e. cc e));
+  judged = subst (λ (blocks : ℕ). RefusesBoot setup.file blocks TooLarge) blocks (refused (λ e. cc e));
   unrun = ap (λ (devices : Outside). with_devices world devices) (same (λ e. cc e));
   output_fault = λ e. cc e;
   no_fault = λ no. (refl, refl, refl);
@@ -368,7 +368,7 @@ called-refused setup config world devices (Boot TooLarge) blocks images refused 
 }
 called-refused setup config world devices (Drive drive number) blocks images accepted same moved count terms = record {
   comes = λ told. tt;
-  judged = subst (λ (blocks : ℕ). (fault : BootFault) → ¬ Refuses setup.file blocks fault) blocks accepted;
+  judged = subst (λ (blocks : ℕ). (fault : BootFault) → ¬ RefusesBoot setup.file blocks fault) blocks accepted;
   unrun = record {
     among = subst (λ k. drive < k) (sym images) moved.among;
     failed = moved.moves;

@@ -1,7 +1,7 @@
 -- The file that a command makes, and what is passed to the output stream.
 use Rattle.std.proofs.Common.{◌≡◌, ◌≢◌, ◌⊎◌, ℕ, false, Option, None, Some, Result, Ok, Err, OnOk, List, [], ◌∷◌, ◌++◌, refl, sym, ap, ◌∙◌, append-nil, inl, inr}
 use Rattle.os9_base.specs.Count.{Rose}
-use Rattle.os9_outer.specs.Host.{Files, IfObserved, KeepsOrHoldsPrefix, NotesName, OnFailed, UnlessFailed}
+use Rattle.os9_outer.specs.Host.{HostFiles, IfObserved, KeepsOrHoldsPrefix, NotesName, OnFailed, UnlessFailed}
 use Rattle.os9_outer.specs.declared.host.HostFault.{HostFault}
 use Rattle.os9_outer.specs.declared.host.HostFault.TheVariants.{Failed, OutOfMemory}
 use Rattle.os9_outer.specs.Stream.{stream_with}
@@ -11,7 +11,7 @@ use Rattle.boot_run.proofs.ImageLemmas.{none-written, writes-more, writes-up_to}
 use Rattle.boot_run.specs.World.{World}
 use Rattle.boot_run.specs.Output.{NotesOutput, Prints, WritesOutput}
 
-module _ (name bytes : List ℕ) (before after : Option Files) (others : IfObserved (λ before now. (other : List ℕ) → other ≢ name → now other ≡ before other) before after) where
+module _ (name bytes : List ℕ) (before after : Option HostFiles) (others : IfObserved (λ before now. (other : List ℕ) → other ≢ name → now other ≡ before other) before after) where
   -- it was written whole
   pub written-one : IfObserved (λ before now. now name ≡ Some bytes) before after → IfObserved (WritesAll (name ∷ []) (bytes ∷ [])) before after
   written-one written =

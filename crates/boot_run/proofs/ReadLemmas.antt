@@ -2,7 +2,7 @@
 use Rattle.std.proofs.Common.{◌≡◌, ◌⊎◌, ℕ, zero, suc, Option, Some, None, Ok, Err, List, [], ◌∷◌, ◌++◌, length, take, drop, slice_get, refl, sym, ap, subst, ◌∙◌, inl, inr, append_assoc, append-nil, take-append-drop, arith}
 use Rattle.std.specs.Option.{option_map_or}
 use Rattle.std.specs.Prelude.{Result, OnOk, IfErr}
-use Rattle.os9_words.specs.Notes.{HasRead, HasWritten, Notes, having_read}
+use Rattle.os9_words.specs.Notes.{HasReadFiles, HasWritten, Notes, having_read}
 use Rattle.os9_words.specs.declared.command.RunWords.{RunWords}
 use Rattle.boot_run.specs.World.{World}
 use Rattle.boot_run.specs.declared.status.End.{End}
@@ -26,13 +26,13 @@ abbrev pub with_names : Notes → (read written : List (List ℕ)) → Notes
 with_names notes read written = record { read = read; written = written; err = notes.err; err_faults = notes.err_faults }
 
 -- these files were read, and then those
-pub read-then : (a b : List (List ℕ)) (first mid next : Notes) → HasRead a first mid → HasRead b mid next → HasRead (a ++ b) first next
+pub read-then : (a b : List (List ℕ)) (first mid next : Notes) → HasReadFiles a first mid → HasReadFiles b mid next → HasReadFiles (a ++ b) first next
 read-then a b first mid next one two = record {
   is = two.is ∙ ap (λ (notes : Notes). having_read b notes) one.is ∙ ap (λ names. with_names first names first.written) (append_assoc first.read a b);
 }
 
 -- none was read
-pub read-none : (notes : Notes) → HasRead [] notes notes
+pub read-none : (notes : Notes) → HasReadFiles [] notes notes
 read-none notes = record { is = ap (λ names. with_names notes names notes.written) (sym (append-nil notes.read)) }
 
 -- none was written
@@ -42,7 +42,7 @@ written-none notes = record { is = ap (λ names. with_names notes notes.read nam
 -- the file of this name was read
 pub noted-read : (name : List ℕ) (before after : Notes) → after.read ≡ before.read ++ name ∷ []
     → after.written ≡ before.written → after.err ≡ before.err → after.err_faults ≡ before.err_faults
-    → HasRead (name ∷ []) before after
+    → HasReadFiles (name ∷ []) before after
 noted-read name before after read written err err_faults =
     record { is = λ i. record { read = read i; written = written i; err = err i; err_faults = err_faults i } }
 
@@ -50,7 +50,7 @@ noted-read name before after read written err err_faults =
 
 module _ (name_of : Input → Option (List ℕ)) (first mid next : Notes) where
   -- files of other names were read before
-  pub stop-behind : (a b : List (List ℕ)) (end : End) → HasRead a first mid → NotesStop name_of b end mid next → NotesStop name_of (a ++ b) end first next
+  pub stop-behind : (a b : List (List ℕ)) (end : End) → HasReadFiles a first mid → NotesStop name_of b end mid next → NotesStop name_of (a ++ b) end first next
   stop-behind a b end one stopped = record {
     read = a ++ stopped.read;
     stops = by end stopped.read stopped.stops;
@@ -92,7 +92,7 @@ module _ (name_of : Input → Option (List ℕ)) (first next : Notes) where
       by end read stops = absurd stops
 
   -- the only file
-  pub stop-failed : (input : Input) (name : List ℕ) → name_of input ≡ Some name → HasRead (name ∷ []) first next → NotesStop name_of (name ∷ []) (CannotRead input) first next
+  pub stop-failed : (input : Input) (name : List ℕ) → name_of input ≡ Some name → HasReadFiles (name ∷ []) first next → NotesStop name_of (name ∷ []) (CannotRead input) first next
   stop-failed input name named noted = record {
     read = name ∷ [];
     stops = (name, named, record { earlier = []; later = []; whole = refl; is = refl });
@@ -123,12 +123,12 @@ module _ (n : ℕ) (names : List (List ℕ)) (name : List ℕ) (named : slice_ge
   parts-at : names ≡ (take n names ++ name ∷ []) ++ drop (suc n) names
   parts-at = sym (take-append-drop (suc n) names) ∙ ap (λ front. front ++ drop (suc n) names) (take-suc n names name named)
 
-  pub read-one : (first mid next : Notes) → HasRead (take n names) first mid → HasRead (name ∷ []) mid next → HasRead (take (suc n) names) first next
+  pub read-one : (first mid next : Notes) → HasReadFiles (take n names) first mid → HasReadFiles (name ∷ []) mid next → HasReadFiles (take (suc n) names) first next
   read-one first mid next one two =
-      subst (λ front. HasRead front first next) (sym (take-suc n names name named)) (read-then (take n names) (name ∷ []) first mid next one two)
+      subst (λ front. HasReadFiles front first next) (sym (take-suc n names name named)) (read-then (take n names) (name ∷ []) first mid next one two)
 
   -- one of them could not be read
-  pub stop-at : (name_of : Input → Option (List ℕ)) (end : End) (first mid next : Notes) → HasRead (take n names)
+  pub stop-at : (name_of : Input → Option (List ℕ)) (end : End) (first mid next : Notes) → HasReadFiles (take n names)
       first mid → NotesStop name_of (name ∷ []) end mid next → NotesStop name_of names end first next
   stop-at name_of end first mid next one stopped =
       subst (λ names. NotesStop name_of names end first next) (sym parts-at) (stop-before name_of first next
@@ -136,7 +136,8 @@ module _ (n : ℕ) (names : List (List ℕ)) (name : List ℕ) (named : slice_ge
       (name ∷ []) end one stopped))
 
   -- memory was out behind the read of one of them
-  pub stop-behind-read : (name_of : Input → Option (List ℕ)) (first mid next : Notes) → HasRead (take n names) first mid → HasRead (name ∷ []) mid next → NotesStop name_of names NoMemory first next
+  pub stop-behind-read : (name_of : Input → Option (List ℕ)) (first mid next : Notes) → HasReadFiles (take n names)
+      first mid → HasReadFiles (name ∷ []) mid next → NotesStop name_of names NoMemory first next
   stop-behind-read name_of first mid next one two = record {
     read = take n names ++ name ∷ [];
     stops = (drop (suc n) names, parts-at);
@@ -153,19 +154,19 @@ module _ (name_of : Input → Option (List ℕ)) (names : List (List ℕ)) (name
   pub stop-only : (end : End) → NotesStop name_of (name ∷ []) end first next → NotesStop name_of names end first next
   stop-only end stopped = subst (λ names. NotesStop name_of names end first next) (sym only) stopped
 
-  pub read-only : HasRead (name ∷ []) first next → HasRead names first next
-  read-only noted = subst (λ names. HasRead names first next) (sym only) noted
+  pub read-only : HasReadFiles (name ∷ []) first next → HasReadFiles names first next
+  read-only noted = subst (λ names. HasReadFiles names first next) (sym only) noted
 
 -- the script is named
 module _ {Value : Type 0} (answer : Result Value End) (run : RunWords) (name : List ℕ) (is : run.script ≡ Some name) (first next : Notes) where
   script-is : script_names run ≡ name ∷ []
   script-is = ap (λ script. option_map_or (λ script. script ∷ []) script []) is
 
-  pub script-read : OnOk answer (HasRead (name ∷ []) first next) → OnOk answer (HasRead (script_names run) first next)
+  pub script-read : OnOk answer (HasReadFiles (name ∷ []) first next) → OnOk answer (HasReadFiles (script_names run) first next)
   script-read noted = by answer noted
     where
-      by : (answer : Result Value End) → OnOk answer (HasRead (name ∷ []) first next) → OnOk answer (HasRead (script_names run) first next)
-      by (Ok value) noted = subst (λ names. HasRead names first next) (sym script-is) noted
+      by : (answer : Result Value End) → OnOk answer (HasReadFiles (name ∷ []) first next) → OnOk answer (HasReadFiles (script_names run) first next)
+      by (Ok value) noted = subst (λ names. HasReadFiles names first next) (sym script-is) noted
       by (Err end) noted = tt
 
   pub script-stopped : IfErr answer (λ end. (name_of : Input → Option (List ℕ)) → name_of Script ≡ Some name
@@ -181,7 +182,7 @@ module _ {Value : Type 0} (answer : Result Value End) (run : RunWords) (name : L
           subst (λ names. NotesStop (run_file_name run) names end first next) (sym script-is) (stopped (run_file_name run) is)
 
 -- none is named
-pub script-none : (run : RunWords) (notes : Notes) → run.script ≡ None → HasRead (script_names run) notes notes
+pub script-none : (run : RunWords) (notes : Notes) → run.script ≡ None → HasReadFiles (script_names run) notes notes
 script-none run notes is =
     let none : script_names run ≡ [] = ap (λ script. option_map_or (λ script. script ∷ []) script []) is in
-    subst (λ names. HasRead names notes notes) (sym none) (read-none notes)
+    subst (λ names. HasReadFiles names notes notes) (sym none) (read-none notes)

@@ -17,10 +17,10 @@ use Rattle.machine_model.specs.Run.{BeginsSlice, Run, Slice}
 use Rattle.machine_model.specs.State.{State, has_living}
 use Rattle.machine_model.proofs.Gains.{slice-gains}
 use Rattle.os9_kernel.specs.declared.kernel.Kernel.{Kernel}
-use Rattle.os9_kernel.specs.Calls.{HasSlice, StopsSlice}
-use Rattle.os9_kernel.specs.Changes.{BeginsAt, KeepsImages}
+use Rattle.os9_kernel.specs.Calls.{KernelSlice, StopsSlice}
+use Rattle.os9_kernel.specs.Changes.{BeginsEventAt, KeepsImages}
 use Rattle.os9_kernel.specs.Outside.{Outside}
-use Rattle.os9_kernel.specs.Tie.{Represents, Stands}
+use Rattle.os9_kernel.specs.Tie.{Represents, RepresentsSomeState}
 use Rattle.os9_kernel.proofs.Changing.{none-before}
 use Rattle.os9_kernel.proofs.Holding.{holds-still}
 use Rattle.os9_kernel.proofs.Represented.{represents-emptied}
@@ -59,9 +59,9 @@ represents-taken kernel mid now t drives terms tied =
     subst (λ (devices : Outside). Represents kernel devices (record t { terms = terminals_emptied t.terms })) is (represents-emptied kernel mid t tied)
 
 -- a slice that was run leaves a kernel that stands, also when the bytes are taken from the terminals
-pub stands-emptied : (n : ℕ) (old new : Kernel) (before mid now : Outside) (end : SliceEnd) → Stands old before
-    → end ≢ SliceEnd.NoMemory → HasSlice n old new before mid end → now.drives ≡ mid.drives
-    → now.terms ≡ terminals_emptied mid.terms → Stands new now
+pub stands-emptied : (n : ℕ) (old new : Kernel) (before mid now : Outside) (end : SliceEnd) → RepresentsSomeState old before
+    → end ≢ SliceEnd.NoMemory → KernelSlice n old new before mid end → now.drives ≡ mid.drives
+    → now.terms ≡ terminals_emptied mid.terms → RepresentsSomeState new now
 stands-emptied n old new before mid now end (s, tied) more slice drives terms =
     let (states, t, steps, there, kept) = slice.step more s tied in
     (record t { terms = terminals_emptied t.terms }, represents-taken new mid now t drives terms there)
@@ -151,7 +151,7 @@ RunsSlice n kernel devices end after mid =
 
 -- an event of the next slice is one of the run
 begins-later : (slices : List ℕ) (count n : ℕ) (s m : State) (states begun : List State) (written : List ℕ) → slice_get slices count ≡ Some n → has_living m ≡ true
-    → Run (take count slices) s states written m → (at : State) → BeginsAt (BeginsSlice n m) begun at → BeginsAt (ComesInto slices s) (states ++ begun) at
+    → Run (take count slices) s states written m → (at : State) → BeginsEventAt (BeginsSlice n m) begun at → BeginsEventAt (ComesInto slices s) (states ++ begun) at
 begins-later slices count n s m states begun written here lives run at it = record {
   first = states ++ it.first;
   there = record {

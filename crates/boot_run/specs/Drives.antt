@@ -3,14 +3,14 @@ use Rattle.std.specs.Prelude.{◌≡◌, ◌≤◌, ℕ, Some, None, List, [], �
 use Rattle.file_drives.specs.Drives.{DriveView, media_at}
 
 -- no image is in the drive
-abbrev pub IsEmpty : DriveView → Type 0
-IsEmpty drive = drive.media ≡ None
+abbrev pub IsEmptyDrive : DriveView → Type 0
+IsEmptyDrive drive = drive.media ≡ None
 
 -- there are at most four drives, at least one for each image, and no image is in them
 pub record HaveRoom (images : ℕ) (drives : List DriveView) : Type 0 where
   pub enough : images ≤ length drives
   pub few : length drives ≤ 4
-  pub empty : All IsEmpty drives
+  pub empty : All IsEmptyDrive drives
 
 -- the drive with this image in it, and without one
 abbrev pub with_media : List ℕ → DriveView → DriveView

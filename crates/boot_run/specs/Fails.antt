@@ -18,9 +18,9 @@ FailsToWriteInput name_of input before after =
 
 -- the host failed as the end of the command says, whose words give its files these names; at every other end it did not
 -- fail
-abbrev pub FailsAsTold : (Input → Option (List ℕ)) → End → World → World → Type 0
-FailsAsTold name_of (CannotRead input) before after = FailsToReadInput name_of input before after
-FailsAsTold name_of CannotWrite before after = FailsToWrite before after
-FailsAsTold name_of (CannotWriteImage number) before after = FailsToWriteInput name_of (Image number) before after
-FailsAsTold name_of CannotWriteFile before after = FailsToWriteInput name_of File before after
-FailsAsTold name_of end before after = HasNoFault before after
+abbrev pub FailsAsReported : (Input → Option (List ℕ)) → End → World → World → Type 0
+FailsAsReported name_of (CannotRead input) before after = FailsToReadInput name_of input before after
+FailsAsReported name_of CannotWrite before after = FailsToWrite before after
+FailsAsReported name_of (CannotWriteImage number) before after = FailsToWriteInput name_of (Image number) before after
+FailsAsReported name_of CannotWriteFile before after = FailsToWriteInput name_of File before after
+FailsAsReported name_of end before after = HasNoFault before after

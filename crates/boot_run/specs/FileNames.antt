@@ -17,8 +17,8 @@ run_inputs run = script_names run ++ run.slices ∷ run.files
 -- ---- parts of a list of names
 
 -- the first of these names: all, some or none
-abbrev pub IsFront : List (List ℕ) → List (List ℕ) → Type 0
-IsFront front names = (rest : List (List ℕ)) × (names ≡ front ++ rest)
+abbrev pub AreFirstNames : List (List ℕ) → List (List ℕ) → Type 0
+AreFirstNames front names = (rest : List (List ℕ)) × (names ≡ front ++ rest)
 
 -- those up to this name, which is included
 pub record IsUpTo (name : List ℕ) (front names : List (List ℕ)) : Type 0 where

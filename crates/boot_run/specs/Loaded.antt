@@ -18,8 +18,8 @@ abbrev pub HasNoKeys : TerminalState → Type 0
 HasNoKeys terminal = terminal.keys ≡ []
 
 -- the terminal was loaded with these keys
-abbrev pub IsLoaded : List Key → TerminalState → TerminalState → Type 0
-IsLoaded keys old new = new ≡ with_keys keys old
+abbrev pub AreKeysLoaded : List Key → TerminalState → TerminalState → Type 0
+AreKeysLoaded keys old new = new ≡ with_keys keys old
 
 -- terminals from this number on, each with the keys of its number
 abbrev pub loaded_from : ℕ → List ScriptKey → List TerminalState → List TerminalState
@@ -32,8 +32,8 @@ abbrev pub loaded : List ScriptKey → List TerminalState → List TerminalState
 loaded keys terminals = loaded_from 0 keys terminals
 
 -- the terminals from this number on were loaded, and no other
-abbrev pub LoadsFrom : ℕ → List ScriptKey → List TerminalState → List TerminalState → Type 0
-LoadsFrom number keys before now =
+abbrev pub LoadsTerminalsFrom : ℕ → List ScriptKey → List TerminalState → List TerminalState → Type 0
+LoadsTerminalsFrom number keys before now =
     now ≡ take number before ++ loaded_from number keys (drop number before)
 
 -- the terminals of a machine before its run: one to four, without keys

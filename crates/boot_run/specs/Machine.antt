@@ -6,12 +6,12 @@ use Rattle.os9_base.specs.declared.registers.TimePacket.{TimePacket}
 use Rattle.os9_outer.specs.Stream.{stream_with}
 use Rattle.time_rules.specs.CivilTime.{is_time_packet}
 use Rattle.file_drives.specs.Drives.{drive_states, media_of}
-use Rattle.file_rules.specs.Files.{NoneFailed, OneFailed}
+use Rattle.file_rules.specs.Files.{KeepsDriveFaults, OneFailed}
 use Rattle.cold_start.specs.Start.{HaveImages, HaveVolumes}
 use Rattle.boot_run.specs.Loaded.{AreUnloaded, loaded}
 use Rattle.lock_model.specs.Records.{Records}
 use Rattle.lock_model.specs.declared.history.Entry.{Entry}
-use Rattle.machine_model.specs.ProcessStart.{Refuses}
+use Rattle.machine_model.specs.ProcessStart.{RefusesBoot}
 use Rattle.machine_model.specs.declared.ends.BootFault.{BootFault}
 use Rattle.script_text.specs.declared.script.ScriptKey.{ScriptKey}
 use Rattle.machine_model.specs.Run.{Run}
@@ -127,21 +127,21 @@ pub record RunsFirst (setup : Setup) (before after : World) : Type 0 where
 pub record IsUnrun (before after : World) : Type 0 where
   pub out : after.out ≡ before.out
   pub terminals : after.devices.terms ≡ before.devices.terms
-  pub none_failed : NoneFailed (drive_states before.devices.drives) (drive_states after.devices.drives)
+  pub none_failed : KeepsDriveFaults (drive_states before.devices.drives) (drive_states after.devices.drives)
   pub media_kept : media_of after.devices.drives ≡ media_of before.devices.drives
 
 -- the outcome of a machine, by how its run ended, if the bytes of all terminals are observed
-abbrev pub ComesTo : Setup → List Entry → World → World → RunEnd → Type 0
-ComesTo setup history before after (Ended begun) = RunsWhole setup false begun history before after
-ComesTo setup history before after (Living begun) = RunsWhole setup true begun history before after
-ComesTo setup history before after OutputFailed = RunsFirst setup before after
-ComesTo setup history before after NoMemory = IsUnrun before after ⊎ RunsFirst setup before after
-ComesTo setup history before after end = ⊤
+abbrev pub MachineOutcome : Setup → List Entry → World → World → RunEnd → Type 0
+MachineOutcome setup history before after (Ended begun) = RunsWhole setup false begun history before after
+MachineOutcome setup history before after (Living begun) = RunsWhole setup true begun history before after
+MachineOutcome setup history before after OutputFailed = RunsFirst setup before after
+MachineOutcome setup history before after NoMemory = IsUnrun before after ⊎ RunsFirst setup before after
+MachineOutcome setup history before after end = ⊤
 
 -- what the end says of the boot file, observed or not: it has this fault; or none, if a drive failed
 abbrev pub Judges : Setup → RunEnd → Type 0
-Judges setup (Refused fault) = Refuses setup.file setup.blocks fault
-Judges setup (DriveFailed drive number) = (fault : BootFault) → ¬ Refuses setup.file setup.blocks fault
+Judges setup (Refused fault) = RefusesBoot setup.file setup.blocks fault
+Judges setup (DriveFailed drive number) = (fault : BootFault) → ¬ RefusesBoot setup.file setup.blocks fault
 Judges setup end = ⊤
 
 -- A drive that held one of `images` images failed, and no other one; the media, the terminals and the output are
@@ -162,7 +162,7 @@ LeavesUnrun images before after end = ⊤
 
 -- a machine was started, its run ended with `end`, and this history was handed out
 pub record MachineCall (setup : Setup) (history : List Entry) (before after : World) (end : RunEnd) : Type 0 where
-  pub comes : All IsObserved before.devices.terms → ComesTo setup history before after end
+  pub comes : All IsObserved before.devices.terms → MachineOutcome setup history before after end
   pub judged : Judges setup end
   pub unrun : LeavesUnrun (length setup.images) before after end
   -- the host failed, and last at a write to the output; at every other end it did not fail

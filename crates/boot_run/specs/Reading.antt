@@ -1,6 +1,6 @@
 -- The files and the texts of a command as they are read.
 use Rattle.std.specs.Prelude.{◌≡◌, ⊤, ℕ, Some, List, slice_get}
-use Rattle.os9_outer.specs.Host.{Files, file_contents}
+use Rattle.os9_outer.specs.Host.{HostFiles, file_contents}
 use Rattle.os9_words.specs.declared.command.RunWords.{RunWords}
 use Rattle.script_text.specs.declared.script.ScriptKey.{ScriptKey}
 use Rattle.script_text.specs.Script.{keys_of}
@@ -15,14 +15,14 @@ use Rattle.boot_run.specs.declared.status.Input.TheVariants.{Script, Slices}
 use Rattle.boot_run.specs.Setup.{script_of}
 
 -- the bytes that were read are those of the files that the words of a run name
-pub record HasRunFiles (files : Files) (run : RunWords) (read : RunFiles) : Type 0 where
+pub record HasRunFiles (files : HostFiles) (run : RunWords) (read : RunFiles) : Type 0 where
   pub script : read.script.items ≡ script_of files run
   pub slices : read.slices.items ≡ file_contents files run.slices
   pub modules : (name : List ℕ) × (slice_get run.files 0 ≡ Some name)
       × (read.modules.items ≡ file_contents files name)
 
 -- the same for a boot
-pub record HasBootFiles (files : Files) (boot : RunWords) (read : BootFiles) : Type 0 where
+pub record HasBootFiles (files : HostFiles) (boot : RunWords) (read : BootFiles) : Type 0 where
   pub script : read.script.items ≡ script_of files boot
   pub slices : read.slices.items ≡ file_contents files boot.slices
   pub images : read.images ≡ images_of files boot.files

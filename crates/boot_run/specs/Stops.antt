@@ -1,8 +1,8 @@
 -- Reads of files that end a command (this project's own).
 use Rattle.std.specs.Prelude.{◌≡◌, ℕ, Option, Some, List, Result, Ok, Err}
-use Rattle.os9_words.specs.Notes.{HasRead, Notes}
+use Rattle.os9_words.specs.Notes.{HasReadFiles, Notes}
 use Rattle.boot_run.specs.World.{World, FailsToReadFile}
-use Rattle.boot_run.specs.FileNames.{IsFront, IsUpTo}
+use Rattle.boot_run.specs.FileNames.{AreFirstNames, IsUpTo}
 use Rattle.boot_run.specs.declared.status.Input.{Input}
 use Rattle.boot_run.specs.declared.status.End.{End}
 use Rattle.boot_run.specs.declared.status.End.TheVariants.{CannotRead, NoMemory}
@@ -29,7 +29,7 @@ StopsAtRead name_of before after end = ⊥
 abbrev pub StopsReads : (Input → Option (List ℕ)) → List (List ℕ) → End → List (List ℕ) → Type 0
 StopsReads name_of names (CannotRead input) read =
     (name : List ℕ) × (name_of input ≡ Some name) × IsUpTo name read names
-StopsReads name_of names NoMemory read = IsFront read names
+StopsReads name_of names NoMemory read = AreFirstNames read names
 StopsReads name_of names end read = ⊥
 
 -- the files that were read before the reads stopped
@@ -37,10 +37,10 @@ pub record NotesStop (name_of : Input → Option (List ℕ)) (names : List (List
     : Type 0 where
   pub read : List (List ℕ)
   pub stops : StopsReads name_of names end read
-  pub noted : HasRead read before after
+  pub noted : HasReadFiles read before after
 
 -- files of these names were read, each once and in this order; or only those before the reads stopped
 abbrev pub NotesReads : {A : Type 0} → (Input → Option (List ℕ)) → List (List ℕ) → Result A End → Notes → Notes
     → Type 0
-NotesReads name_of names (Ok read) before after = HasRead names before after
+NotesReads name_of names (Ok read) before after = HasReadFiles names before after
 NotesReads name_of names (Err end) before after = NotesStop name_of names end before after

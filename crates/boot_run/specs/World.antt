@@ -3,7 +3,7 @@ use Rattle.std.specs.Prelude.{◌≡◌, ℕ, true, false, Bool, Some, None, Opt
 use Rattle.std.specs.declared.alloc.Global.{Global}
 use Rattle.std.specs.declared.dyn_box.DynBox.{DynBox}
 use Rattle.os9_base.specs.Count.{Rose}
-use Rattle.os9_outer.specs.Host.{Files}
+use Rattle.os9_outer.specs.Host.{HostFiles}
 use Rattle.os9_outer.specs.declared.drive.BlockDriver.{Ghosts as DriveGhosts}
 use Rattle.os9_outer.specs.declared.host.Host.{Ghosts}
 use Rattle.os9_outer.specs.declared.terminal.CharDriver.{Ghosts as TerminalGhosts}
@@ -11,7 +11,7 @@ use Rattle.device_table.specs.declared.devices.DeviceTable.{DeviceTable}
 use Rattle.os9_kernel.specs.Outside.{OnDevices, Outside}
 
 pub record World : Type 0 where
-  pub files : Option Files  -- what the files hold
+  pub files : Option HostFiles  -- what the files hold
   pub out : Option (List ℕ)  -- the bytes of the output stream
   pub faults : ℕ  -- how often a file or the output stream failed
   pub failed_name : Option (List ℕ)  -- the file of the last failure, none if the output stream failed

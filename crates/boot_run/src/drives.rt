@@ -2,7 +2,7 @@
 
 ghost use Rattle.std.specs.Prelude.{◌≡◌, ◌<◌, ◌≤◌, None, Some, IfSome, length, slice_get, slice_set, vec_len};
 ghost use Rattle.file_drives.specs.Drives.{ChangesOneDrive, DriveView, drives_seen};
-ghost use Rattle.boot_run.specs.Drives.{holding, HaveRoom, IsEmpty, TakesImages};
+ghost use Rattle.boot_run.specs.Drives.{holding, HaveRoom, IsEmptyDrive, TakesImages};
 ghost use Rattle.boot_run.specs.DriveChanges.{IsInserted, IsEjected};
 
 use crate::images::Images;
@@ -36,7 +36,7 @@ fn insert_in_box(drive: &mut Box<dyn BlockDriver>, image: Vec<u8>)
 fn insert_on(devices: &mut Devices, number: u8, image: Vec<u8>)
     requires within { number < vec_len devices.old.drives }
     requires empty { (drive : DriveView) → slice_get (drives_seen BlockDriver-box devices.old)
-        number ≡ Some drive → IsEmpty drive }
+        number ≡ Some drive → IsEmptyDrive drive }
     ensures drive { ChangesOneDrive (IsInserted image.items) number
         (drives_seen BlockDriver-box devices.old) (drives_seen BlockDriver-box devices.new) }
     ensures drives { vec_len devices.new.drives ≡ vec_len devices.old.drives }

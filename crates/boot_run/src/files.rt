@@ -3,7 +3,7 @@
 ghost use Rattle.std.specs.Prelude.{◌≡◌, ◌≤◌, IfErr, IfOk, IfSome, OnOk, length};
 ghost use Rattle.os9_kernel.specs.Outside.{Outside};
 ghost use Rattle.os9_words.specs.Command.{most_images};
-ghost use Rattle.os9_words.specs.Notes.{HasRead, notes_of};
+ghost use Rattle.os9_words.specs.Notes.{HasReadFiles, notes_of};
 ghost use Rattle.boot_run.specs.Images.{images_of};
 ghost use Rattle.boot_run.specs.World.{world_of};
 ghost use Rattle.boot_run.specs.End.{run_file_name};
@@ -54,7 +54,7 @@ pub fn read_files<H: Host>(alloc: Global, run: &RunWords, host: &mut H) -> Resul
         → world_of H.Host host.new devices ≡ world_of H.Host host.old devices) }
     ensures ended { IfErr result (λ end. (devices : Outside) → StopsAtRead (run_file_name run.now)
         (world_of H.Host host.old devices) (world_of H.Host host.new devices) end) }
-    ensures noted { OnOk result (HasRead (run_inputs run.now)
+    ensures noted { OnOk result (HasReadFiles (run_inputs run.now)
         (notes_of H.Host host.old) (notes_of H.Host host.new)) }
     ensures stopped { IfErr result (λ end. NotesStop (run_file_name run.now) (run_inputs run.now)
         end (notes_of H.Host host.old) (notes_of H.Host host.new)) }
@@ -88,7 +88,7 @@ pub fn read_boot_files<H: Host>(
         → world_of H.Host host.new devices ≡ world_of H.Host host.old devices) }
     ensures ended { IfErr result (λ end. (devices : Outside) → StopsAtRead (run_file_name run.now)
         (world_of H.Host host.old devices) (world_of H.Host host.new devices) end) }
-    ensures noted { OnOk result (HasRead (run_inputs run.now)
+    ensures noted { OnOk result (HasReadFiles (run_inputs run.now)
         (notes_of H.Host host.old) (notes_of H.Host host.new)) }
     ensures stopped { IfErr result (λ end. NotesStop (run_file_name run.now) (run_inputs run.now)
         end (notes_of H.Host host.old) (notes_of H.Host host.new)) }
@@ -117,7 +117,7 @@ pub fn read_images<H: Host>(alloc: Global, run: &RunWords, host: &mut H) -> Resu
         → world_of H.Host host.new devices ≡ world_of H.Host host.old devices) }
     ensures ended { IfErr result (λ end. (devices : Outside) → StopsAtRead (run_file_name run.now)
         (world_of H.Host host.old devices) (world_of H.Host host.new devices) end) }
-    ensures noted { OnOk result (HasRead run.now.files
+    ensures noted { OnOk result (HasReadFiles run.now.files
         (notes_of H.Host host.old) (notes_of H.Host host.new)) }
     ensures stopped { IfErr result (λ end. NotesStop (run_file_name run.now) run.now.files end
         (notes_of H.Host host.old) (notes_of H.Host host.new)) }
@@ -145,7 +145,7 @@ pub fn read_script<H: Host>(alloc: Global, run: &RunWords, host: &mut H) -> Resu
         → world_of H.Host host.new devices ≡ world_of H.Host host.old devices) }
     ensures ended { IfErr result (λ end. (devices : Outside) → StopsAtRead (run_file_name run.now)
         (world_of H.Host host.old devices) (world_of H.Host host.new devices) end) }
-    ensures noted { OnOk result (HasRead (script_names run.now)
+    ensures noted { OnOk result (HasReadFiles (script_names run.now)
         (notes_of H.Host host.old) (notes_of H.Host host.new)) }
     ensures stopped { IfErr result (λ end. NotesStop (run_file_name run.now)
         (script_names run.now) end

@@ -3,7 +3,7 @@
 ghost use Rattle.std.specs.Prelude.{◌≡◌, All, length, vec_len};
 ghost use Rattle.boot_run.specs.BootFile.{IsVolume};
 ghost use Rattle.boot_run.specs.Outcome.{RunsImages};
-ghost use Rattle.boot_run.specs.Ready.{AreFree, CanStart};
+ghost use Rattle.boot_run.specs.Ready.{DevicesAreFree, IsValidStart};
 ghost use Rattle.boot_run.specs.Machine.{history_left, setup_of};
 ghost use Rattle.boot_run.specs.World.{OnWorld};
 ghost use Rattle.os9_kernel.specs.Outside.{outside};
@@ -45,9 +45,9 @@ pub fn run_images<H: Host>(
     host: &mut H,
     devices: &mut Devices,
 ) -> RunOutcome
-    requires devices { AreFree (length images.old)
+    requires devices { DevicesAreFree (length images.old)
         (outside BlockDriver-box CharDriver-box devices.old) }
-    requires start { CanStart start.now }
+    requires start { IsValidStart start.now }
     requires volumes { All IsVolume images.old }
     ensures run { OnWorld (λ before after. RunsImages (setup_of start.now images.old) images.new
         (history_left result.records) before after result.end) H.Host host.old host.new

@@ -3,7 +3,7 @@
 ghost use Rattle.std.specs.Prelude.{◌≡◌, ◌∷◌, [], ℕ, IfErr, IfOk, IfSome, List, OnOk, Option, Some};
 ghost use Rattle.os9_outer.specs.Host.{file_contents};
 ghost use Rattle.os9_kernel.specs.Outside.{Outside};
-ghost use Rattle.os9_words.specs.Notes.{HasRead, notes_of};
+ghost use Rattle.os9_words.specs.Notes.{HasReadFiles, notes_of};
 ghost use Rattle.boot_run.specs.World.{world_of};
 ghost use Rattle.boot_run.specs.Stops.{NotesStop, StopsAtRead};
 ghost use Rattle.boot_run.specs.declared.status.Input.{Input};
@@ -25,7 +25,7 @@ pub fn read_input<H: Host>(host: &mut H, name: &Word, input: Input) -> Result<Ve
     ensures ended { IfErr result (λ end. (devices : Outside) (name_of : Input → Option (List ℕ))
         → name_of input ≡ Some name.now → StopsAtRead name_of
         (world_of H.Host host.old devices) (world_of H.Host host.new devices) end) }
-    ensures noted { OnOk result (HasRead (name.now ∷ [])
+    ensures noted { OnOk result (HasReadFiles (name.now ∷ [])
         (notes_of H.Host host.old) (notes_of H.Host host.new)) }
     ensures stopped { IfErr result (λ end. (name_of : Input → Option (List ℕ))
         → name_of input ≡ Some name.now → NotesStop name_of (name.now ∷ []) end

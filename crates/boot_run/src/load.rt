@@ -1,7 +1,7 @@
 ghost use Rattle.std.specs.Prelude.{◌≡◌, ◌<◌, ◌≤◌, [], IfOk, OnOk, OnErr, Some, All, slice_get, vec_len};
 ghost use Rattle.os9_outer.specs.TerminalState.{TerminalState, ChangesOneTerminal};
 ghost use Rattle.device_table.specs.Seen.{terminals_seen};
-ghost use Rattle.boot_run.specs.Loaded.{keys_for, loaded, LoadsFrom, HasNoKeys, IsLoaded};
+ghost use Rattle.boot_run.specs.Loaded.{keys_for, loaded, LoadsTerminalsFrom, HasNoKeys, AreKeysLoaded};
 
 use device_table::devices::Devices;
 use os9_outer::terminal::{CharDriver, Key};
@@ -35,7 +35,7 @@ fn load_from(
 ) -> Result<(), AllocError>
     requires within { number ≤ vec_len devices.old.terms }
     requires unloaded { All HasNoKeys (terminals_seen CharDriver-box devices.old) }
-    ensures loaded { OnOk result (LoadsFrom number keys.now
+    ensures loaded { OnOk result (LoadsTerminalsFrom number keys.now
         (terminals_seen CharDriver-box devices.old) (terminals_seen CharDriver-box devices.new)) }
     ensures kept { OnErr result (devices.new ≡ devices.old) }
     ensures terminals { vec_len devices.new.terms ≡ vec_len devices.old.terms }
@@ -73,7 +73,7 @@ fn load_on(devices: &mut Devices, n: usize, keys: Vec<Key>)
     requires unloaded { (terminal : TerminalState)
         → slice_get (terminals_seen CharDriver-box devices.old) n
         ≡ Some terminal → HasNoKeys terminal }
-    ensures terminal { ChangesOneTerminal (IsLoaded keys.items) n
+    ensures terminal { ChangesOneTerminal (AreKeysLoaded keys.items) n
         (terminals_seen CharDriver-box devices.old) (terminals_seen CharDriver-box devices.new) }
     ensures terminals { vec_len devices.new.terms ≡ vec_len devices.old.terms }
     ensures drives_kept { devices.new.drives ≡ devices.old.drives }

@@ -1,6 +1,6 @@
 ghost use Rattle.std.specs.Prelude.{◌≡◌, ◌+◌, ◌<◌, length, vec_len};
 ghost use Rattle.os9_kernel.specs.Outside.{outside};
-ghost use Rattle.os9_kernel.specs.Tie.{Stands, ticks};
+ghost use Rattle.os9_kernel.specs.Tie.{RepresentsSomeState, ticks};
 ghost use Rattle.os9_words.specs.Notes.{notes_of};
 ghost use Rattle.boot_run.specs.Slices.{RunsSlices};
 ghost use Rattle.boot_run.specs.World.{OnWorld};
@@ -35,7 +35,8 @@ pub fn run_slices<H: Host>(
     devices: &mut Devices,
 ) -> Result<(), RunFault>
     requires few { ticks kernel.old + length slices.now < LAST_TICK }
-    requires stands { Stands kernel.old (outside BlockDriver-box CharDriver-box devices.old) }
+    requires stands { RepresentsSomeState kernel.old
+        (outside BlockDriver-box CharDriver-box devices.old) }
     ensures ran { OnWorld (RunsSlices slices.now kernel.old kernel.new result)
         H.Host host.old host.new BlockDriver-box CharDriver-box devices.old devices.new }
     ensures notes_kept { notes_of H.Host host.new ≡ notes_of H.Host host.old }

@@ -4,7 +4,7 @@ use Rattle.rbf_model.specs.Fields.{total_field}
 use Rattle.rbf_model.specs.Geometry.{sector}
 
 -- length, first sector and the bytes past the volume are unchanged
-pub record KeepsEnds (before after : List ℕ) : Type 0 where
+pub record KeepsImageEnds (before after : List ℕ) : Type 0 where
   pub as_long : length after ≡ length before
   pub first : sector after 0 ≡ sector before 0
   pub past : bytes_eq (drop (256 * total_field (sector before 0)) after)

@@ -1,6 +1,6 @@
 ghost use Rattle.std.specs.Prelude.{◌≡◌, ◌*◌, true, bytes_eq, drop, string_bytes};
 ghost use Rattle.std.specs.Bool.{OnTrue};
-ghost use Rattle.boot_vectors.specs.Stops.{KeepsEnds};
+ghost use Rattle.boot_vectors.specs.Stops.{KeepsImageEnds};
 
 use crate::tree::tree_text;
 use rbf_sector::read_ident;
@@ -32,7 +32,7 @@ impl Disk {
     pub(crate) fn is_left_of(&self, row: &Disk) -> bool
         ensures tree { OnTrue result
             (bytes_eq (string_bytes self.now.tree) (string_bytes row.now.tree) ≡ true) }
-        ensures ends { OnTrue result (KeepsEnds row.now.image.items self.now.image.items) }
+        ensures ends { OnTrue result (KeepsImageEnds row.now.image.items self.now.image.items) }
     {
         self.tree.as_str() == row.tree.as_str() && keep_ends(&row.image, &self.image)
     }
@@ -48,7 +48,7 @@ impl Disk {
 /// Does an image after a run have the length, the first sector and the bytes past the sectors of
 /// its volume that it had before?
 pub(crate) fn keep_ends(before: &[u8], after: &[u8]) -> bool
-    ensures { OnTrue result (KeepsEnds before.now after.now) }
+    ensures { OnTrue result (KeepsImageEnds before.now after.now) }
 {
     if before.len() < SECTOR || before.len() != after.len() {
         return false;

@@ -1,5 +1,5 @@
 ghost use Rattle.boot_run.specs.Drives.{HaveRoom};
-ghost use Rattle.boot_run.specs.Ready.{AreFree};
+ghost use Rattle.boot_run.specs.Ready.{DevicesAreFree};
 ghost use Rattle.os9_kernel.specs.Outside.{outside};
 ghost use Rattle.file_drives.specs.Drives.{drive_views};
 ghost use Rattle.boot_run.specs.Loaded.{HasNoKeys};
@@ -168,7 +168,7 @@ fn add_terminal(
 
 /// The same on these devices.
 fn run_on(alloc: Global, row: &Row, devices: Devices) -> Result<Shown, AllocError>
-    requires { AreFree 4 (outside BlockDriver-box CharDriver-box devices) }
+    requires { DevicesAreFree 4 (outside BlockDriver-box CharDriver-box devices) }
 {
     let words = words(alloc, row)?;
     let failing = Vec::from_slice(alloc, row.host.as_slice())?;

@@ -2,7 +2,7 @@ ghost use Rattle.std.specs.Prelude.{◌≡◌, IfOk, IfSome};
 ghost use Rattle.std.specs.Bool.{OnTrue};
 ghost use Rattle.rbf_model.specs.Geometry.{sector as sector_of};
 ghost use Rattle.boot_run.specs.BootFile.{IsVolume};
-ghost use Rattle.boot_vectors.specs.Stops.{KeepsEnds};
+ghost use Rattle.boot_vectors.specs.Stops.{KeepsImageEnds};
 
 use crate::disk::{Disk, SECTOR, keep_ends};
 use crate::failing::Plan;
@@ -42,7 +42,7 @@ pub(crate) fn differing_stop(
 /// leaves unchanged.
 pub(crate) fn is_stop_of(alloc: Global, image: &[u8], row: &Disk) -> Result<bool, AllocError>
     ensures well_formed { IfOk result (λ is. OnTrue is (IsVolume image.now)) }
-    ensures ends { IfOk result (λ is. OnTrue is (KeepsEnds row.now.image.items image.now)) }
+    ensures ends { IfOk result (λ is. OnTrue is (KeepsImageEnds row.now.image.items image.now)) }
 {
     let Some(before) = tree(alloc, &row.image)? else {
         return Ok(false);

@@ -12,7 +12,7 @@ use Rattle.proc_model.specs.UserBytes.{user_bytes}
 use Rattle.time_rules.specs.CivilTime.{is_time_packet}
 use Rattle.time_rules.proofs.Next.{later-packet}
 use Rattle.proc_state.specs.declared.state.ProcState.{ProcState}
-use Rattle.proc_state.specs.Tie.{Represents, Comes}
+use Rattle.proc_state.specs.Tie.{RepresentsProcesses, ReturnsCallEnd}
 use Rattle.time_rules.specs.Attempts.{time_step, result_of, clock_after}
 use Rattle.time_rules.specs.Clock.{IsClock, seconds_since}
 use Rattle.time_rules.specs.Packet.{packet_bytes, packet_of}
@@ -21,12 +21,12 @@ use Rattle.time_rules.specs.Step.{TimeStep, refused, tells, sets, needs, refuses
 use Rattle.time_rules.specs.declared.clock.Clock.{Clock}
 use Rattle.time_rules.specs.declared.time_call.TimeCall.{TimeCall}
 use Rattle.time_rules.specs.declared.time_call.TimeCall.TheVariants as Call
-use Rattle.call_dispatch.specs.TimeAttempt.{Attempts, AttemptsNow, step_end}
+use Rattle.call_dispatch.specs.TimeAttempt.{TimeAttempted, AttemptsNow, step_end}
 
 -- an attempt whose step is known
 attempt-of : (call : TimeCall) (m : Processes) (clock new : Clock) (now : TimePacket) (p : ℕ) (step : TimeStep) (end : CallEnd)
-    (s : ProcState) → time_step call m now p ≡ step → Comes m p (result_of m p step) end s
-    → new ≡ clock_after clock step → Attempts call m clock now p end s new
+    (s : ProcState) → time_step call m now p ≡ step → ReturnsCallEnd m p (result_of m p step) end s
+    → new ≡ clock_after clock step → TimeAttempted call m clock now p end s new
 attempt-of call m clock new now p step end s is comes set = record {
   result = result_of m p step;
   attempt = record {
@@ -37,12 +37,12 @@ attempt-of call m clock new now p step end s is comes set = record {
 }
 
 -- the tick is that of the kernel's processes
-pub tick_seen : (s : ProcState) (m : Processes) → Represents s m → s.tick ≡ m.tick
+pub tick_seen : (s : ProcState) (m : Processes) → RepresentsProcesses s m → s.tick ≡ m.tick
 tick_seen s m tied = sym (ap (λ (i : Processes). i.tick) tied.is)
 
 -- an attempt that is the same at any time is one at the time that the clock shows
 pub at-any-time : (call : TimeCall) (m : Processes) (clock new : Clock) (p : ℕ) (end : CallEnd) (s : ProcState)
-    → IsClock clock m.tick → ((now : TimePacket) → Attempts call m clock now p end s new)
+    → IsClock clock m.tick → ((now : TimePacket) → TimeAttempted call m clock now p end s new)
     → AttemptsNow call m clock p end s new
 at-any-time call m clock new p end s is attempts =
     let shown = later-packet clock.from (seconds_since clock m.tick) is.civil in
@@ -61,8 +61,8 @@ told-by None at now is = absurd (cc)
 told-by (Some bytes) at now is = refl
 
 pub time-refused : (m : Processes) (clock : Clock) (now : TimePacket) (p : ℕ) (regs : Regs) (s : ProcState)
-    → regs ≡ regs_at m p → is_some (user_bytes (cells_at m p) regs.x 6) ≡ false → Represents s m
-    → Attempts Call.Time m clock now p (Error E_BPADDR) s clock
+    → regs ≡ regs_at m p → is_some (user_bytes (cells_at m p) regs.x 6) ≡ false → RepresentsProcesses s m
+    → TimeAttempted Call.Time m clock now p (Error E_BPADDR) s clock
 time-refused m clock now p regs s at missing tied =
     let is : is_some (user_bytes (cells_at m p) (regs_at m p).x 6) ≡ false =
     subst (λ (r : Regs). is_some (user_bytes (cells_at m p) r.x 6) ≡ false) at missing in
@@ -71,13 +71,13 @@ time-refused m clock now p regs s at missing tied =
 
 pub time-told : (m : Processes) (clock : Clock) (now : TimePacket) (p : ℕ) (regs : Regs) (s : ProcState)
     → regs ≡ regs_at m p → is_some (user_bytes (cells_at m p) regs.x 6) ≡ true
-    → Represents s (with_memory m (stored m.memory p regs.x (packet_bytes now)))
-    → Attempts Call.Time m clock now p Done s clock
+    → RepresentsProcesses s (with_memory m (stored m.memory p regs.x (packet_bytes now)))
+    → TimeAttempted Call.Time m clock now p Done s clock
 time-told m clock now p regs s at there tied =
     let is : is_some (user_bytes (cells_at m p) (regs_at m p).x 6) ≡ true =
     subst (λ (r : Regs). is_some (user_bytes (cells_at m p) r.x 6) ≡ true) at there in
-    let new : Represents s (with_memory m (stored m.memory p (regs_at m p).x (packet_bytes now))) =
-    subst (λ (r : Regs). Represents s (with_memory m (stored m.memory p r.x (packet_bytes now)))) at tied in
+    let new : RepresentsProcesses s (with_memory m (stored m.memory p (regs_at m p).x (packet_bytes now))) =
+    subst (λ (r : Regs). RepresentsProcesses s (with_memory m (stored m.memory p r.x (packet_bytes now)))) at tied in
     attempt-of Call.Time m clock clock now p (tells (regs_at m p).x now) Done s
     (told-by (user_bytes (cells_at m p) (regs_at m p).x 6) (regs_at m p).x now is) (refl, new) refl
 
@@ -98,16 +98,16 @@ set-step (Some bytes) packet tick read =
     ap (λ (it : TimePacket). sets_clock tick it) (same-packet (packet_of bytes) packet read)
 
 pub stime-refused : (m : Processes) (clock : Clock) (now : TimePacket) (p : ℕ) (regs : Regs) (s : ProcState)
-    → regs ≡ regs_at m p → option_map packet_of (user_bytes (cells_at m p) regs.x 6) ≡ None → Represents s m
-    → Attempts Call.STime m clock now p (Error E_BPADDR) s clock
+    → regs ≡ regs_at m p → option_map packet_of (user_bytes (cells_at m p) regs.x 6) ≡ None → RepresentsProcesses s m
+    → TimeAttempted Call.STime m clock now p (Error E_BPADDR) s clock
 stime-refused m clock now p regs s at read tied =
     let missing : option_map packet_of (user_bytes (cells_at m p) (regs_at m p).x 6) ≡ None =
     subst (λ (r : Regs). option_map packet_of (user_bytes (cells_at m p) r.x 6) ≡ None) at read in
     attempt-of Call.STime m clock clock now p (refused E_BPADDR) (Error E_BPADDR) s
     (unread-step (user_bytes (cells_at m p) (regs_at m p).x 6) m.tick missing) (refl, tied) refl
 
-comes-if : (m : Processes) (p : ℕ) (clock : Clock) (s : ProcState) (is : Bool) → Represents s m
-    → Comes m p (result_of m p (refuses (not is) E_BADTIME (sets clock)))
+comes-if : (m : Processes) (p : ℕ) (clock : Clock) (s : ProcState) (is : Bool) → RepresentsProcesses s m
+    → ReturnsCallEnd m p (result_of m p (refuses (not is) E_BADTIME (sets clock)))
     (step_end (refuses (not is) E_BADTIME (sets clock))) s
 comes-if m p clock s true tied = (refl, tied)
 comes-if m p clock s false tied = (refl, tied)
@@ -115,16 +115,16 @@ comes-if m p clock s false tied = (refl, tied)
 pub stime-set : (m : Processes) (clock new : Clock) (now : TimePacket) (p : ℕ) (regs : Regs) (packet : TimePacket) (tick : ℕ)
     (end : CallEnd) (s : ProcState) → regs ≡ regs_at m p
     → option_map packet_of (user_bytes (cells_at m p) regs.x 6) ≡ Some packet → tick ≡ m.tick
-    → end ≡ step_end (sets_clock tick packet) → new ≡ clock_after clock (sets_clock tick packet) → Represents s m
-    → Attempts Call.STime m clock now p end s new
+    → end ≡ step_end (sets_clock tick packet) → new ≡ clock_after clock (sets_clock tick packet) → RepresentsProcesses s m
+    → TimeAttempted Call.STime m clock now p end s new
 stime-set m clock new now p regs packet tick end s at read same ends set tied =
     let there : option_map packet_of (user_bytes (cells_at m p) (regs_at m p).x 6) ≡ Some packet =
     subst (λ (r : Regs). option_map packet_of (user_bytes (cells_at m p) r.x 6) ≡ Some packet) at read in
     let step = sets_clock m.tick packet in
     let end_is : end ≡ step_end step = ends ∙ ap (λ (k : ℕ). step_end (sets_clock k packet)) same in
     let set_is : new ≡ clock_after clock step = set ∙ ap (λ (k : ℕ). clock_after clock (sets_clock k packet)) same in
-    let comes : Comes m p (result_of m p step) end s =
-    subst (λ (it : CallEnd). Comes m p (result_of m p step) it s) (sym end_is)
+    let comes : ReturnsCallEnd m p (result_of m p step) end s =
+    subst (λ (it : CallEnd). ReturnsCallEnd m p (result_of m p step) it s) (sym end_is)
     (comes-if m p (record { from = packet; since = m.tick }) s (is_time_packet packet) tied) in
     attempt-of Call.STime m clock new now p step end s
     (set-step (user_bytes (cells_at m p) (regs_at m p).x 6) packet m.tick there) comes set_is

@@ -14,7 +14,7 @@ use Rattle.io_model.specs.declared.path.Target.TheVariants.{File, Folder, Term, 
 use Rattle.io_model.specs.Close.{i_close as closes_device, after_close, without_path, without_target}
 use Rattle.io_model.specs.Io.{Io, OpenPath, pending_at, with_call, with_paths}
 use Rattle.io_model.specs.Step.{answers}
-use Rattle.proc_state.specs.Tie.{Represents}
+use Rattle.proc_state.specs.Tie.{RepresentsProcesses}
 use Rattle.proc_state.specs.declared.state.ProcState.{ProcState}
 use Rattle.file_drives.specs.Drives.{DriveView}
 use Rattle.file_rules.specs.Attempts.{asker_of}
@@ -25,9 +25,9 @@ use Rattle.file_rules.specs.Step.{FileStep, done, leaves}
 use Rattle.file_state.proofs.CountLemmas.{called-none}
 use Rattle.file_state.proofs.EndLemmas.{goes-well}
 use Rattle.file_state.proofs.KeepLemmas.{keeps-same}
-use Rattle.file_state.specs.Ends.{Ends}
-use Rattle.file_state.specs.Opened.{IsFileOf}
-use Rattle.file_state.specs.Tie.{StandsFor}
+use Rattle.file_state.specs.Ends.{EndsFileAttempt}
+use Rattle.file_state.specs.Opened.{IsOpenFileOf}
+use Rattle.file_state.specs.Tie.{RepresentsFiles}
 use Rattle.file_state.specs.declared.state.FileState.{FileState}
 use Rattle.file_state.specs.declared.state.OpenFile.{OpenFile as KernelFile}
 
@@ -55,15 +55,15 @@ module _ (m : Processes) (was : Files) (now : TimePacket) (p : ℕ) (processes :
   abbrev closed : Files
   closed = files_after_close was p (regs_at m p).a found.opened.path.0
 
-  pub close-ends : open_file was p (regs_at m p).a ≡ Some found → pending_at was.io p ≡ None → StandsFor new views closed
-      → Represents processes (with_regs_of m p (regs_at m p)) → Ends (i_close (asker_of m p now) was) 0 m was now p
+  pub close-ends : open_file was p (regs_at m p).a ≡ Some found → pending_at was.io p ≡ None → RepresentsFiles new views closed
+      → RepresentsProcesses processes (with_regs_of m p (regs_at m p)) → EndsFileAttempt (i_close (asker_of m p now) was) 0 m was now p
       Done processes new views views terms
   close-ends is none stands tied =
-      subst (λ (step : FileStep). Ends step 0 m was now p Done processes new views views terms) (sym step) (record {
+      subst (λ (step : FileStep). EndsFileAttempt step 0 m was now p Done processes new views views terms) (sym step) (record {
         effect = leaves (answers (regs_at m p)) closed;
         does = goes-well (done (regs_at m p) closed) (asker_of m p now) was (leaves (answers (regs_at m p)) closed) was.drives terms refl refl;
         comes = (refl, tied);
-        stands = inl (subst (λ (io : Io). StandsFor new views (with_io closed io)) (sym (still-none closed.io p kept)) stands);
+        stands = inl (subst (λ (io : Io). RepresentsFiles new views (with_io closed io)) (sym (still-none closed.io p kept)) stands);
         calls = called-none views;
         drives = keeps-same (done (regs_at m p) closed) (asker_of m p now) was Done views tt;
       })
@@ -78,14 +78,14 @@ module _ (m : Processes) (was : Files) (now : TimePacket) (p : ℕ) (processes :
 -- from what is known of the path in the kernel
 pub close-file-ends : (m : Processes) (was : Files) (now : TimePacket) (p : ℕ) (processes : ProcState)
     (state new : FileState) (views : List DriveView) (terms : List TerminalState) (opened : KernelFile) (regs : Regs)
-    → StandsFor state views was → IsFileOf state views was p regs.a opened → regs ≡ regs_at m p → pending_at state.io p ≡
-    None → StandsFor new views (files_after_close was p regs.a opened.path.0)
-    → Represents processes (with_regs_of m p regs) → Ends (i_close (asker_of m p now) was) 0 m was now p Done
+    → RepresentsFiles state views was → IsOpenFileOf state views was p regs.a opened → regs ≡ regs_at m p → pending_at state.io p ≡
+    None → RepresentsFiles new views (files_after_close was p regs.a opened.path.0)
+    → RepresentsProcesses processes (with_regs_of m p regs) → EndsFileAttempt (i_close (asker_of m p now) was) 0 m was now p Done
     processes new views views terms
 close-file-ends m was now p processes state new views terms opened regs stands it same none closed tied =
     close-ends m was now p processes new views terms it.found
     (subst (λ (r : Regs). open_file was p r.a ≡ Some it.found) same it.is)
     (ap (λ (io : Io). pending_at io p) stands.io ∙ none)
-    (subst (λ (path : OpenPath). StandsFor new views (files_after_close was p (regs_at m p).a path.path.0)) (sym it.path)
-    (subst (λ (r : Regs). StandsFor new views (files_after_close was p r.a opened.path.0)) same closed))
-    (subst (λ (r : Regs). Represents processes (with_regs_of m p r)) same tied)
+    (subst (λ (path : OpenPath). RepresentsFiles new views (files_after_close was p (regs_at m p).a path.path.0)) (sym it.path)
+    (subst (λ (r : Regs). RepresentsFiles new views (files_after_close was p r.a opened.path.0)) same closed))
+    (subst (λ (r : Regs). RepresentsProcesses processes (with_regs_of m p r)) same tied)

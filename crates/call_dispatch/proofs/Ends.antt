@@ -6,7 +6,7 @@ use Rattle.proc_model.specs.declared.record.Record.{Record}
 use Rattle.proc_model.specs.Records.{IsLiving}
 use Rattle.proc_model.specs.Processes.{Processes}
 use Rattle.proc_state.specs.declared.state.ProcState.{ProcState}
-use Rattle.proc_state.specs.Tie.{Represents}
+use Rattle.proc_state.specs.Tie.{RepresentsProcesses}
 use Rattle.proc_state.proofs.Entered.{represented}
 use Rattle.proc_calls.specs.Telling.{LivesOn}
 
@@ -27,5 +27,5 @@ ended_on (Error number) records p is = cc
 ended_on Wait records p is = cc
 
 -- all processes are those of some machine
-pub some_processes : (processes : ProcState) → (m : Processes) × Represents processes m
+pub some_processes : (processes : ProcState) → (m : Processes) × RepresentsProcesses processes m
 some_processes processes = (_, record { memory = represented processes.memory; is = refl })

@@ -7,12 +7,12 @@ use Rattle.os9_base.specs.declared.registers.TimePacket.{TimePacket}
 use Rattle.os9_outer.specs.TerminalState.{TerminalState}
 use Rattle.proc_model.specs.CallResult.{CallResult}
 use Rattle.proc_model.specs.Processes.{Processes}
-use Rattle.io_model.specs.Attempts.{Does, IoAttempts, caller_of, io_after, result_of, step_of}
+use Rattle.io_model.specs.Attempts.{IoDoes, IoAttempts, caller_of, io_after, result_of, step_of}
 use Rattle.io_model.specs.Io.{Io}
 use Rattle.io_model.specs.Step.{Caller, IoEffect, IoStep, refused, comes, reads, writes}
 use Rattle.io_model.specs.declared.io_call.IoCall.{IoCall}
-use Rattle.io_state.specs.Attempt.{Attempts as AttemptsOnDevice}
-use Rattle.proc_state.specs.Tie.{Comes}
+use Rattle.io_state.specs.Attempt.{IoAttempted as AttemptsOnDevice}
+use Rattle.proc_state.specs.Tie.{ReturnsCallEnd}
 use Rattle.proc_state.specs.declared.state.ProcState.{ProcState}
 use Rattle.io_model.specs.Memory.{WantsMemory}
 use Rattle.file_rules.specs.Attempts.{asker_of, file_step, files_after, files_kept}
@@ -25,17 +25,17 @@ use Rattle.file_state.proofs.EndLemmas.{goes-as-io, stands-settled}
 use Rattle.file_state.proofs.KeepLemmas.{MayKeepAll, keeps-same}
 use Rattle.file_state.proofs.RequestLemmas.{not-memory}
 use Rattle.file_state.proofs.StateLemmas.{stands-with_io, stands-with_records}
-use Rattle.file_state.specs.Attempt.{Attempts, Standing}
+use Rattle.file_state.specs.Attempt.{FileAttempted, Standing}
 use Rattle.file_state.specs.Counted.{AttemptsIn, AttemptsWithin, calls_of}
 use Rattle.file_state.specs.Lacks.{AttemptsOrLacks, TriesWithin}
-use Rattle.file_state.specs.Tie.{IsSound, StandsFor}
+use Rattle.file_state.specs.Tie.{AreSoundFiles, RepresentsFiles}
 use Rattle.file_state.specs.declared.state.FileState.{FileState}
 use Rattle.name_calls.proofs.SameLemmas.{some-machine}
-use Rattle.device_paths.specs.Quiet.{Ends}
+use Rattle.device_paths.specs.Quiet.{EndsIoAttempt}
 use Rattle.device_paths.proofs.QuietLemmas.{IsQuiet}
 use Rattle.lock_model.specs.Records.{Records, with_waiting}
 use Rattle.file_rules.specs.Memory.{LacksMemory}
-use Rattle.call_dispatch.specs.Attempts.{IsOnDevice, Tries}
+use Rattle.call_dispatch.specs.Attempts.{IsSameAsDeviceCall, TriesPathCall}
 use Rattle.call_dispatch.specs.Bounds.{attempt_calls}
 
 -- so many terminals
@@ -48,7 +48,7 @@ some-terms n = replicate n unused_terminal
 -- so none was wanting where all attempts come to something
 pub never-memory : (most : Asker → Files → ℕ → ℕ) (call : PathCall) (now : TimePacket) (p : ℕ) (end : CallEnd)
     (terms terms_after : List TerminalState) (old processes : ProcState) (state new : FileState)
-    (views later : List DriveView) → IsSound state views → AttemptsWithin most call now p end terms terms_after
+    (views later : List DriveView) → AreSoundFiles state views → AttemptsWithin most call now p end terms terms_after
     (record { processes = old; files = state; views = views })
     (record { processes = processes; files = new; views = later }) → end ≢ NoMemory
 never-memory most call now p end terms terms_after old processes state new views later sound attempts =
@@ -59,7 +59,7 @@ never-memory most call now p end terms terms_after old processes state new views
 pub tries-of : (call : PathCall) (m : Processes) (files : Files) (now : TimePacket) (p : ℕ) (end : CallEnd)
     (terms terms_after : List TerminalState) (before after : Standing)
     → AttemptsIn (attempt_calls call (asker_of m p now) files (length terms)) call m files now p end terms terms_after
-    before after → Tries call m files now p end terms terms_after before after
+    before after → TriesPathCall call m files now p end terms terms_after before after
 tries-of call m files now p end terms terms_after before after it = record {
   attempted = λ differ. it;
   memory = λ is. absurd (not-memory m p it.attempts.result end after.processes it.attempts.comes is);
@@ -69,7 +69,7 @@ tries-of call m files now p end terms terms_after before after it = record {
 pub tries-or : (call : PathCall) (m : Processes) (files : Files) (now : TimePacket) (p : ℕ) (end : CallEnd)
     (terms terms_after : List TerminalState) (before after : Standing)
     → AttemptsOrLacks (attempt_calls call (asker_of m p now) files (length terms)) call m files now p end terms
-    terms_after before after → Tries call m files now p end terms terms_after before after
+    terms_after before after → TriesPathCall call m files now p end terms terms_after before after
 tries-or call m files now p end terms terms_after before after it =
     record { attempted = it.attempted; memory = λ is. inr (it.lacks is) }
 
@@ -87,7 +87,7 @@ module _ (call : PathCall) (m : Processes) (files : Files) (now : TimePacket) (p
   -- no drive is called where the step is one of terminals and pipes
   pub uncalled-in : (most : ℕ) (step : IoStep) (old : ProcState) (state new : FileState) (views : List DriveView)
       (terms terms_after : List TerminalState) → deed_of (file_step call (asker_of m p now) files (length terms))
-      files ≡ as_io step → Attempts call m files now p end processes new views terms terms_after
+      files ≡ as_io step → FileAttempted call m files now p end processes new views terms terms_after
       → AttemptsIn most call m files now p end terms terms_after
       (record { processes = old; files = state; views = views })
       (record { processes = processes; files = new; views = views })
@@ -99,11 +99,11 @@ module _ (call : PathCall) (m : Processes) (files : Files) (now : TimePacket) (p
 
   -- what a step of a call on terminals and pipes comes to
   module _ (state : FileState) (io : Io) (records : Records) (views : List DriveView)
-      (before after : List TerminalState) (stands : StandsFor state views files) (cancelled : records ≡ with_waiting
+      (before after : List TerminalState) (stands : RepresentsFiles state views files) (cancelled : records ≡ with_waiting
       state.records p None) where
     pub lifts-step : (step : IoStep) (effect : IoEffect) → deed_of (file_step call (asker_of m p now) files
-        (length before)) files ≡ as_io step → Does step (caller_of m p) files.io effect before after
-        → Comes m p (result_of m p effect) end processes → io ≡ io_after p effect → Attempts call m files now p end
+        (length before)) files ≡ as_io step → IoDoes step (caller_of m p) files.io effect before after
+        → ReturnsCallEnd m p (result_of m p effect) end processes → io ≡ io_after p effect → FileAttempted call m files now p end
         processes (record state { io = io; records = records }) views before after
     lifts-step step effect on does told io_is =
         let lifted : FileEffect = on_files p files effect in
@@ -125,13 +125,16 @@ module _ (call : PathCall) (m : Processes) (files : Files) (now : TimePacket) (p
         }
 
     -- a call on terminals and pipes
-    module _ (device : IoCall) (drives : ℕ) (on : IsOnDevice call device m files now p drives before) where
-      pub lifts : AttemptsOnDevice device m state.io drives p end processes io before after → Attempts call m files now p end processes (record state { io = io; records = records }) views before after
+    module _ (device : IoCall) (drives : ℕ) (on : IsSameAsDeviceCall call device m files now p drives before) where
+      pub lifts : AttemptsOnDevice device m state.io drives p end processes io before after → FileAttempted call m
+          files now p end processes (record state { io = io; records = records }) views before after
       lifts attempts =
           let here : IoAttempts device m files.io drives p attempts.result io before after = subst
           (λ (old : Io). IoAttempts device m old drives p attempts.result io before after) (sym stands.io)
           attempts.attempt in
-          lifts-step (step_of device m p files.io drives before) here.effect on here.does (subst (λ (result : CallResult). Comes m p result end processes) here.result_is attempts.comes) here.state
+          lifts-step (step_of device m p files.io drives before) here.effect on here.does
+          (subst (λ (result : CallResult). ReturnsCallEnd m p result end processes) here.result_is attempts.comes)
+          here.state
 
       pub lacks : WantsMemory (step_of device m p state.io drives before) (caller_of m p) state.io before after → LacksMemory call m files now p before after
       lacks wants = record {
@@ -142,7 +145,7 @@ module _ (call : PathCall) (m : Processes) (files : Files) (now : TimePacket) (p
 
       pub tries-on-device : (old : ProcState) → (end ≢ NoMemory → AttemptsOnDevice device m state.io drives p end
           processes io before after) → (end ≡ NoMemory → WantsMemory (step_of device m p state.io drives before)
-          (caller_of m p) state.io before after) → Tries call m files now p end before after
+          (caller_of m p) state.io before after) → TriesPathCall call m files now p end before after
           (record { processes = old; files = state; views = views })
           (record { processes = processes; files = record state { io = io; records = records }; views = views })
       tries-on-device old attempts wants = record {
@@ -154,7 +157,7 @@ module _ (call : PathCall) (m : Processes) (files : Files) (now : TimePacket) (p
 
 -- ---- attempts that reach no terminal
 
-does-quiet : (step : IoStep) (caller : Caller) (io : Io) (terms : List TerminalState) → IsQuiet step → Does step caller io (effect_of step io) terms terms
+does-quiet : (step : IoStep) (caller : Caller) (io : Io) (terms : List TerminalState) → IsQuiet step → IoDoes step caller io (effect_of step io) terms terms
 does-quiet (refused number) caller io terms quiet = (refl, refl)
 does-quiet (comes effect) caller io terms quiet = (refl, refl)
 does-quiet (reads read) caller io terms quiet = absurd quiet
@@ -162,12 +165,12 @@ does-quiet (writes write) caller io terms quiet = absurd quiet
 
 pub lifts-quiet : (call : PathCall) (m : Processes) (files : Files) (now : TimePacket) (p : ℕ) (end : CallEnd)
     (processes : ProcState) (state : FileState) (io : Io) (records : Records) (views : List DriveView)
-    (terms : List TerminalState) (step : Io → IoStep) → StandsFor state views files → records ≡ with_waiting
+    (terms : List TerminalState) (step : Io → IoStep) → RepresentsFiles state views files → records ≡ with_waiting
     state.records p None → deed_of (file_step call (asker_of m p now) files (length terms)) files ≡ as_io
-    (step files.io) → IsQuiet (step files.io) → Ends (step state.io) m state.io p end processes io
-    → Attempts call m files now p end processes (record state { io = io; records = records }) views terms terms
+    (step files.io) → IsQuiet (step files.io) → EndsIoAttempt (step state.io) m state.io p end processes io
+    → FileAttempted call m files now p end processes (record state { io = io; records = records }) views terms terms
 lifts-quiet call m files now p end processes state io records views terms step stands cancelled on quiet ends =
-    let here : Ends (step files.io) m files.io p end processes io = subst (λ (old : Io). Ends (step old) m old p end processes io) (sym stands.io) ends in
+    let here : EndsIoAttempt (step files.io) m files.io p end processes io = subst (λ (old : Io). EndsIoAttempt (step old) m old p end processes io) (sym stands.io) ends in
     lifts-step call m files now p end processes state io records views terms terms stands cancelled (step files.io)
     (effect_of (step files.io) files.io) on (does-quiet (step files.io) (caller_of m p) files.io terms quiet)
     here.0 here.1

@@ -15,7 +15,7 @@ use Rattle.file_state.specs.Attempt.{Standing}
 use Rattle.file_state.specs.Counted.{AttemptsWithin}
 use Rattle.file_state.specs.Lacks.{TriesWithin}
 use Rattle.file_state.specs.declared.state.FileState.{FileState}
-use Rattle.call_dispatch.specs.Attempts.{MayAttempt, TriesFrom}
+use Rattle.call_dispatch.specs.Attempts.{MayAttemptPathCall, TriesPathCallFrom}
 use Rattle.call_dispatch.specs.Bounds.{attempt_calls}
 use Rattle.call_dispatch.specs.Calls.{kind_call, list_call}
 use Rattle.call_dispatch.specs.Dates.{IsTimeFor, sets_date}
@@ -24,7 +24,8 @@ use Rattle.call_dispatch.specs.declared.lists.ListCall.{ListCall}
 use Rattle.call_dispatch.specs.declared.lists.ListCall.TheVariants as Listed
 
 -- a call that takes a path list is at its first attempt
-pub list-first : (list : ListCall) (processes : ProcState) (state : FileState) (p terms : ℕ) → IsIo state.io → MayAttempt (list_call list) processes state p terms → pending_at state.io p ≡ None
+pub list-first : (list : ListCall) (processes : ProcState) (state : FileState) (p terms : ℕ) → IsIo state.io
+    → MayAttemptPathCall (list_call list) processes state p terms → pending_at state.io p ≡ None
 list-first Listed.Create processes state p terms sound may = is-first Device.Create (record_at processes.table p).regs state.io p refl (λ same. cc) sound may.attempt.again
 list-first Listed.Open processes state p terms sound may = is-first Device.Open (record_at processes.table p).regs state.io p refl (λ same. cc) sound may.attempt.again
 list-first Listed.MakDir processes state p terms sound may = may.attempt
@@ -36,8 +37,9 @@ list-first Listed.DeletX processes state p terms sound may = may.attempt
 pub call-is : (kind other : CallKind) (call : PathCall) → kind ≡ other → kind_call kind ≡ call → kind_call other ≡ call
 call-is kind other call is known = sym (ap kind_call is) ∙ known
 
-pub may-as : (call other : PathCall) (processes : ProcState) (state : FileState) (p terms : ℕ) → other ≡ call → MayAttempt call processes state p terms → MayAttempt other processes state p terms
-may-as call other processes state p terms is may = subst (λ (c : PathCall). MayAttempt c processes state p terms) (sym is) may
+pub may-as : (call other : PathCall) (processes : ProcState) (state : FileState) (p terms : ℕ) → other ≡ call
+    → MayAttemptPathCall call processes state p terms → MayAttemptPathCall other processes state p terms
+may-as call other processes state p terms is may = subst (λ (c : PathCall). MayAttemptPathCall c processes state p terms) (sym is) may
 
 -- a time of a call is one of the call that it is
 pub time-for : (call other : PathCall) (now time : TimePacket) → other ≡ call → IsTimeFor call now time → IsTimeFor other now time
@@ -80,7 +82,7 @@ module _ (call other : PathCall) (now : TimePacket) (p : ℕ) (is : other ≡ ca
       (record { processes = processes; files = new; views = later })) is attempts
 
   pub call-tries : (end : CallEnd) (terms terms_after : List TerminalState) (before after : Standing)
-      → TriesFrom other now p end terms terms_after before after → TriesFrom call now p end terms terms_after before
+      → TriesPathCallFrom other now p end terms terms_after before after → TriesPathCallFrom call now p end terms terms_after before
       after
   call-tries end terms terms_after before after tries =
-      subst (λ (c : PathCall). TriesFrom c now p end terms terms_after before after) is tries
+      subst (λ (c : PathCall). TriesPathCallFrom c now p end terms terms_after before after) is tries

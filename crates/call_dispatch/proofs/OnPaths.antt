@@ -30,7 +30,7 @@ use Rattle.file_rules.specs.Seek.{seeks_nothing}
 use Rattle.file_rules.specs.Step.{FileStep, as_io, deed_of}
 use Rattle.file_rules.specs.declared.path_call.PathCall.TheVariants as Call
 use Rattle.device_paths.proofs.QuietLemmas.{IsQuiet}
-use Rattle.call_dispatch.specs.Attempts.{IsOnDevice}
+use Rattle.call_dispatch.specs.Attempts.{IsSameAsDeviceCall}
 use Rattle.call_dispatch.specs.Uses.{call_of, device_of}
 use Rattle.call_dispatch.specs.declared.path_use.PathUse.{PathUse}
 use Rattle.call_dispatch.specs.declared.path_use.PathUse.TheVariants as Use
@@ -40,7 +40,7 @@ other-wise : (files : Files) (found : Option OpenFile) (otherwise : IoStep) (nex
 other-wise files found otherwise next none = ap (λ (o : Option OpenFile). deed_of (by_kind o otherwise next) files) none
 
 module _ (m : Processes) (files : Files) (now : TimePacket) (p drives : ℕ) (terms : List TerminalState) where
-  pub on-device : (call : PathUse) → open_file files p (path_number (device_of call) (regs_at m p)) ≡ None → IsOnDevice (call_of call) (device_of call) m files now p drives terms
+  pub on-device : (call : PathUse) → open_file files p (path_number (device_of call) (regs_at m p)) ≡ None → IsSameAsDeviceCall (call_of call) (device_of call) m files now p drives terms
   on-device Use.Read none = other-wise files _ _ _ none
   on-device Use.ReadLn none = other-wise files _ _ _ none
   on-device Use.Write none = other-wise files _ _ _ none
@@ -57,15 +57,15 @@ seeks-on-device m files now p terms none = other-wise files _ _ _ none
 
 -- I$Close there
 pub closes-on-device : (m : Processes) (files : Files) (now : TimePacket) (p drives : ℕ) (terms : List TerminalState)
-    → open_file files p (regs_at m p).a ≡ None → IsOnDevice Call.Close Device.Close m files now p drives terms
+    → open_file files p (regs_at m p).a ≡ None → IsSameAsDeviceCall Call.Close Device.Close m files now p drives terms
 closes-on-device m files now p drives terms none = other-wise files _ _ _ none
 
 -- by the call that it is there
 pub on-device-as : (m : Processes) (files : Files) (now : TimePacket) (p drives : ℕ) (terms : List TerminalState)
     (call : PathUse) (device : IoCall) → device ≡ device_of call → open_file files p (path_number (device_of call)
-    (regs_at m p)) ≡ None → IsOnDevice (call_of call) device m files now p drives terms
+    (regs_at m p)) ≡ None → IsSameAsDeviceCall (call_of call) device m files now p drives terms
 on-device-as m files now p drives terms call device is none =
-    subst (λ (d : IoCall). IsOnDevice (call_of call) d m files now p drives terms) (sym is) (on-device m files now p drives terms call none)
+    subst (λ (d : IoCall). IsSameAsDeviceCall (call_of call) d m files now p drives terms) (sym is) (on-device m files now p drives terms call none)
 
 quiet-seek : (caller : Caller) (io : Io) (path : Option OpenPath) → IsQuiet (needs path E_BPNUM (λ opened. io_done caller.regs io))
 quiet-seek caller io None = tt

@@ -13,9 +13,9 @@ use Rattle.io_model.specs.Codes.{direction_of, io_call_of, direction_of_call}
 use Rattle.io_model.specs.Io.{Io, pending_at}
 use Rattle.io_model.specs.declared.io_call.IoCall.{IoCall}
 use Rattle.io_model.specs.declared.io_call.IoCall.TheVariants as Call
-use Rattle.io_state.specs.Attempt.{Attempts}
+use Rattle.io_state.specs.Attempt.{IoAttempted}
 use Rattle.io_state.specs.Sound.{IsIo, SetsStatus}
-use Rattle.proc_state.specs.Tie.{Comes}
+use Rattle.proc_state.specs.Tie.{ReturnsCallEnd}
 use Rattle.proc_state.specs.declared.state.ProcState.{ProcState}
 use Rattle.io_model.specs.Attempts.{caller_of, step_of}
 use Rattle.io_model.specs.Memory.{WantsMemory}
@@ -52,7 +52,7 @@ is_first_if Call.SetStt regs io p quiet status sound again = status refl
 is_first_if Call.PErr regs io p quiet status sound again = is-first Call.PErr regs io p quiet (λ same. cc) sound again
 
 -- an attempt comes to something else than want of memory
-no-memory : (m : Processes) (p : ℕ) (result : CallResult) (processes : ProcState) → Comes m p result NoMemory processes → ⊥
+no-memory : (m : Processes) (p : ℕ) (result : CallResult) (processes : ProcState) → ReturnsCallEnd m p result NoMemory processes → ⊥
 no-memory m p (Result.done after) processes comes = let e : NoMemory ≡ Done = comes.0 in cc
 no-memory m p (Result.refused number) processes comes = let e : NoMemory ≡ Error number = comes.0 in cc
 no-memory m p (Result.waits after) processes comes = let e : NoMemory ≡ Wait = comes.0 in cc
@@ -60,16 +60,16 @@ no-memory m p (Result.ends status) processes comes = let e : NoMemory ≡ Ended 
 
 -- such a call does not want memory
 pub has-memory : (call : IoCall) (m : Processes) (io : Io) (drives p : ℕ) (end : CallEnd) (processes : ProcState)
-    (new : Io) (before after : List TerminalState) → Attempts call m io drives p end processes new before after
+    (new : Io) (before after : List TerminalState) → IoAttempted call m io drives p end processes new before after
     → end ≡ NoMemory → ⊥
 has-memory call m io drives p end processes new before after attempts is =
-    no-memory m p attempts.result processes (subst (λ (end : CallEnd). Comes m p attempts.result end processes) is attempts.comes)
+    no-memory m p attempts.result processes (subst (λ (end : CallEnd). ReturnsCallEnd m p attempts.result end processes) is attempts.comes)
 
 -- ---- a call by its name
 
 module _ (call other : IoCall) (m : Processes) (io : Io) (drives p : ℕ) (before after : List TerminalState) (is : call ≡ other) where
-  pub attempts-as : (end : CallEnd) (processes : ProcState) (new : Io) → Attempts other m io drives p end processes new before after → Attempts call m io drives p end processes new before after
-  attempts-as end processes new attempts = subst (λ (call : IoCall). Attempts call m io drives p end processes new before after) (sym is) attempts
+  pub attempts-as : (end : CallEnd) (processes : ProcState) (new : Io) → IoAttempted other m io drives p end processes new before after → IoAttempted call m io drives p end processes new before after
+  attempts-as end processes new attempts = subst (λ (call : IoCall). IoAttempted call m io drives p end processes new before after) (sym is) attempts
 
   pub wants-as : WantsMemory (step_of other m p io drives before) (caller_of m p) io before after → WantsMemory (step_of call m p io drives before) (caller_of m p) io before after
   wants-as wants = subst (λ (call : IoCall). WantsMemory (step_of call m p io drives before) (caller_of m p) io before after) (sym is) wants

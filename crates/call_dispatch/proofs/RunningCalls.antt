@@ -19,13 +19,13 @@ use Rattle.io_model.specs.Codes.{io_call_of}
 use Rattle.io_model.specs.Io.{Io, pending_at}
 use Rattle.io_model.specs.declared.io_call.IoCall.{IoCall}
 use Rattle.io_model.specs.declared.io_call.IoCall.TheVariants as Call
-use Rattle.call_laws.specs.Pending.{ArePending, StaysAllowed as IsAllowed}
+use Rattle.call_laws.specs.Pending.{ArePending, IsAllowedIfRead as IsAllowed}
 use Rattle.call_laws.specs.Terminals.{AreOnTerminals}
 use Rattle.call_laws.proofs.Codes.{attempts-code}
-use Rattle.proc_state.specs.Tie.{Represents}
+use Rattle.proc_state.specs.Tie.{RepresentsProcesses}
 use Rattle.proc_state.specs.declared.state.ProcState.{ProcState}
 use Rattle.device_io.specs.Moving.{AreTerminals, StaysIfPending}
-use Rattle.call_dispatch.specs.Staying.{MayAttempt, StaysAllowed}
+use Rattle.call_dispatch.specs.Staying.{MayAttemptIo, PendingReadIsAllowed}
 
 -- each terminal that a path was opened on is there
 are-terminals : (paths : PathTable) (terms : ℕ) → AreOnTerminals terms paths → AreTerminals paths terms
@@ -68,7 +68,7 @@ stays-if call cells regs io p reads = by_kept (pending_at io p)
     by_kept None allowed = tt
     by_kept (Some pending) allowed = reads allowed
 
-stays-of : (call : IoCall) (cells : Cells) (regs : Regs) (io : Io) (p : ℕ) → IfSome (pending_at io p) (λ pending. IsAllowed call cells regs io p) → StaysAllowed call cells regs io p
+stays-of : (call : IoCall) (cells : Cells) (regs : Regs) (io : Io) (p : ℕ) → IfSome (pending_at io p) (λ pending. IsAllowed call cells regs io p) → PendingReadIsAllowed call cells regs io p
 stays-of Call.Read cells regs io p allowed =
     stays-if Call.Read cells regs io p (λ it. it refl) allowed
 stays-of Call.ReadLn cells regs io p allowed =
@@ -84,14 +84,14 @@ stays-of Call.SetStt cells regs io p allowed = tt
 stays-of Call.PErr cells regs io p allowed = tt
 
 pub may-attempt : (processes : ProcState) (m : Processes) (io : Io) (terms p code : ℕ) (call : IoCall) → p < 33
-    → Represents processes m → ArePending m io → AreOnTerminals terms io.paths → act_of m p ≡ attempts code
-    → io_call_of code ≡ Some call → MayAttempt call processes io p terms
+    → RepresentsProcesses processes m → ArePending m io → AreOnTerminals terms io.paths → act_of m p ≡ attempts code
+    → io_call_of code ≡ Some call → MayAttemptIo call processes io p terms
 may-attempt processes m io terms p code call process tied kept on next coded =
     let regs : regs_at m p ≡ (record_at processes.table p).regs = ap (λ (m : Processes). regs_at m p) tied.is in
     let cells : cells_of processes.memory p ≡ cells_at m p = cells_of-seen processes.memory p process m.memory tied.memory in
     record {
       again = subst (λ (regs : Regs). IsAgain call regs io p) regs (again-of m io p code call kept next coded);
-      stays = subst (λ (cells : Cells). StaysAllowed call cells (record_at processes.table p).regs io p) (sym cells)
-          (subst (λ (regs : Regs). StaysAllowed call (cells_at m p) regs io p) regs (stays-of call (cells_at m p) (regs_at m p) io p (allowed-of m io p code call kept next coded)));
+      stays = subst (λ (cells : Cells). PendingReadIsAllowed call cells (record_at processes.table p).regs io p) (sym cells)
+          (subst (λ (regs : Regs). PendingReadIsAllowed call (cells_at m p) regs io p) regs (stays-of call (cells_at m p) (regs_at m p) io p (allowed-of m io p code call kept next coded)));
       terminals = are-terminals io.paths terms on;
     }

@@ -4,8 +4,8 @@ ghost use Rattle.std.specs.Prelude.{◌≡◌, IfSome, slice_index_or};
 ghost use Rattle.proc_model.specs.Records.{IsLiving};
 ghost use Rattle.proc_model.specs.Attempts.{attempted, after_attempt, attempt_end};
 ghost use Rattle.proc_model.specs.Processes.{Processes, no_own};
-ghost use Rattle.proc_state.specs.Tie.{Represents, Comes};
-ghost use Rattle.proc_calls.specs.Telling.{LivesOn, KeepsTurns, WaitsFor};
+ghost use Rattle.proc_state.specs.Tie.{RepresentsProcesses, ReturnsCallEnd};
+ghost use Rattle.proc_calls.specs.Telling.{LivesOn, KeepsRecordsAndTurns, SchedulesWait};
 ghost use Rattle.call_dispatch.specs.Waits as model;
 
 use crate::waits::waits_for;
@@ -31,13 +31,13 @@ use proc_state::state::ProcState;
 /// The scheduler knows what a call waits for.
 pub fn attempt_on_process(s: &mut ProcState, p: Pid, call: ProcCall) -> CallEnd
     requires lives { IsLiving s.old.table p.0 }
-    ensures call { (m : Processes) → Represents s.old m
-        → Represents s.new (after_attempt m p.0 (attempted call m p.0))
+    ensures call { (m : Processes) → RepresentsProcesses s.old m
+        → RepresentsProcesses s.new (after_attempt m p.0 (attempted call m p.0))
         × (result ≡ attempt_end (attempted call m p.0)) }
     ensures lives { LivesOn result s.new.table p.0 }
     ensures waits { result ≡ CallEnd.Wait
         → IfSome (model.waits_for call (slice_index_or s.new.own.items p.0 no_own))
-        (WaitsFor s.old s.new p.0) }
+        (SchedulesWait s.old s.new p.0) }
 {
     let end = comes(s, p, call);
     let wait = waits_for(call, s.own(p));
@@ -48,11 +48,11 @@ pub fn attempt_on_process(s: &mut ProcState, p: Pid, call: ProcCall) -> CallEnd
 /// Attempts a call. The process does not have the result yet.
 fn comes(s: &mut ProcState, p: Pid, call: ProcCall) -> CallEnd
     requires lives { IsLiving s.old.table p.0 }
-    ensures call { (m : Processes) → Represents s.old m
-        → Comes m p.0 (attempted call m p.0) result s.new }
+    ensures call { (m : Processes) → RepresentsProcesses s.old m
+        → ReturnsCallEnd m p.0 (attempted call m p.0) result s.new }
     ensures lives { LivesOn result s.new.table p.0 }
     ensures still { result ≡ CallEnd.Wait
-        → IfSome (model.waits_for call no_own) (λ wait. KeepsTurns s.old s.new) }
+        → IfSome (model.waits_for call no_own) (λ wait. KeepsRecordsAndTurns s.old s.new) }
 {
     match call {
         ProcCall::Link => f_link(s, p),

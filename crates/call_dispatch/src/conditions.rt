@@ -3,13 +3,13 @@
 ghost use Rattle.std.specs.Prelude.{◌≡◌, ◌<◌, ℕ, Some};
 ghost use Rattle.proc_model.specs.Processes.{Processes};
 ghost use Rattle.proc_model.specs.Ready.{attempts, act_of};
-ghost use Rattle.call_dispatch.specs.Staying.{MayAttempt};
+ghost use Rattle.call_dispatch.specs.Staying.{MayAttemptIo};
 ghost use Rattle.call_laws.specs.Pending.{ArePending};
 ghost use Rattle.call_laws.specs.Terminals.{AreOnTerminals};
 ghost use Rattle.io_model.specs.Codes.{io_call_of};
 ghost use Rattle.io_model.specs.Io.{Io};
 ghost use Rattle.io_model.specs.declared.io_call.IoCall.{IoCall};
-ghost use Rattle.proc_state.specs.Tie.{Represents};
+ghost use Rattle.proc_state.specs.Tie.{RepresentsProcesses};
 ghost use Rattle.proc_state.specs.declared.state.ProcState.{ProcState};
 
 /// If a call on paths is the next event of a process, among processes that these represent, the
@@ -17,7 +17,7 @@ ghost use Rattle.proc_state.specs.declared.state.ProcState.{ProcState};
 /// of pending calls belongs to them, and the terminal of each open path exists.
 pub fn a_process_may_attempt_its_call()
     ensures { (processes : ProcState) (m : Processes) (io : Io) (terms p code : ℕ) (call : IoCall)
-        → p < 33 → Represents processes m → ArePending m io → AreOnTerminals terms io.paths
+        → p < 33 → RepresentsProcesses processes m → ArePending m io → AreOnTerminals terms io.paths
         → act_of m p ≡ attempts code → io_call_of code ≡ Some call
-        → MayAttempt call processes io p terms }
+        → MayAttemptIo call processes io p terms }
 {}

@@ -5,7 +5,7 @@ ghost use Rattle.io_state.specs.Context.{InCall, SameDrives};
 ghost use Rattle.file_state.specs.Context.{machine_seen};
 ghost use Rattle.device_table.specs.Seen.{terminals_seen};
 ghost use Rattle.call_dispatch.specs.Attempts.{TriesOnDevice};
-ghost use Rattle.call_dispatch.specs.Staying.{MayAttempt};
+ghost use Rattle.call_dispatch.specs.Staying.{MayAttemptIo};
 ghost use Rattle.io_model.specs.Io.{pending_at};
 
 use crate::device_calls::attempt_on_stream;
@@ -33,7 +33,7 @@ pub fn attempt_on_device(
     call: IoCall,
 ) -> CallEnd
     requires calls { InCall by machine.old.processes }
-    requires may { MayAttempt call machine.old.processes machine.old.files.io by.p.0
+    requires may { MayAttemptIo call machine.old.processes machine.old.files.io by.p.0
         (vec_len devices.old.terms) }
     requires status { call ≡ IoCall.SetStt → pending_at machine.old.files.io by.p.0 ≡ None }
     ensures call { TriesOnDevice call by.p.0 (vec_len devices.old.drives) result

@@ -2,10 +2,10 @@
 
 ghost use Rattle.std.specs.Prelude.{◌≡◌, None, vec_len};
 ghost use Rattle.io_state.specs.Context.{InCall, SameDrives};
-ghost use Rattle.call_dispatch.specs.Staying.{MayAttempt};
+ghost use Rattle.call_dispatch.specs.Staying.{MayAttemptIo};
 ghost use Rattle.io_model.specs.Io.{pending_at};
 ghost use Rattle.device_io.specs.Streams.{streams};
-ghost use Rattle.device_io.specs.Trying.{AttemptsFrom, WantsMemoryFrom};
+ghost use Rattle.device_io.specs.Trying.{IoAttemptedFrom, WantsMemoryFrom};
 
 use device_io::stream_reads::{i_read, i_readln};
 use device_io::stream_writes::{f_perr, i_write, i_writln};
@@ -37,9 +37,9 @@ pub fn attempt_on_stream(
     call: IoCall,
 ) -> CallEnd
     requires calls { InCall by s.old }
-    requires may { MayAttempt call s.old io.old by.p.0 (vec_len devices.old.terms) }
+    requires may { MayAttemptIo call s.old io.old by.p.0 (vec_len devices.old.terms) }
     requires status { call ≡ IoCall.SetStt → pending_at io.old by.p.0 ≡ None }
-    ensures call { AttemptsFrom call (vec_len devices.old.drives) by.p.0 result s.old s.new
+    ensures call { IoAttemptedFrom call (vec_len devices.old.drives) by.p.0 result s.old s.new
         (streams CharDriver-box io.old devices.old) (streams CharDriver-box io.new devices.new) }
     ensures memory { WantsMemoryFrom call (vec_len devices.old.drives) by.p.0 result s.old
         (streams CharDriver-box io.old devices.old) (streams CharDriver-box io.new devices.new) }

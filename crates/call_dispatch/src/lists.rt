@@ -7,7 +7,7 @@ ghost use Rattle.call_dispatch.specs.Bounds.{attempt_calls};
 ghost use Rattle.call_dispatch.specs.Calls.{list_call};
 ghost use Rattle.call_dispatch.specs.Dates.{IsTimeFor};
 ghost use Rattle.file_state.specs.Counted.{AttemptsWithin};
-ghost use Rattle.file_state.specs.Tie.{IsSound};
+ghost use Rattle.file_state.specs.Tie.{AreSoundFiles};
 ghost use Rattle.os9_base.specs.declared.registers.TimePacket.{TimePacket};
 ghost use Rattle.os9_outer.specs.TerminalState.{TerminalState};
 ghost use Rattle.file_drives.specs.Drives.{drives_seen};
@@ -54,7 +54,7 @@ pub fn attempt_on_list(
     call: ListCall,
 ) -> CallEnd
     requires calls { InFirstAttempt by machine.old }
-    requires sound { IsSound machine.old.files (drives_seen BlockDriver-box devices.old) }
+    requires sound { AreSoundFiles machine.old.files (drives_seen BlockDriver-box devices.old) }
     ensures call { (time : TimePacket) (terms : List TerminalState)
         → IsTimeFor (list_call call) by.time time → length terms ≡ vec_len devices.old.terms
         → AttemptsWithin (attempt_calls (list_call call)) (list_call call) time by.p.0 result terms

@@ -4,9 +4,9 @@ ghost use Rattle.std.specs.Prelude.{vec_len};
 ghost use Rattle.io_state.specs.Context.{AsManyTerminals, InCall};
 ghost use Rattle.file_state.specs.Context.{machine_seen};
 ghost use Rattle.device_table.specs.Seen.{terminals_seen};
-ghost use Rattle.call_dispatch.specs.Attempts.{MayAttempt, TriesAt};
+ghost use Rattle.call_dispatch.specs.Attempts.{MayAttemptPathCall, TriesAt};
 ghost use Rattle.call_dispatch.specs.Numbers.{number_call};
-ghost use Rattle.file_state.specs.Tie.{IsSound};
+ghost use Rattle.file_state.specs.Tie.{AreSoundFiles};
 ghost use Rattle.file_drives.specs.Drives.{drives_seen};
 
 use crate::device::attempt_on_device;
@@ -50,9 +50,9 @@ pub fn attempt_on_number(
     call: NumberCall,
 ) -> CallEnd
     requires calls { InCall by machine.old.processes }
-    requires may { MayAttempt (number_call call) machine.old.processes machine.old.files by.p.0
-        (vec_len devices.old.terms) }
-    requires sound { IsSound machine.old.files (drives_seen BlockDriver-box devices.old) }
+    requires may { MayAttemptPathCall (number_call call) machine.old.processes machine.old.files
+        by.p.0 (vec_len devices.old.terms) }
+    requires sound { AreSoundFiles machine.old.files (drives_seen BlockDriver-box devices.old) }
     ensures call { TriesAt (number_call call) by.time by.p.0 result
         (terminals_seen CharDriver-box devices.old) (terminals_seen CharDriver-box devices.new)
         (machine_seen BlockDriver-box machine.old devices.old)

@@ -6,7 +6,7 @@ ghost use Rattle.guest_memory.specs.Tie.{cells_of};
 ghost use Rattle.proc_model.specs.MemoryChanges.{stored};
 ghost use Rattle.proc_model.specs.Processes.{Processes, cells_at, with_memory};
 ghost use Rattle.proc_model.specs.UserBytes.{user_bytes};
-ghost use Rattle.proc_state.specs.Tie.{Represents, IsSame};
+ghost use Rattle.proc_state.specs.Tie.{RepresentsProcesses, AreProcessesSame};
 ghost use Rattle.time_rules.specs.Packet as model;
 ghost use Rattle.time_rules.specs.declared.clock.TheConstants.{PACKET_BYTES};
 
@@ -18,9 +18,9 @@ use time_rules::clock::PACKET_BYTES;
 /// slot or past `FFFF`.
 pub(crate) fn read_packet(s: &mut ProcState, p: Pid, at: u16) -> Option<TimePacket>
     requires { p.0 < 33 }
-    ensures read { (m : Processes) → Represents s.old m
+    ensures read { (m : Processes) → RepresentsProcesses s.old m
         → result ≡ option_map model.packet_of (user_bytes (cells_at m p.0) at PACKET_BYTES) }
-    ensures same { IsSame s.old s.new }
+    ensures same { AreProcessesSame s.old s.new }
 {
     if s.read_bytes(p, at, PACKET_BYTES as u16) {
         Some(packet_of(&s.buffer[..PACKET_BYTES]))
@@ -48,7 +48,7 @@ fn packet_of(bytes: &[u8]) -> TimePacket
 pub(crate) fn store_packet(s: &mut ProcState, p: Pid, at: u16, packet: TimePacket)
     requires process { p.0 < 33 }
     requires fits { FitsIn (cells_of s.old.memory p.0) at PACKET_BYTES }
-    ensures tied { (m : Processes) → Represents s.old m → Represents s.new
+    ensures tied { (m : Processes) → RepresentsProcesses s.old m → RepresentsProcesses s.new
         (with_memory m (stored m.memory p.0 at (model.packet_bytes packet))) }
     ensures records { s.new.table ≡ s.old.table }
     ensures tick { s.new.tick ≡ s.old.tick }

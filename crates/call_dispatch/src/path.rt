@@ -3,16 +3,16 @@
 ghost use Rattle.std.specs.Prelude.{List, vec_len};
 ghost use Rattle.io_state.specs.Context.{AsManyTerminals, InCall, SameTerminals};
 ghost use Rattle.file_state.specs.Context.{InFirstAttempt, beside, machine_seen};
-ghost use Rattle.file_io.specs.Opened.{IsOpened};
-ghost use Rattle.call_dispatch.specs.Attempts.{TriesAt, TriesFileAt, TriesFrom};
+ghost use Rattle.file_io.specs.Opened.{IsOpenedPath};
+ghost use Rattle.call_dispatch.specs.Attempts.{TriesAt, TriesFileAt, TriesPathCallFrom};
 ghost use Rattle.call_dispatch.specs.Bounds.{attempt_calls};
 ghost use Rattle.call_dispatch.specs.Uses.{call_of, device_of};
 ghost use Rattle.file_drives.specs.Drives.{DriveView, drives_seen};
 ghost use Rattle.file_rules.specs.declared.path_call.PathCall.TheVariants as Call;
 ghost use Rattle.file_state.specs.Asking.{KeepsRequest, TriesAgain};
 ghost use Rattle.file_state.specs.Counted.{AttemptsWithin};
-ghost use Rattle.file_state.specs.Tie.{IsSound};
-ghost use Rattle.call_dispatch.specs.Staying.{MayAttempt};
+ghost use Rattle.file_state.specs.Tie.{AreSoundFiles};
+ghost use Rattle.call_dispatch.specs.Staying.{MayAttemptIo};
 ghost use Rattle.io_model.specs.Again.{path_number};
 ghost use Rattle.os9_base.specs.declared.registers.TimePacket.{TimePacket};
 ghost use Rattle.os9_outer.specs.TerminalState.{TerminalState};
@@ -51,10 +51,10 @@ pub fn use_path(
     call: PathUse,
 ) -> CallEnd
     requires calls { InCall by machine.old.processes }
-    requires may { MayAttempt (device_of call) machine.old.processes machine.old.files.io by.p.0
+    requires may { MayAttemptIo (device_of call) machine.old.processes machine.old.files.io by.p.0
         (vec_len devices.old.terms) }
     requires kept { KeepsRequest machine.old.files.io machine.old.files.records.locks by.p.0 }
-    requires sound { IsSound machine.old.files (drives_seen BlockDriver-box devices.old) }
+    requires sound { AreSoundFiles machine.old.files (drives_seen BlockDriver-box devices.old) }
     ensures call { TriesAt (call_of call) by.time by.p.0 result
         (terminals_seen CharDriver-box devices.old) (terminals_seen CharDriver-box devices.new)
         (machine_seen BlockDriver-box machine.old devices.old)
@@ -81,8 +81,8 @@ fn use_file(
 ) -> CallEnd
     requires calls { InCall by machine.old.processes }
     requires again { TriesAgain (device_of call) by.regs machine.old.files by.p.0 }
-    requires sound { IsSound machine.old.files (drives_seen BlockDriver-box devices.old) }
-    requires opened { IsOpened machine.old.files by.p.0 (path_number (device_of call) by.regs)
+    requires sound { AreSoundFiles machine.old.files (drives_seen BlockDriver-box devices.old) }
+    requires opened { IsOpenedPath machine.old.files by.p.0 (path_number (device_of call) by.regs)
         opened.now }
     ensures call { TriesFileAt (call_of call) by.time by.p.0 result
         (machine_seen BlockDriver-box machine.old devices.old)
@@ -135,9 +135,9 @@ pub fn seek_path(machine: &mut Machine, by: Requester) -> CallEnd
 /// E$BPNum exactly if A names no path.
 pub fn close_path(machine: &mut Machine, devices: &mut Devices, by: Requester) -> CallEnd
     requires calls { InCall by machine.old.processes }
-    requires may { MayAttempt IoCall.Close machine.old.processes machine.old.files.io by.p.0
+    requires may { MayAttemptIo IoCall.Close machine.old.processes machine.old.files.io by.p.0
         (vec_len devices.old.terms) }
-    ensures call { (now : TimePacket) → TriesFrom Call.Close now by.p.0 result
+    ensures call { (now : TimePacket) → TriesPathCallFrom Call.Close now by.p.0 result
         (terminals_seen CharDriver-box devices.old) (terminals_seen CharDriver-box devices.new)
         (machine_seen BlockDriver-box machine.old devices.old)
         (machine_seen BlockDriver-box machine.new devices.new) }

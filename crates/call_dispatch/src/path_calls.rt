@@ -4,10 +4,10 @@ ghost use Rattle.std.specs.Prelude.{◌≡◌, vec_len};
 ghost use Rattle.io_state.specs.Context.{AsManyTerminals, InCall};
 ghost use Rattle.file_state.specs.Context.{machine_seen};
 ghost use Rattle.device_table.specs.Seen.{terminals_seen};
-ghost use Rattle.call_dispatch.specs.Attempts.{MayAttempt, TriesAt};
+ghost use Rattle.call_dispatch.specs.Attempts.{MayAttemptPathCall, TriesAt};
 ghost use Rattle.call_dispatch.specs.Calls.{kind_call};
 ghost use Rattle.call_dispatch.specs.Dates as model;
-ghost use Rattle.file_state.specs.Tie.{IsSound};
+ghost use Rattle.file_state.specs.Tie.{AreSoundFiles};
 ghost use Rattle.file_drives.specs.Drives.{drives_seen};
 
 use crate::lists::{ListCall, attempt_on_list};
@@ -95,9 +95,9 @@ pub fn attempt_on_path(
     call: PathCall,
 ) -> CallEnd
     requires calls { InCall by machine.old.processes }
-    requires may { MayAttempt call machine.old.processes machine.old.files by.p.0
+    requires may { MayAttemptPathCall call machine.old.processes machine.old.files by.p.0
         (vec_len devices.old.terms) }
-    requires sound { IsSound machine.old.files (drives_seen BlockDriver-box devices.old) }
+    requires sound { AreSoundFiles machine.old.files (drives_seen BlockDriver-box devices.old) }
     ensures call { TriesAt call by.time by.p.0 result (terminals_seen CharDriver-box devices.old)
         (terminals_seen CharDriver-box devices.new)
         (machine_seen BlockDriver-box machine.old devices.old)

@@ -3,13 +3,13 @@
 ghost use Rattle.std.specs.Prelude.{◌≡◌};
 ghost use Rattle.proc_model.specs.Records.{IsLiving};
 ghost use Rattle.proc_model.specs.Processes.{Processes};
-ghost use Rattle.proc_state.specs.Tie.{Represents, IsSame};
+ghost use Rattle.proc_state.specs.Tie.{RepresentsProcesses, AreProcessesSame};
 ghost use Rattle.time_rules.specs.Attempts.{clock_after};
 ghost use Rattle.time_rules.specs.Clock.{IsClock};
 ghost use Rattle.time_rules.specs.STime.{sets_clock};
 ghost use Rattle.time_rules.specs.declared.clock.Clock.{Clock};
 ghost use Rattle.time_rules.specs.declared.time_call.TimeCall.TheVariants as Call;
-ghost use Rattle.call_dispatch.specs.TimeAttempt.{Attempts, AttemptsNow, step_end};
+ghost use Rattle.call_dispatch.specs.TimeAttempt.{TimeAttempted, AttemptsNow, step_end};
 
 use crate::clock::now;
 use crate::packets::{read_packet, store_packet};
@@ -26,7 +26,7 @@ use time_rules::time_call::TimeCall;
 pub fn attempt_on_clock(s: &mut ProcState, clock: &mut Clock, p: Pid, call: TimeCall) -> CallEnd
     requires lives { IsLiving s.old.table p.0 }
     requires clock { IsClock clock.old s.old.tick }
-    ensures call { (m : Processes) → Represents s.old m
+    ensures call { (m : Processes) → RepresentsProcesses s.old m
         → AttemptsNow call m clock.old p.0 result s.new clock.new }
     ensures lives { IsLiving s.new.table p.0 }
     ensures clock { IsClock clock.new s.new.tick }
@@ -47,7 +47,7 @@ pub fn attempt_on_clock(s: &mut ProcState, clock: &mut Clock, p: Pid, call: Time
 pub fn f_time(s: &mut ProcState, clock: &Clock, p: Pid) -> CallEnd
     requires lives { IsLiving s.old.table p.0 }
     requires clock { IsClock clock.now s.old.tick }
-    ensures call { (m : Processes) → Represents s.old m
+    ensures call { (m : Processes) → RepresentsProcesses s.old m
         → AttemptsNow Call.Time m clock.now p.0 result s.new clock.now }
     ensures lives { IsLiving s.new.table p.0 }
     ensures clock { IsClock clock.now s.new.tick }
@@ -59,8 +59,8 @@ pub fn f_time(s: &mut ProcState, clock: &Clock, p: Pid) -> CallEnd
 /// Stores this time at X.
 fn tell(s: &mut ProcState, p: Pid, packet: TimePacket) -> CallEnd
     requires lives { IsLiving s.old.table p.0 }
-    ensures call { (m : Processes) (clock : Clock) → Represents s.old m
-        → Attempts Call.Time m clock packet p.0 result s.new clock }
+    ensures call { (m : Processes) (clock : Clock) → RepresentsProcesses s.old m
+        → TimeAttempted Call.Time m clock packet p.0 result s.new clock }
     ensures records { s.new.table ≡ s.old.table }
     ensures tick { s.new.tick ≡ s.old.tick }
 {
@@ -82,11 +82,11 @@ fn tell(s: &mut ProcState, p: Pid, packet: TimePacket) -> CallEnd
 pub fn f_stime(s: &mut ProcState, clock: &mut Clock, p: Pid) -> CallEnd
     requires lives { IsLiving s.old.table p.0 }
     requires clock { IsClock clock.old s.old.tick }
-    ensures call { (m : Processes) → Represents s.old m
+    ensures call { (m : Processes) → RepresentsProcesses s.old m
         → AttemptsNow Call.STime m clock.old p.0 result s.new clock.new }
     ensures lives { IsLiving s.new.table p.0 }
     ensures clock { IsClock clock.new s.new.tick }
-    ensures same { IsSame s.old s.new }
+    ensures same { AreProcessesSame s.old s.new }
 {
     let regs = s.regs(p);
     match read_packet(s, p, regs.x) {

@@ -25,7 +25,7 @@ use Rattle.call_laws.proofs.CallsKept.{Left}
 use Rattle.call_laws.specs.Objects.{KeepsSizes}
 use Rattle.call_laws.proofs.OthersKept.{living-record}
 use Rattle.call_laws.specs.PathOthers.{LeavesPaths}
-use Rattle.call_laws.specs.Pending.{AreInCalls, ArePending, IsPendingCall, StaysAllowed, WaitsInCall}
+use Rattle.call_laws.specs.Pending.{AreInCalls, ArePending, IsPendingCall, IsAllowedIfRead, WaitsInCall}
 use Rattle.call_laws.specs.Terminals.{AreOnTerminals}
 use Rattle.call_laws.proofs.InCalls.{IsWaiting, waits-runs}
 use Rattle.call_laws.proofs.KeptEvents.{lives-runs, there-at, there-lives}
@@ -126,8 +126,8 @@ mode-so old new q n stays may = by_path (open_path old q n) refl may
 -- a call stays allowed, where what is named stays so
 stays-so : (call : IoCall) (cells later : Cells) (regs now : Regs) (old new : Io) (q : ℕ) → now ≡ regs
     → ((at count : ℕ) → FitsIn cells at count → FitsIn later at count) → ((n : ℕ) (opened : OpenPath)
-    → open_path old q n ≡ Some opened → StaysNamed new q n opened) → StaysAllowed call cells regs old q
-    → StaysAllowed call later now new q
+    → open_path old q n ≡ Some opened → StaysNamed new q n opened) → IsAllowedIfRead call cells regs old q
+    → IsAllowedIfRead call later now new q
 stays-so call cells later regs now old new q same fits paths stays reads =
     let it = stays reads in
     subst (λ (regs : Regs). IsReadAllowed later regs new q) (sym same) (record {

@@ -47,9 +47,9 @@ use Rattle.time_rules.specs.Step.{TimeStep, sets, tells, needs as time_needs, re
 use Rattle.time_rules.specs.declared.clock.Clock.{Clock}
 use Rattle.time_rules.specs.declared.time_call.TimeCall.{TimeCall}
 use Rattle.time_rules.specs.declared.time_call.TimeCall.TheVariants as Time
-use Rattle.file_laws.specs.Attempt.{Attempt, OnDevice, TouchesNone, Waits, WaitsOnRecord}
+use Rattle.file_laws.specs.Attempt.{Attempt, OnDevice, TouchesNone, AttemptWaits, WaitsOnRecord}
 use Rattle.file_laws.specs.Devices.{NoneRequested}
-use Rattle.file_laws.specs.Touch.{IsOver as IsAnswered, KeepsIo, WaitsForRecord}
+use Rattle.file_laws.specs.Touch.{IsFinalResult as IsAnswered, KeepsIo, WaitsForRecord}
 use Rattle.file_laws.proofs.Codes.{code-none, code-there}
 use Rattle.file_laws.proofs.Keeps.{io-kept}
 use Rattle.file_laws.proofs.Loads.{chain-leaves, fork-leaves, load-leaves}
@@ -69,7 +69,7 @@ use Rattle.call_laws.proofs.WaitsMade.{HasItsCall, attempt-has}
 use Rattle.call_laws.specs.Pending.{ArePending, IsPendingCall, WaitsInCall}
 use Rattle.call_laws.proofs.CallCodes.{not-both}
 use Rattle.call_laws.proofs.Codes.{attempts-code}
-use Rattle.machine_model.specs.Services.{Attempts, Serves, files_after_call, files_after_fork, loads, no_call, on_paths, on_processes, on_time, with_files}
+use Rattle.machine_model.specs.Services.{CallAttempted, Serves, files_after_call, files_after_fork, loads, no_call, on_paths, on_processes, on_time, with_files}
 use Rattle.machine_model.specs.State.{Rest, State, rest_of, with_rest}
 use Rattle.call_laws.specs.Running.{AreRequested, IsRunning, WaitsOnPath}
 use Rattle.call_laws.proofs.Aside.{Aside, IoAside, aside-in, aside-kept, aside-places, leaves-aside, left-aside, same-named}
@@ -364,7 +364,7 @@ module _ (s : State) (p code : ℕ) (running : IsRunning s) (lives : IsLiving s.
         own : OnDevice attempt → (pending : PendingCall) → pending_at rest.files.io p ≡ Some pending → WaitsOnPath rest.files p pending
         own on pending is = by_wait (waits-of attempt (ap is_some is))
           where
-            by_wait : Waits attempt ⊎ WaitsOnRecord attempt → WaitsOnPath rest.files p pending
+            by_wait : AttemptWaits attempt ⊎ WaitsOnRecord attempt → WaitsOnPath rest.files p pending
             by_wait (inl waiting) =
                 device-waits call on.0.device s.processes s.files rest.files p on.0.device_is waiting pending
                 (io-path s.processes s.files.io p running.kept lives code on.0.device (length s.files.drives) result rest.files.io s.terms rest.terms next
@@ -487,5 +487,5 @@ module _ (s : State) (p code : ℕ) (running : IsRunning s) (lives : IsLiving s.
     by-load true is it = load-runs is it
     by-load false is it = by-process (call_of code) refl it
 
-  pub attempt-runs : (result : CallResult) (rest : Rest) → length rest.terms ≡ length s.terms → Attempts code s p result rest → Runs result rest
+  pub attempt-runs : (result : CallResult) (rest : Rest) → length rest.terms ≡ length s.terms → CallAttempted code s p result rest → Runs result rest
   attempt-runs result rest long (now, at, it) = by-load now result rest long (code == F_LOAD) refl it

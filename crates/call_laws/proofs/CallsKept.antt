@@ -53,14 +53,14 @@ use Rattle.call_laws.specs.Others.{AttemptsCall, CallsOn, GetsSignal, GetsWake, 
 use Rattle.call_laws.specs.Links.{ChangesLinks, GainsLink, LosesLink, LosesPrimary}
 use Rattle.call_laws.specs.NewObjects.{IsParameter}
 use Rattle.call_laws.specs.Objects.{KeepsToItself}
-use Rattle.call_laws.specs.Isolation.{LeavesOthers}
+use Rattle.call_laws.specs.Isolation.{LeavesOtherProcesses}
 use Rattle.call_laws.proofs.MemoryKept.{itself-written, grown-modules, Kept, kept-same, itself-same, itself-cut, itself-cleared, itself-unmapped, kept-map, kept-written, Grows, grown-kept, grows-same, mapped-grows, mapped-modules}
 use Rattle.call_laws.proofs.ModulesKept.{linked-modules, HaveMore, more-all, more-linked, keeps-more, keeps-unlinked}
 use Rattle.call_laws.proofs.OthersKept.{Changed, changed-leaves, changed-self, changed-then, changed-goes_on, changed-waiting, record-same, record-other, own-same, own-still, own-other, named-record, woken-own, reaped-record, exit-other, exit-record, RecordLeft, turns-without}
 
 -- what an event leaves, and that no place for a record comes or goes
 pub record Left (m : Processes) (p : ℕ) (end : EventEnd) (n : Processes) : Type 0 where
-  pub leaves : LeavesOthers m p end n
+  pub leaves : LeavesOtherProcesses m p end n
   pub places : length n.records ≡ length m.records
 
 pub left-by : (m : Processes) (p : ℕ) (end : EventEnd) (n : Processes) → Changed m p end n → Left m p end n

@@ -54,7 +54,7 @@ use Rattle.io_model.specs.declared.io_call.IoCall.{IoCall}
 use Rattle.io_model.specs.declared.io_call.IoCall.TheVariants as Call
 use Rattle.io_model.specs.declared.modes.TheConstants.{STANDARD_ERROR}
 use Rattle.io_model.specs.declared.status.TheConstants.{SS_OPT, SS_READY, SS_EOF, OPTION_BYTES}
-use Rattle.call_laws.specs.Causes.{IsFull, IsOn, IsUnreadable, LacksMode, LooksFor, StatedCause, asked_by, bad_address, bad_mode, bad_path_name, bad_path_number, behind, device_at, dots, no_module, no_name, not_found, not_ready, numbers, path_table_full, paths, pipes, root, search_of, unknown_service}
+use Rattle.call_laws.specs.Causes.{IsFull, IsOn, IoBytesUnreadable, IoCallLacksMode, SearchesPathList, StatedCause, asked_by, bad_address, bad_mode, bad_path_name, bad_path_number, behind, device_at, dots, no_module, no_name, not_found, not_ready, numbers, path_table_full, paths, pipes, root, search_of, unknown_service}
 use Rattle.call_laws.specs.Refusals.{FindsNoByte, FindsNoReader, IsRequest, kind_of, moved_before, on_pipe, path_of, put_by, sent_by}
 use Rattle.call_laws.proofs.Gaps.{bytes-gap, list-breaks-off, names-nothing, sent-gap}
 
@@ -179,7 +179,7 @@ module _ (call : IoCall) (caller : Caller) (io : Io) (drives terms : ℕ) where
 
     on-path-known : (n : ℕ) → path_number call caller.regs ≡ n → (is_allowed : ℕ → Bool) (next : OpenPath → IoStep)
         → ((opened : OpenPath) → open_path io caller.process.0 (path_number call caller.regs) ≡ Some opened
-        → is_allowed opened.desc.mode ≡ false → LacksMode call caller io)
+        → is_allowed opened.desc.mode ≡ false → IoCallLacksMode call caller io)
         → ((opened : OpenPath) → open_path io caller.process.0 (path_number call caller.regs) ≡ Some opened
         → Known (next opened)) → Known (on_path caller io n is_allowed next)
     on-path-known n at is_allowed next mode known =
@@ -214,7 +214,7 @@ module _ (call : IoCall) (caller : Caller) (io : Io) (drives terms : ℕ) where
         (λ number is. done-known (opened_regs caller.regs list number) new)
 
     module _ (list : PathList) (list_is : path_list caller.cells caller.regs.x ≡ Ok list) where
-      looks_for : LooksFor call caller search list
+      looks_for : SearchesPathList call caller search list
       looks_for = record { search_is = looks; list_is = list_is }
 
       starts : {device : Dev} → device_at drives terms list ≡ Some device → IsSome list.device
@@ -274,8 +274,8 @@ module _ (call : IoCall) (caller : Caller) (io : Io) (drives terms : ℕ) where
           (λ pipe is. begun-known list (with_paths (with_pipes io (pipes_after_begin io.pipes)) (paths_after_begin io.paths caller.process.0 (new_desc (Pipe pipe) caller.regs.a))))
       opens-known (nowhere number) known = known
 
-    open-known : (allowed : Bool) → (allowed ≡ false → LacksMode call caller io)
-        → (path_list caller.cells caller.regs.x ≡ Err Unreadable → IsUnreadable call caller io)
+    open-known : (allowed : Bool) → (allowed ≡ false → IoCallLacksMode call caller io)
+        → (path_list caller.cells caller.regs.x ≡ Err Unreadable → IoBytesUnreadable call caller io)
         → Known (opens search allowed caller io drives terms)
     open-known allowed mode unreadable = by_list (path_list caller.cells caller.regs.x) refl
       where
@@ -420,9 +420,9 @@ module _ (call : IoCall) (caller : Caller) (io : Io) (drives terms : ℕ) where
           pipe-known pipe (record { opened = opened; names = names; target_is = is }) (call_now caller io code opened caller.regs.y)
           (now-path code caller.regs.y opened) (now-moved code caller.regs.y opened) kind refl
 
-      read-known : (user_bytes caller.cells caller.regs.x caller.regs.y ≡ None → IsUnreadable call caller io)
+      read-known : (user_bytes caller.cells caller.regs.x caller.regs.y ≡ None → IoBytesUnreadable call caller io)
           → ((opened : OpenPath) → open_path io caller.process.0 (path_number call caller.regs) ≡ Some opened
-          → can_read opened.desc.mode ≡ false → LacksMode call caller io) → Known (reads_path kind code caller io)
+          → can_read opened.desc.mode ≡ false → IoCallLacksMode call caller io) → Known (reads_path kind code caller io)
       read-known unreadable mode =
           of-refuses (is_none (user_bytes caller.cells caller.regs.x caller.regs.y)) E_BPADDR (on_path caller io caller.regs.a can_read on_opened)
           (λ missing. bad_address refl (unreadable (is-nothing (user_bytes caller.cells caller.regs.x caller.regs.y) missing)))
@@ -542,8 +542,8 @@ module _ (call : IoCall) (caller : Caller) (io : Io) (drives terms : ℕ) where
       (sent : Option (List ℕ)) → ((bytes : List ℕ) → (sending bytes).bytes ≡ bytes) → (sent_by call caller io ≡ sent)
       → ((bytes : List ℕ) → (sending bytes).put ≡ put_by call (sending bytes).bytes)
       → ((bytes : List ℕ) → sent ≡ Some bytes → IsAgain call caller.regs io caller.process.0 → Asks caller io bytes)
-      → (sent ≡ None → IsUnreadable call caller io) → ((opened : OpenPath) → open_path io caller.process.0
-      (path_number call caller.regs) ≡ Some opened → can_write opened.desc.mode ≡ false → LacksMode call caller io)
+      → (sent ≡ None → IoBytesUnreadable call caller io) → ((opened : OpenPath) → open_path io caller.process.0
+      (path_number call caller.regs) ≡ Some opened → can_write opened.desc.mode ≡ false → IoCallLacksMode call caller io)
       → Known (needs sent E_BPADDR (λ bytes. on_path caller io caller.regs.a can_write
       (λ opened. unless_nothing caller io (sends_on (sending bytes) code caller io opened))))
   send-known by_number moves at_a sending code sent same sends puts asks unreadable mode =

@@ -29,7 +29,7 @@ use Rattle.file_rules.specs.declared.path_call.PathCall.TheVariants as Call
 use Rattle.lock_model.specs.declared.place.FilePlace.{FilePlace}
 use Rattle.file_laws.specs.Kinds.{AreKinds, IsOnTarget}
 use Rattle.file_laws.proofs.Named.{path-desc}
-use Rattle.call_laws.specs.Causes.{HasNoDevice, IsBadName, IsOn, IsOnDisk, IsUnreadable, ListBreaksOff, LooksFor, StatedCause, device_at, search_of}
+use Rattle.call_laws.specs.Causes.{HasNoDevice, IsBadName, IsOn, MovesDiskBytes, IoBytesUnreadable, ListBreaksOff, SearchesPathList, StatedCause, device_at, search_of}
 use Rattle.call_laws.specs.Causes as Stated
 use Rattle.file_laws.specs.Devices.{IsOnNoFile, LeadsToDevice, device_call}
 use Rattle.file_laws.proofs.TouchNamed.{create-leads, open-leads}
@@ -183,7 +183,7 @@ module _ (device : IoCall) (caller : Caller) (files : Files) where
             (place_of_target opened.desc.target))) on.names) ∙ none);
       }
 
-  is-lost : (disk : IsOnDisk device caller files.io) → open_file files caller.process.0 (path_number device caller.regs) ≡ None → IsOnLostFile device caller files
+  is-lost : (disk : MovesDiskBytes device caller files.io) → open_file files caller.process.0 (path_number device caller.regs) ≡ None → IsOnLostFile device caller files
   is-lost disk none = by_target disk.on
     where
       by_target : IsOn device caller files.io (Target.File disk.drive disk.sector) ⊎ IsOn device caller files.io (Target.Folder disk.drive disk.sector) → IsOnLostFile device caller files
@@ -211,7 +211,7 @@ module _ (device : IoCall) (caller : Caller) (files : Files) where
 -- ---- the cause
 
 -- only a call that reads a list finds it broken off
-breaks-off : (device : IoCall) (caller : Caller) (files : Files) → IsUnreadable device caller files.io → (search : Search) → search_of device ≡ Some search → ListBreaksOff caller
+breaks-off : (device : IoCall) (caller : Caller) (files : Files) → IoBytesUnreadable device caller files.io → (search : Search) → search_of device ≡ Some search → ListBreaksOff caller
 breaks-off Device.Open caller files why search is = why
 breaks-off Device.Create caller files why search is = why
 breaks-off Device.Dup caller files why search is = absurd why
@@ -235,7 +235,7 @@ module _ (call : PathCall) (device : IoCall) (device_is : device_call call ≡ S
   abbrev Read : Search → PathList → Type 0
   Read search list = LeadsToDevice (lead_of search (length files.drives) terms list)
 
-  reads : (search : Search) (list : PathList) → LooksFor device asker.caller search list → Read search list
+  reads : (search : Search) (list : PathList) → SearchesPathList device asker.caller search list → Read search list
   reads search list looks =
       let it : Listed asker files terms search = it-lists search looks.search_is in
       subst (Read search) (same-list it.list list (sym it.read ∙ looks.list_is)) it.leads
@@ -264,7 +264,7 @@ module _ (call : PathCall) (device : IoCall) (device_is : device_call call ≡ S
       by_device (inr (drive, is)) =
           is-no-drive it.search (length files.drives) terms it.list (reads it.search it.list it.looks) drive is
 
-  by-address : number ≡ E_BPADDR → IsUnreadable device asker.caller files.io → (search : Option Search) → search_of device ≡ search → Why
+  by-address : number ≡ E_BPADDR → IoBytesUnreadable device asker.caller files.io → (search : Option Search) → search_of device ≡ search → Why
   by-address is why None none = bad_address is none why
   by-address is why (Some search) searches =
       let off : ListBreaksOff asker.caller = breaks-off device asker.caller files why search searches in

@@ -27,7 +27,7 @@ use Rattle.io_model.specs.declared.terminal.ReadKind.{ReadKind}
 use Rattle.io_model.specs.declared.terminal.ReadKind.TheVariants.{Bytes, WholeLine}
 use Rattle.io_model.specs.Again.{IsPending, KeepsCount, path_number}
 use Rattle.io_model.specs.Alone.{is_alone}
-use Rattle.io_model.specs.Attempts.{Does, io_step}
+use Rattle.io_model.specs.Attempts.{IoDoes, io_step}
 use Rattle.io_model.specs.Close.{after_close}
 use Rattle.io_model.specs.Codes.{direction_of_call, io_call_of}
 use Rattle.io_model.specs.Io.{Io, OpenPath, pending_at, new_desc, open_path, pipe_bytes, with_paths, with_pipes}
@@ -47,7 +47,7 @@ use Rattle.io_model.specs.declared.io_call.IoCall.{IoCall}
 use Rattle.io_model.specs.declared.io_call.IoCall.TheVariants as Call
 use Rattle.io_model.specs.declared.modes.TheConstants.{STANDARD_ERROR}
 use Rattle.io_model.specs.declared.status.TheConstants.{SS_OPT, SS_READY, SS_EOF, OPTION_BYTES}
-use Rattle.call_laws.specs.Pending.{StaysAllowed}
+use Rattle.call_laws.specs.Pending.{IsAllowedIfRead}
 use Rattle.file_laws.proofs.Lengths.{LineLength, line-length, user-fits, user-length}
 
 -- a path that is open is the image of its number
@@ -71,7 +71,7 @@ open-slot io p n opened is = by_slot (slot_of io.paths p n) refl is
 -- a call may wait, and this is kept of it then: it is not refused where it is attempted again
 pub record MayWait (call : IoCall) (caller : Caller) (io : Io) (pending : PendingCall) : Type 0 where
   pub kept_is : IsPending call caller.regs io caller.process.0 pending
-  pub stays : StaysAllowed call caller.cells caller.regs io caller.process.0
+  pub stays : IsAllowedIfRead call caller.cells caller.regs io caller.process.0
 
 -- where a call waits, this is kept of it, and the paths stay
 abbrev pub EndKeeps : IoCall → Caller → Io → Io → IoEnd → Type 0
@@ -96,7 +96,7 @@ module _ (call : IoCall) (caller : Caller) (io : Io) (again : Again call caller 
 
   -- a further attempt of it is not refused
   abbrev Stays : Type 0
-  Stays = StaysAllowed call caller.cells caller.regs io caller.process.0
+  Stays = IsAllowedIfRead call caller.cells caller.regs io caller.process.0
 
   abbrev Ends : Io → IoEnd → Type 0
   Ends new end = EndKeeps call caller io new end
@@ -449,7 +449,7 @@ module _ (call : IoCall) (caller : Caller) (io : Io) (before after : List Termin
       by_answer Progress.Fault ends = let e : fails E_WRITE ≡ keeps pending = same_Some (fails E_WRITE) it.end ends ∙ end_is in cc
       by_answer Progress.NoMemory ends = none-some it.end ends
 
-  pub does-keep : (step : IoStep) (effect : IoEffect) (pending : PendingCall) → StepKeeps call caller io step → Does step caller io effect before after → effect.end ≡ keeps pending
+  pub does-keep : (step : IoStep) (effect : IoEffect) (pending : PendingCall) → StepKeeps call caller io step → IoDoes step caller io effect before after → effect.end ≡ keeps pending
       → Kept_then effect pending
   does-keep (refused number) effect pending good (is, same) waits =
       absurd (let e : fails number ≡ keeps pending = sym (ap (λ (effect : IoEffect). effect.end) is) ∙ waits in cc)

@@ -32,7 +32,7 @@ use Rattle.io_model.specs.declared.io_call.IoCall.{IoCall}
 use Rattle.call_laws.specs.Objects.{KeepsSizes}
 use Rattle.call_laws.proofs.MemoryKept.{kept-written}
 use Rattle.call_laws.proofs.OthersKept.{living-record, living-within}
-use Rattle.call_laws.specs.Pending.{ArePending, IsPendingCall, StaysAllowed}
+use Rattle.call_laws.specs.Pending.{ArePending, IsPendingCall, IsAllowedIfRead}
 use Rattle.call_laws.proofs.Codes.{attempts-code}
 use Rattle.call_laws.proofs.CallCodes.{code-is}
 use Rattle.call_laws.proofs.Keeping.{Again, MayWait, does-keep, step-keeps}
@@ -75,8 +75,8 @@ mode-on io new p number same may = by_path (open_path io p number) refl may
 -- a call stays allowed, where what is named and the paths do
 pub stays-on : (call : IoCall) (cells later : Cells) (regs now : Regs) (io new : Io) (p : ℕ) → now ≡ regs
     → ((at count : ℕ) → FitsIn cells at count → FitsIn later at count) → ((number : ℕ) (opened : OpenPath)
-    → open_path io p number ≡ Some opened → open_path new p number ≡ Some opened) → StaysAllowed call cells regs io p
-    → StaysAllowed call later now new p
+    → open_path io p number ≡ Some opened → open_path new p number ≡ Some opened) → IsAllowedIfRead call cells regs io p
+    → IsAllowedIfRead call later now new p
 stays-on call cells later regs now io new p same fits paths stays reads =
     let it = stays reads in
     subst (λ (regs : Regs). IsReadAllowed later regs new p) (sym same) (record {

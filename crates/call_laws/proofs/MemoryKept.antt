@@ -14,7 +14,7 @@ use Rattle.proc_model.specs.Objects.{slot_of, with_object_byte, with_cell, with_
 use Rattle.proc_model.specs.Slots.{Slots, no_slots, NamesBlock, is_free_run, highest_free_run, with_low, cut_low_to, with_group, map_without_group, group_slot, filled_places}
 use Rattle.proc_model.specs.Link.{Mapped, mapped_group}
 use Rattle.call_laws.specs.Objects.{KeepsSizes, IsNewOrShared, KeepsObjects, KeepsToItself}
-use Rattle.call_laws.specs.Modules.{KeepsModules}
+use Rattle.call_laws.specs.Modules.{FollowsLinkRules}
 use Rattle.call_laws.proofs.ModulesKept.{keeps-more, modules-same, more-linked}
 use Rattle.call_laws.proofs.Lists.{slice_get-set_same, get-within, right-some, replicate-is, slice_get-set_other, slice_get-left, range-from, range-below, HasBlock, has-put, has-none, has-filled, before-put, slot-has}
 
@@ -33,7 +33,7 @@ no-new Given m n long object bytes late is =
 pub record Kept (m : MemoryState) (Given : ℕ → Type 0) (p c : ℕ) (n : MemoryState) : Type 0 where
   pub objects : KeepsObjects m p n
   pub maps : (q : ℕ) → q ≢ c → map_at n q ≡ map_at m q
-  pub modules : KeepsModules m.modules n.modules
+  pub modules : FollowsLinkRules m.modules n.modules
   pub new_objects : HoldOnly Given m n
   pub sizes : KeepsSizes m n
 

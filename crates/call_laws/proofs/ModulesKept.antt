@@ -9,7 +9,7 @@ use Rattle.std.proofs.lemmas.Option.{slice_get-get_or, slice_get-map, slice_get_
 use Rattle.proc_model.specs.Memory.{MemoryState}
 use Rattle.proc_model.specs.MemoryChanges.{linked}
 use Rattle.proc_model.specs.ModuleList.{ModuleEntry, module_entry_at, passes, some_entry, entry_linked, entry_unlinked, is_of_group, is_in_use, place_without_group, modules_without_group, with_module_entry, with_unlinked, after_unlink, without_link}
-use Rattle.call_laws.specs.Modules.{ModuleComesOf, KeepsModules}
+use Rattle.call_laws.specs.Modules.{ModuleStaysOrLeaves, FollowsLinkRules}
 use Rattle.call_laws.proofs.Lists.{slice_get-set_other}
 
 -- ---- entries of lists
@@ -118,18 +118,18 @@ pub linked-modules : (m n : MemoryState) (number : ℕ) → n.modules ≡ m.modu
 linked-modules m n number same =
     ap (λ (modules : List (Option ModuleEntry)). option_map_or (λ (entry : ModuleEntry). with_module_entry modules number (entry_linked entry)) (module_entry_at modules number) modules) same
 
-comes-more : (entries : List (Option ModuleEntry)) (old new : Option ModuleEntry) → HasMore old new → ModuleComesOf entries old new
+comes-more : (entries : List (Option ModuleEntry)) (old new : Option ModuleEntry) → HasMore old new → ModuleStaysOrLeaves entries old new
 comes-more entries (Some old) (Some new) more =
     record { same = more.0; rises = more.2; falls = omega (arith, more.1) }
 comes-more entries (Some old) None more = absurd more
 comes-more entries None (Some new) more = absurd more
 comes-more entries None None more = tt
 
-pub keeps-more : (entries later : List (Option ModuleEntry)) → HaveMore entries later → KeepsModules entries later
+pub keeps-more : (entries later : List (Option ModuleEntry)) → HaveMore entries later → FollowsLinkRules entries later
 keeps-more entries later more number =
     comes-more entries (module_entry_at entries number) (module_entry_at later number) (more number)
 
-pub modules-same : (entries : List (Option ModuleEntry)) → KeepsModules entries entries
+pub modules-same : (entries : List (Option ModuleEntry)) → FollowsLinkRules entries entries
 modules-same entries = keeps-more entries entries (more-all entries)
 
 -- ---- a link that is given up
@@ -160,23 +160,23 @@ module _ (entries base : List (Option ModuleEntry)) (more : HaveMore entries bas
   less-here = entry-put base number (entry_unlinked entry) (entry-within base number entry is)
 
   -- an entry with one link less
-  comes-less : (old : Option ModuleEntry) → Was old entry → ModuleComesOf entries old (Some (entry_unlinked entry))
+  comes-less : (old : Option ModuleEntry) → Was old entry → ModuleStaysOrLeaves entries old (Some (entry_unlinked entry))
   comes-less old was =
-      subst (λ old. ModuleComesOf entries old (Some (entry_unlinked entry))) (sym was.is)
+      subst (λ old. ModuleStaysOrLeaves entries old (Some (entry_unlinked entry))) (sym was.is)
       (record {
         same = ap (λ (e : ModuleEntry). record e { links = entry.links - 1 }) was.rest;
         rises = omega (arith, was.most);
         falls = omega (arith, was.more);
       })
 
-  keeps-less : KeepsModules entries less
+  keeps-less : FollowsLinkRules entries less
   keeps-less other =
       elim (cases_eq other number) [
         | inl same ↦
-            subst (λ k. ModuleComesOf entries (module_entry_at entries k) (module_entry_at less k)) (sym same)
-            (subst (ModuleComesOf entries (module_entry_at entries number)) (sym less-here) (comes-less (module_entry_at entries number) here))
+            subst (λ k. ModuleStaysOrLeaves entries (module_entry_at entries k) (module_entry_at less k)) (sym same)
+            (subst (ModuleStaysOrLeaves entries (module_entry_at entries number)) (sym less-here) (comes-less (module_entry_at entries number) here))
         | inr differ ↦
-            subst (ModuleComesOf entries (module_entry_at entries other)) (sym (entry-other base number (entry_unlinked entry) other differ)) (keeps-more entries base more other)
+            subst (ModuleStaysOrLeaves entries (module_entry_at entries other)) (sym (entry-other base number (entry_unlinked entry) other differ)) (keeps-more entries base more other)
       ]
 
   -- an entry that had one link at most
@@ -216,20 +216,20 @@ module _ (entries base : List (Option ModuleEntry)) (more : HaveMore entries bas
 
   module _ (not_boot : entry.is_boot ≡ false) (unused : is_in_use less entry.group ≡ false) where
     -- an entry of the group leaves, and no other one
-    leaves : (other : ℕ) (place : Option ModuleEntry) → module_entry_at less other ≡ place → ModuleComesOf entries (module_entry_at entries other) (place_without_group entry.group place)
-    leaves other None at = subst (ModuleComesOf entries (module_entry_at entries other)) at (keeps-less other)
+    leaves : (other : ℕ) (place : Option ModuleEntry) → module_entry_at less other ≡ place → ModuleStaysOrLeaves entries (module_entry_at entries other) (place_without_group entry.group place)
+    leaves other None at = subst (ModuleStaysOrLeaves entries (module_entry_at entries other)) at (keeps-less other)
     leaves other (Some left) at = by_group (is_of_group entry.group left) refl
       where
         no-links : (grouped : Bool) → is_of_group entry.group left ≡ true → (is_of_group entry.group left && nat_lt 0 left.links) ≡ false → left.links ≡ 0
         no-links grouped of none = grind (arith, of, none)
 
-        by_group : (grouped : Bool) → is_of_group entry.group left ≡ grouped → ModuleComesOf entries (module_entry_at entries other) (if grouped then None else Some left)
-        by_group false of = subst (ModuleComesOf entries (module_entry_at entries other)) at (keeps-less other)
+        by_group : (grouped : Bool) → is_of_group entry.group left ≡ grouped → ModuleStaysOrLeaves entries (module_entry_at entries other) (if grouped then None else Some left)
+        by_group false of = subst (ModuleStaysOrLeaves entries (module_entry_at entries other)) at (keeps-less other)
         by_group true of =
             let old : Had (module_entry_at entries other) left = had other left at in
             let none : left.links ≡ 0 = no-links true of (none-passes (λ (entry_there : ModuleEntry). is_of_group entry.group entry_there && nat_lt 0 entry_there.links) less other left unused at) in
             let few : old.before.links ≤ left.links + 1 = old.few in
-            subst (λ place. ModuleComesOf entries place None) (sym old.is_old)
+            subst (λ place. ModuleStaysOrLeaves entries place None) (sym old.is_old)
             (record {
               number = number;
               entry = here.entry;
@@ -239,22 +239,23 @@ module _ (entries base : List (Option ModuleEntry)) (more : HaveMore entries bas
               last_link = omega arith;
             })
 
-    keeps-left : KeepsModules entries (modules_without_group less entry.group)
+    keeps-left : FollowsLinkRules entries (modules_without_group less entry.group)
     keeps-left other =
-        subst (ModuleComesOf entries (module_entry_at entries other)) (sym (entry-without entry.group less other)) (leaves other (module_entry_at less other) refl)
+        subst (ModuleStaysOrLeaves entries (module_entry_at entries other)) (sym (entry-without entry.group less other)) (leaves other (module_entry_at less other) refl)
 
-  keeps-after : KeepsModules entries (after_unlink base number entry)
+  keeps-after : FollowsLinkRules entries (after_unlink base number entry)
   keeps-after = by_tests entry.is_boot (is_in_use less entry.group) refl refl
     where
-      by_tests : (boot used : Bool) → entry.is_boot ≡ boot → is_in_use less entry.group ≡ used → KeepsModules entries (if not boot && not used then modules_without_group less entry.group else less)
+      by_tests : (boot used : Bool) → entry.is_boot ≡ boot → is_in_use less entry.group ≡ used
+          → FollowsLinkRules entries (if not boot && not used then modules_without_group less entry.group else less)
       by_tests true used boot_is used_is = keeps-less
       by_tests false true boot_is used_is = keeps-less
       by_tests false false boot_is used_is = keeps-left boot_is used_is
 
 -- a link of an entered module is given up
-pub keeps-unlinked : (entries base : List (Option ModuleEntry)) (number : ℕ) → HaveMore entries base → KeepsModules entries (without_link base (Some number))
+pub keeps-unlinked : (entries base : List (Option ModuleEntry)) (number : ℕ) → HaveMore entries base → FollowsLinkRules entries (without_link base (Some number))
 keeps-unlinked entries base number more = by_entry (module_entry_at base number) refl
   where
-    by_entry : (place : Option ModuleEntry) → module_entry_at base number ≡ place → KeepsModules entries (option_map_or (after_unlink base number) place base)
+    by_entry : (place : Option ModuleEntry) → module_entry_at base number ≡ place → FollowsLinkRules entries (option_map_or (after_unlink base number) place base)
     by_entry None is = keeps-more entries base more
     by_entry (Some entry) is = keeps-after entries base more number entry is

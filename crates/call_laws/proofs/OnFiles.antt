@@ -11,12 +11,12 @@ use Rattle.io_model.specs.Attempts.{result_of}
 use Rattle.io_model.specs.Step.{fails}
 use Rattle.io_model.specs.declared.io_call.IoCall.TheVariants as Device
 use Rattle.file_rules.specs.Attempts.{FileAttempts, asker_of, file_step, files_after, io_effect}
-use Rattle.file_rules.specs.Files.{Asker, DriveState, Files, NoneFailed, OneFailed, volume_at, with_drives, with_volume}
+use Rattle.file_rules.specs.Files.{Asker, DriveState, Files, KeepsDriveFaults, OneFailed, volume_at, with_drives, with_volume}
 use Rattle.file_rules.specs.Step.{Deed, DoesDeed, FileEffect, GoesWell, IsBroken, as_io, changes, deed_of, leaves_so, refuses_so, with_drives_after}
 use Rattle.file_rules.specs.declared.path_call.PathCall.{PathCall}
 use Rattle.file_rules.specs.declared.path_call.PathCall.TheVariants as Call
 use Rattle.file_laws.specs.Causes.{FileCause, finds_no_segment}
-use Rattle.file_laws.specs.Devices.{IsOnDevice, IsOnNoFile}
+use Rattle.file_laws.specs.Devices.{DeviceAttempted, IsOnNoFile}
 use Rattle.file_laws.specs.Touch.{NoVolumeChanges}
 use Rattle.file_laws.proofs.TouchAttempts.{ends-refused, on-device, step-splits}
 use Rattle.file_laws.proofs.Caused.{Caused, StepCaused}
@@ -60,7 +60,7 @@ module _ (s t : State) (p : ℕ) (now : TimePacket) (call : PathCall) (number : 
   asker = asker_of s.processes p now
 
   abbrev On : FileEffect → Type 0
-  On effect = IsOnDevice call s.processes s.files p (result_of s.processes p (io_effect effect)) (files_after p effect) s.terms t.terms × IsOnNoFile call asker s.files (length s.terms)
+  On effect = DeviceAttempted call s.processes s.files p (result_of s.processes p (io_effect effect)) (files_after p effect) s.terms t.terms × IsOnNoFile call asker s.files (length s.terms)
 
   -- no volume has changed, and the number has its cause
   abbrev Why : Files → Type 0
@@ -68,7 +68,7 @@ module _ (s t : State) (p : ℕ) (now : TimePacket) (call : PathCall) (number : 
 
   -- ---- where no drive fails
 
-  module _ (drives : List DriveState) (none : NoneFailed s.files.drives drives) where
+  module _ (drives : List DriveState) (none : KeepsDriveFaults s.files.drives drives) where
     why-so : (it : FileEffect) → it.files.volumes ≡ s.files.volumes → FileCause (made_by s p now call) number → Why (files_after p (with_drives_after it drives))
     why-so it volumes cause = (record { volumes = volumes; none_failed = none }, cause)
 
@@ -139,25 +139,25 @@ module _ (s t : State) (p : ℕ) (now : TimePacket) (call : PathCall) (number : 
     ended = ends-refused it.effect.end s.processes p (io_effect it.effect) number (sym it.result_is)
 
     -- it is on a terminal or a pipe, on no file; or its drive failed; or it has its cause
-    pub file-refused : IsOnDevice call s.processes s.files p (refused number) t.files s.terms t.terms × IsOnNoFile call
+    pub file-refused : DeviceAttempted call s.processes s.files p (refused number) t.files s.terms t.terms × IsOnNoFile call
         asker s.files (length s.terms) ⊎ FailsOnDrive s p now call number t ⊎ NoVolumeChanges s.files t.files ×
         FileCause (made_by s p now call) number
     file-refused = by_end it.does
       where
-        by_case : On it.effect ⊎ Why (files_after p it.effect) → IsOnDevice call s.processes s.files p (refused number)
+        by_case : On it.effect ⊎ Why (files_after p it.effect) → DeviceAttempted call s.processes s.files p (refused number)
             t.files s.terms t.terms × IsOnNoFile call asker s.files (length s.terms) ⊎ FailsOnDrive s p now call
             number t ⊎ Why t.files
         by_case (inl (on, none)) =
             inl (
-              subst (λ (result : CallResult). IsOnDevice call s.processes s.files p result t.files s.terms t.terms)
-                  (sym it.result_is) (subst (λ (new : Files). IsOnDevice call s.processes s.files p
+              subst (λ (result : CallResult). DeviceAttempted call s.processes s.files p result t.files s.terms t.terms)
+                  (sym it.result_is) (subst (λ (new : Files). DeviceAttempted call s.processes s.files p
                   (result_of s.processes p (io_effect it.effect)) new s.terms t.terms) (sym it.state) on),
               none,
             )
         by_case (inr why) = inr (inr (subst Why (sym it.state) why))
 
         by_end : GoesWell (step_of s p now call) asker s.files it.effect s.terms t.terms ⊎
-            (IsBroken (step_of s p now call) asker s.files it.effect × (t.terms ≡ s.terms)) → IsOnDevice call s.processes
+            (IsBroken (step_of s p now call) asker s.files it.effect × (t.terms ≡ s.terms)) → DeviceAttempted call s.processes
             s.files p (refused number) t.files s.terms t.terms × IsOnNoFile call asker s.files (length s.terms) ⊎
             FailsOnDrive s p now call number t ⊎ Why t.files
         by_end (inl well) = by_case (goes-well it.effect well ended)

@@ -28,7 +28,7 @@ use Rattle.call_laws.specs.Others.{turns_of_others, AttemptsCall, GetsWake, Keep
 use Rattle.call_laws.specs.Links.{ChangesLinks}
 use Rattle.call_laws.specs.NewObjects.{IsParameter}
 use Rattle.call_laws.specs.Objects.{KeepsToItself}
-use Rattle.call_laws.specs.Isolation.{LeavesOthers}
+use Rattle.call_laws.specs.Isolation.{LeavesOtherProcesses}
 use Rattle.call_laws.proofs.MemoryKept.{Kept}
 
 -- ---- one record
@@ -87,7 +87,7 @@ comes-of m p end n q (Some old) None map own left = left
 comes-of m p end n q None (Some new) map own left = absurd left
 comes-of m p end n q None None map own left = tt
 
-pub changed-leaves : (m : Processes) (p : ℕ) (end : EventEnd) (n : Processes) → Changed m p end n → LeavesOthers m p end n
+pub changed-leaves : (m : Processes) (p : ℕ) (end : EventEnd) (n : Processes) → Changed m p end n → LeavesOtherProcesses m p end n
 changed-leaves m p end n changed = record {
   objects = changed.memory.objects;
   new_objects = changed.memory.new_objects;

@@ -46,7 +46,7 @@ use Rattle.file_rules.specs.Program.{chains, forks, named_program, parameters_of
 use Rattle.file_laws.specs.LoadCauses.{LinkCause, StartCause, TestCause, blocks_for, many_pages, no_memory, no_parameters, no_place, no_process, no_program, other_type, pages_for}
 use Rattle.file_laws.specs.LoadCauses as Load
 use Rattle.file_laws.proofs.Caused.{not-is}
-use Rattle.call_laws.specs.CallCauses.{Finds, ProcCause, bad_address, bad_name, begins, blocks_asked, blocks_more, in_memory, most_links, no_blocks, no_child, no_file, no_module, no_slots, not_linked, not_reached, not_started, not_tested, pending, starts_program}
+use Rattle.call_laws.specs.CallCauses.{FindsModule, ProcCause, bad_address, bad_name, begins, blocks_asked, blocks_more, in_memory, most_links, no_blocks, no_child, no_file, no_module, no_slots, not_linked, not_reached, not_started, not_tested, pending, starts_program}
 
 -- ---- what a refusal comes from, by the parts of a call
 
@@ -133,7 +133,8 @@ module _ (m : Processes) (p number : ℕ) where
       (λ most number_is. not_linked found refl (finds name read (Some found) there) (Load.most_links mapped number_is at (leb-true MOST_LINKS (links_at (own_at m p) mapped.slot) most)))
       (λ fewer is. absurd (not-done number _ is)) is) is) is) is) is
     where
-      finds : (name : List ℕ) → name_at (cells_at m p) (regs_at m p).x ≡ Ok name → (found : Option Entered) → found_entry m.memory.modules name (regs_at m p).a ≡ found → Finds Call.Link m p found
+      finds : (name : List ℕ) → name_at (cells_at m p) (regs_at m p).x ≡ Ok name → (found : Option Entered)
+          → found_entry m.memory.modules name (regs_at m p).a ≡ found → FindsModule Call.Link m p found
       finds name read found is = record { by_name = inl refl; name = name; read = ap Some read; is = is }
 
   unload-caused : attempted Call.UnLoad m p ≡ refused number → Why Call.UnLoad

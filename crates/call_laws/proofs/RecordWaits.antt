@@ -44,7 +44,7 @@ use Rattle.file_laws.proofs.Keeps.{file-opened, file-slot}
 use Rattle.file_laws.proofs.Lengths.{user-fits}
 use Rattle.call_laws.proofs.CallsKept.{AttemptLeft}
 use Rattle.call_laws.proofs.OthersKept.{living-within}
-use Rattle.call_laws.specs.Pending.{IsPendingCall, StaysAllowed, WaitsInCall}
+use Rattle.call_laws.specs.Pending.{IsPendingCall, IsAllowedIfRead, WaitsInCall}
 use Rattle.call_laws.proofs.Codes.{attempts-code}
 use Rattle.call_laws.proofs.EndsKept.{by-end}
 use Rattle.call_laws.proofs.OthersLeft.{left-leaves}
@@ -98,7 +98,7 @@ module _ (asker : Asker) (io : Io) (p : ℕ) (found : OpenFile) where
 
   -- a call that is a read may read
   allowed-by : (call : PathCall) → ReadsThere call asker found → open_path io p (number_in call asker) ≡ Some
-      found.opened → MatchOption (device_call call) (Unit {0}) (λ device. StaysAllowed device asker.caller.cells
+      found.opened → MatchOption (device_call call) (Unit {0}) (λ device. IsAllowedIfRead device asker.caller.cells
       asker.caller.regs io p)
   allowed-by Call.Dup reads is = λ way. absurd (none-some Reading way)
   allowed-by Call.Create reads is = λ way. absurd (none-some Reading way)
@@ -118,10 +118,10 @@ module _ (asker : Asker) (io : Io) (p : ℕ) (found : OpenFile) where
   allowed-by Call.PErr reads is = λ way. absurd cc
 
   allowed : (call : PathCall) (device : IoCall) → device_call call ≡ Some device → ReadsThere call asker found
-      → open_path io p (number_in call asker) ≡ Some found.opened → StaysAllowed device asker.caller.cells
+      → open_path io p (number_in call asker) ≡ Some found.opened → IsAllowedIfRead device asker.caller.cells
       asker.caller.regs io p
   allowed call device is reads named =
-      subst (λ (o : Option IoCall). MatchOption o (Unit {0}) (λ device. StaysAllowed device asker.caller.cells asker.caller.regs io p)) is (allowed-by call reads named)
+      subst (λ (o : Option IoCall). MatchOption o (Unit {0}) (λ device. IsAllowedIfRead device asker.caller.cells asker.caller.regs io p)) is (allowed-by call reads named)
 
 -- ---- the call that is kept
 
@@ -137,7 +137,7 @@ module _ (s : State) (p code : ℕ) (running : IsRunning s) (lives : IsLiving s.
     pub made : (own_at s.processes p).call ≡ Some pending.code
     pub device : IoCall
     pub again : IsPending device (regs_at s.processes p) s.files.io p pending
-    pub stays : StaysAllowed device (cells_at s.processes p) (regs_at s.processes p) s.files.io p
+    pub stays : IsAllowedIfRead device (cells_at s.processes p) (regs_at s.processes p) s.files.io p
 
   -- at its first attempt
   claimed : ClaimsAs call asker it.requests.claim → IsOfCall (call_of (first_request asker it.requests.found it.requests.claim))

@@ -17,7 +17,7 @@ use Rattle.proc_model.specs.declared.proc_call.ProcCall.TheVariants as Call
 use Rattle.time_rules.specs.CivilTime.{is_time_packet}
 use Rattle.io_model.specs.Attempts.{caller_of}
 use Rattle.file_rules.specs.Attempts.{FileAttempts, asker_of}
-use Rattle.file_rules.specs.Files.{Asker, Files, NoneFailed}
+use Rattle.file_rules.specs.Files.{Asker, Files, KeepsDriveFaults}
 use Rattle.file_rules.specs.Program.{ChainAttempts, ForkAttempts, StartsFile, chains, forks, named_program, tests_program}
 use Rattle.file_rules.specs.ProgramFile.{ProgramFile, program_file}
 use Rattle.file_rules.specs.Step.{Step, drive_of}
@@ -35,9 +35,9 @@ use Rattle.call_laws.specs.Refusals.{LeavesProcesses}
 use Rattle.call_laws.proofs.ProcessesLeft.{leaves-processes}
 use Rattle.call_laws.proofs.Refusing.{Comes, refusal, same-refusal}
 use Rattle.file_laws.specs.Causes.{FileCause}
-use Rattle.file_laws.specs.Devices.{IsOnDevice, IsOnNoFile}
+use Rattle.file_laws.specs.Devices.{DeviceAttempted, IsOnNoFile}
 use Rattle.file_laws.specs.LoadCauses.{ChainCause, ForkCause, LoadCause}
-use Rattle.file_laws.specs.Touch.{FaultAnswers, LeavesDevices, LeavesFiles, NoVolumeChanges, WaitsForRecord}
+use Rattle.file_laws.specs.Touch.{FaultAnswers, TouchesNoDevice, LeavesFiles, NoVolumeChanges, WaitsForRecord}
 use Rattle.file_laws.proofs.TouchAttempts.{attempt-splits}
 use Rattle.file_laws.proofs.Caused.{is_nothing}
 use Rattle.file_laws.proofs.CausedLoads.{chain-caused, fork-caused, load-caused}
@@ -46,7 +46,7 @@ use Rattle.machine_model.specs.Event.{Acts, Event}
 use Rattle.machine_model.specs.Services.{Service, Serves, loads, no_call, on_paths, on_processes, on_time, service_of, with_files}
 use Rattle.machine_model.specs.State.{Rest, State, rest_of}
 use Rattle.call_laws.specs.CallCauses.{TimeCause, no_packet, no_time}
-use Rattle.call_laws.specs.RefusedEvents.{FailsOnDrive, IsRefused, LeavesMachine, LeavesRest, LeftOnDevice, RefusedLoad, RefusedOnDevice, RefusedOnFile, but_the_call, end_of_file, made_by, of_chain, of_fork, of_load, of_no_call, of_processes, of_time, on_device, on_files, write_error}
+use Rattle.call_laws.specs.RefusedEvents.{FailsOnDrive, IsAttemptRefused, LeavesMachine, LeavesRest, LeftOnDevice, RefusedLoad, RefusedOnDevice, RefusedOnFile, but_the_call, end_of_file, made_by, of_chain, of_fork, of_load, of_no_call, of_processes, of_time, on_device, on_files, write_error}
 use Rattle.call_laws.proofs.Devices.{device-caused}
 use Rattle.call_laws.proofs.OnFiles.{file-refused}
 use Rattle.call_laws.proofs.Processes.{proc-caused}
@@ -87,7 +87,7 @@ not-waiting : (m : Processes) (number : ℕ) → refused number ≡ waits m → 
 not-waiting m number is = cc
 
 module _ (s t : State) (code number : ℕ) where
-  pub is-event : IsRefused s code number t → Event s Ran t
+  pub is-event : IsAttemptRefused s code number t → Event s Ran t
   is-event it = (
     it.process,
     it.chosen,
@@ -104,9 +104,9 @@ module _ (s t : State) (code number : ℕ) where
 
       abbrev Why-load : Files → Type 0
       Why-load files =
-          FaultAnswers read_from s.files (refused number) files ⊎ NoneFailed s.files.drives files.drives × Cause
+          FaultAnswers read_from s.files (refused number) files ⊎ KeepsDriveFaults s.files.drives files.drives × Cause
 
-      why-load : (files : Files) → NoneFailed s.files.drives files.drives ⊎ FaultAnswers read_from s.files
+      why-load : (files : Files) → KeepsDriveFaults s.files.drives files.drives ⊎ FaultAnswers read_from s.files
           (refused number) files → FaultAnswers read_from s.files (refused number) files ⊎ Cause → Why-load files
       why-load files drives (inl fault) = inl fault
       why-load files (inr fault) (inr cause) = inl fault
@@ -171,7 +171,7 @@ module _ (s t : State) (code number : ℕ) where
     module _ (call : PathCall) (it : FileAttempts call s.processes s.files now p (refused number) t.files s.terms t.terms) (clock : t.clock ≡ s.clock) where
       abbrev OnDevice : Type 0
       OnDevice =
-          IsOnDevice call s.processes s.files p (refused number) t.files s.terms t.terms × IsOnNoFile call (asker_of s.processes p now) s.files (length s.terms)
+          DeviceAttempted call s.processes s.files p (refused number) t.files s.terms t.terms × IsOnNoFile call (asker_of s.processes p now) s.files (length s.terms)
 
       abbrev Why : Type 0
       Why = FailsOnDrive s p now call number t ⊎ NoVolumeChanges s.files t.files × FileCause (made_by s p now call) number
@@ -199,7 +199,7 @@ module _ (s t : State) (code number : ℕ) where
           by_answer (inr (inl (number_is, left))) = end_of_file number_is left
           by_answer (inr (inr (number_is, left))) = write_error number_is left
 
-      file-left : LeavesDevices call s.processes s.files now p (refused number) t.files s.terms t.terms → Why → RefusedOnFile s p now call number t
+      file-left : TouchesNoDevice call s.processes s.files now p (refused number) t.files s.terms t.terms → Why → RefusedOnFile s p now call number t
       file-left left why = record {
         io = (left.refusal number refl).io;
         records = (left.refusal number refl).records;
@@ -214,11 +214,11 @@ module _ (s t : State) (code number : ℕ) where
       path-left =
           by_touch (attempt-splits call s.processes s.files now p (refused number) t.files s.terms t.terms it)
         where
-          by_cause : LeavesDevices call s.processes s.files now p (refused number) t.files s.terms t.terms → OnDevice ⊎ Why → Comes-so
+          by_cause : TouchesNoDevice call s.processes s.files now p (refused number) t.files s.terms t.terms → OnDevice ⊎ Why → Comes-so
           by_cause left (inl on) = inl (device-left on)
           by_cause left (inr why) = inr (file-left left why)
 
-          by_touch : OnDevice ⊎ LeavesDevices call s.processes s.files now p (refused number) t.files s.terms t.terms ⊎
+          by_touch : OnDevice ⊎ TouchesNoDevice call s.processes s.files now p (refused number) t.files s.terms t.terms ⊎
               WaitsForRecord call s.processes s.files now p (refused number) t.files s.terms t.terms → Comes-so
           by_touch (inl on) = inl (device-left on)
           by_touch (inr (inl left)) = by_cause left (file-refused s t p now call number it)
@@ -247,7 +247,7 @@ module _ (s t : State) (code number : ℕ) where
         by_path (inr on) = on_files call asked on
     serves-left no_call asked (result_is, is) = of_no_call asked (sym (same-refusal number E_UNKSVC result_is)) is
 
-  pub leaves-machine : (it : IsRefused s code number t) → LeavesMachine s it.process code number t
+  pub leaves-machine : (it : IsAttemptRefused s code number t) → LeavesMachine s it.process code number t
   leaves-machine it =
       let (now, is_now, serves) = it.attempt in
       record {

@@ -8,21 +8,21 @@ use Rattle.os9_outer.specs.TerminalState.{TerminalState, ChangesOneTerminal}
 use Rattle.proc_model.specs.CallResult.{CallResult}
 use Rattle.proc_model.specs.Processes.{Processes}
 use Rattle.io_model.specs.Edit.{Typing}
-use Rattle.io_model.specs.Terminal.{BreaksOff, PutsPart, Reads, Terminal, Writes, after_reading, attempt_by, is_taken, key_effect, kept_waiting, read_attempt, typed, typed_attempt}
+use Rattle.io_model.specs.Terminal.{BreaksOffEcho, PutsPart, ReadAttempted, Terminal, WriteAttempted, after_reading, attempt_by, is_taken, key_effect, kept_waiting, read_attempt, typed, typed_attempt}
 use Rattle.io_model.specs.declared.edit.LineEnd.{LineEnd}
 use Rattle.io_model.specs.declared.edit.LineEnd.TheVariants.{Line, EndOfFile}
 use Rattle.io_model.specs.declared.path.Target.TheVariants.{Term}
 use Rattle.io_model.specs.declared.terminal.Progress.{Progress}
 use Rattle.io_model.specs.declared.terminal.Progress.TheVariants.{Done, Wait, End, Fault, NoMemory}
 use Rattle.io_model.specs.declared.terminal.Reading.{Reading}
-use Rattle.io_model.specs.Attempts.{Does, IoAttempts, caller_of, io_after, pending_in, result_by, step_of}
+use Rattle.io_model.specs.Attempts.{IoDoes, IoAttempts, caller_of, io_after, pending_in, result_by, step_of}
 use Rattle.io_model.specs.Io.{Io, terminal_at, with_call}
 use Rattle.io_model.specs.Pipes.{count_regs}
 use Rattle.io_model.specs.Step.{Caller, IoEffect, IoEnd, IoStep, TerminalRead, TerminalWrite, answers, comes, fails, keeps, reads, refused, writes}
 use Rattle.io_model.specs.Terminals.{read_ends, request_of, write_ends}
 use Rattle.io_model.specs.declared.io_call.IoCall.{IoCall}
 use Rattle.call_laws.specs.Causes.{IsOn, StatedCause, bad_address, bad_mode, bad_path_name, bad_path_number, no_module, not_found, not_ready, path_table_full, unknown_service}
-use Rattle.call_laws.specs.Refusals.{ChangesNothing, EchoFails, EndsAtKey, FindsNoByte, FindsNoReader, HasCause, HasFailed, IsGiven, IsRequest, KeepsAll, LeavesAtEnd, LeavesAtFault, Refusal, WriteFails, caller_in, on_terminal, put_by, sent_by}
+use Rattle.call_laws.specs.Refusals.{ChangesNothing, EchoFails, EndsAtKey, FindsNoByte, FindsNoReader, HasCause, HasFailed, IsGivenBytes, IsRequest, KeepsAll, LeavesAtEnd, LeavesAtFault, RefusedAttempt, TerminalWriteFails, caller_in, on_terminal, put_by, sent_by}
 use Rattle.call_laws.proofs.Causing.{Known, PipeEnds, answered, kept-on, same-number, step-known}
 use Rattle.call_laws.proofs.EndKeys.{EndsIn, effect-ends, ends-in}
 
@@ -31,7 +31,7 @@ abbrev pub Comes : IoCall → Caller → Io → ℕ → ℕ → Io → List Term
 Comes call caller io drives number new before after =
     StatedCause call caller io drives (length before) number × ChangesNothing caller.process.0 io new before after
     ⊎ (number ≡ E_EOF) × (FindsNoByte call caller io new before after ⊎ EndsAtKey call caller io new before after)
-    ⊎ (number ≡ E_WRITE) × (EchoFails call caller io new before after ⊎ WriteFails call caller io new before after ⊎ FindsNoReader call caller io new before after)
+    ⊎ (number ≡ E_WRITE) × (EchoFails call caller io new before after ⊎ TerminalWriteFails call caller io new before after ⊎ FindsNoReader call caller io new before after)
 
 -- ---- how the read of a terminal ended
 
@@ -87,7 +87,7 @@ module _ (call : IoCall) (caller : Caller) (io : Io) (drives : ℕ) (before afte
     abbrev request : Reading
     request = request_of caller read
 
-    by-key : ChangesOneTerminal (Reads request End old new) read.terminal before after → EndsAtKey call caller io (on_terminal io read.terminal new caller.process.0) before after
+    by-key : ChangesOneTerminal (ReadAttempted request End old new) read.terminal before after → EndsAtKey call caller io (on_terminal io read.terminal new caller.process.0) before after
     by-key changed = record {
       terminal = read.terminal;
       on = on;
@@ -102,7 +102,7 @@ module _ (call : IoCall) (caller : Caller) (io : Io) (drives : ℕ) (before afte
       now =
           ap (λ (t : Terminal). on_terminal io read.terminal t caller.process.0) (file.left ∙ ap (λ (t : Typing). after_reading request t.line t.left) key.whole);
       out =
-          one-changed (Reads request End old new) (IsGiven (typed request old.line key.front).echo) read.terminal before after changed (record {
+          one-changed (ReadAttempted request End old new) (IsGivenBytes (typed request old.line key.front).echo) read.terminal before after changed (record {
             put =
                 it.outcome.echo ∙ ap (stream_with changed.0.put) (file.echo_is ∙ ap (λ (t : Typing). t.echo) key.whole);
             keys = it.driver.keys;
@@ -110,7 +110,7 @@ module _ (call : IoCall) (caller : Caller) (io : Io) (drives : ℕ) (before afte
           });
     }
       where
-        it : Reads request End old new changed.0 changed.1
+        it : ReadAttempted request End old new changed.0 changed.1
         it = changed.4
 
         file : EndsFile request old new (read_attempt request old).echo
@@ -119,7 +119,7 @@ module _ (call : IoCall) (caller : Caller) (io : Io) (drives : ℕ) (before afte
         key : EndsIn (key_effect request) old.line old.ahead
         key = ends-in (key_effect request) (effect-ends request.kind request.most) old.line old.ahead file.over
 
-    by-echo : ChangesOneTerminal (Reads request Fault old new) read.terminal before after → EchoFails call caller io (on_terminal io read.terminal new caller.process.0) before after
+    by-echo : ChangesOneTerminal (ReadAttempted request Fault old new) read.terminal before after → EchoFails call caller io (on_terminal io read.terminal new caller.process.0) before after
     by-echo changed = record {
       terminal = read.terminal;
       on = on;
@@ -129,11 +129,11 @@ module _ (call : IoCall) (caller : Caller) (io : Io) (drives : ℕ) (before afte
       left = new;
       now = refl;
       out =
-          one-changed (Reads request Fault old new) (λ was now. BreaksOff request old new was now × HasFailed was now) read.terminal before after changed
+          one-changed (ReadAttempted request Fault old new) (λ was now. BreaksOffEcho request old new was now × HasFailed was now) read.terminal before after changed
           (changed.4.outcome, record { faults = changed.4.driver.faults; keys = changed.4.driver.keys });
     }
 
-    by-answer : (answer : Progress) → ChangesOneTerminal (Reads request answer old new) read.terminal before after
+    by-answer : (answer : Progress) → ChangesOneTerminal (ReadAttempted request answer old new) read.terminal before after
         → read_ends caller read answer ≡ Some end → end ≡ fails number
         → Gives (on_terminal io read.terminal new caller.process.0)
     by-answer (Done count) changed ends over =
@@ -151,8 +151,8 @@ module _ (call : IoCall) (caller : Caller) (io : Io) (drives : ℕ) (before afte
   module _ (write : TerminalWrite) (on : IsOn call caller io (Term write.terminal)) (bytes : List ℕ)
       (sends : sent_by call caller io ≡ Some bytes) (puts : write.put ≡ put_by call bytes) (new : Terminal)
       (end : IoEnd) where
-    by-fault : ChangesOneTerminal (Writes caller.process write.put write.count Fault (terminal_at io write.terminal)
-        new) write.terminal before after → WriteFails call caller io (on_terminal io write.terminal new
+    by-fault : ChangesOneTerminal (WriteAttempted caller.process write.put write.count Fault (terminal_at io write.terminal)
+        new) write.terminal before after → TerminalWriteFails call caller io (on_terminal io write.terminal new
         caller.process.0) before after
     by-fault changed = record {
       terminal = write.terminal;
@@ -162,13 +162,13 @@ module _ (call : IoCall) (caller : Caller) (io : Io) (drives : ℕ) (before afte
       now =
           ap (λ (t : Terminal). on_terminal io write.terminal t caller.process.0) changed.4.outcome.terminal;
       out =
-          one-changed (Writes caller.process write.put write.count Fault (terminal_at io write.terminal) new)
+          one-changed (WriteAttempted caller.process write.put write.count Fault (terminal_at io write.terminal) new)
           (λ was now. PutsPart (put_by call bytes) was now × HasFailed was now) write.terminal before after
           changed
           (subst (λ (bytes : List ℕ). PutsPart bytes changed.0 changed.1) puts changed.4.outcome.part, record { faults = changed.4.driver.faults; keys = changed.4.driver.keys });
     }
 
-    by-write : (answer : Progress) → ChangesOneTerminal (Writes caller.process write.put write.count answer
+    by-write : (answer : Progress) → ChangesOneTerminal (WriteAttempted caller.process write.put write.count answer
         (terminal_at io write.terminal) new) write.terminal before after → write_ends write answer ≡ Some end
         → end ≡ fails number → Gives (on_terminal io write.terminal new caller.process.0)
     by-write (Done count) changed ends over =
@@ -187,7 +187,7 @@ module _ (call : IoCall) (caller : Caller) (io : Io) (drives : ℕ) (before afte
       ap (λ (end : IoEnd). with_call effect.io caller.process.0 (pending_in end)) over
 
   by-step : (step : IoStep) (effect : IoEffect) → Known call caller io drives (length before) step
-      → Does step caller io effect before after → effect.end ≡ fails number
+      → IoDoes step caller io effect before after → effect.end ≡ fails number
       → Gives (with_call effect.io caller.process.0 None)
   by-step (refused other) effect known (is, same) over =
       let same_number : other ≡ number = sym (same-number other number (sym (ap (λ (effect : IoEffect). effect.end) is) ∙ over)) in
@@ -255,14 +255,14 @@ other-number number (not_ready is cause) = (apart number E_NOTRDY E_EOF is (λ s
 -- ---- by the number
 
 -- what comes of it
-comes-of : (it : Refusal) → Comes it.call (caller_in it) it.io it.drives it.number it.new it.terms it.left
+comes-of : (it : RefusedAttempt) → Comes it.call (caller_in it) it.io it.drives it.number it.new it.terms it.left
 comes-of it =
     refusal it.call it.processes it.io it.new it.drives it.process it.number it.terms it.left it.attempted
 
 end-no-fault : E_EOF ≡ E_WRITE → ⊥
 end-no-fault same = omega (arith, same)
 
-pub changes-nothing : (it : Refusal) → it.number ≢ E_EOF → it.number ≢ E_WRITE → KeepsAll it
+pub changes-nothing : (it : RefusedAttempt) → it.number ≢ E_EOF → it.number ≢ E_WRITE → KeepsAll it
 changes-nothing it no_end no_fault = by_kind (comes-of it)
   where
     by_kind : Comes it.call (caller_in it) it.io it.drives it.number it.new it.terms it.left → KeepsAll it
@@ -270,7 +270,7 @@ changes-nothing it no_end no_fault = by_kind (comes-of it)
     by_kind (inr (inl (is, left))) = absurd (no_end is)
     by_kind (inr (inr (is, left))) = absurd (no_fault is)
 
-pub has-cause : (it : Refusal) → it.number ≢ E_EOF → it.number ≢ E_WRITE → HasCause it
+pub has-cause : (it : RefusedAttempt) → it.number ≢ E_EOF → it.number ≢ E_WRITE → HasCause it
 has-cause it no_end no_fault = by_kind (comes-of it)
   where
     by_kind : Comes it.call (caller_in it) it.io it.drives it.number it.new it.terms it.left → HasCause it
@@ -278,7 +278,7 @@ has-cause it no_end no_fault = by_kind (comes-of it)
     by_kind (inr (inl (is, left))) = absurd (no_end is)
     by_kind (inr (inr (is, left))) = absurd (no_fault is)
 
-pub ends-so : (it : Refusal) → it.number ≡ E_EOF → LeavesAtEnd it
+pub ends-so : (it : RefusedAttempt) → it.number ≡ E_EOF → LeavesAtEnd it
 ends-so it end = by_kind (comes-of it)
   where
     by_kind : Comes it.call (caller_in it) it.io it.drives it.number it.new it.terms it.left → LeavesAtEnd it
@@ -286,7 +286,7 @@ ends-so it end = by_kind (comes-of it)
     by_kind (inr (inl (is, left))) = left
     by_kind (inr (inr (is, left))) = absurd (end-no-fault (sym end ∙ is))
 
-pub fails-so : (it : Refusal) → it.number ≡ E_WRITE → LeavesAtFault it
+pub fails-so : (it : RefusedAttempt) → it.number ≡ E_WRITE → LeavesAtFault it
 fails-so it fault = by_kind (comes-of it)
   where
     by_kind : Comes it.call (caller_in it) it.io it.drives it.number it.new it.terms it.left → LeavesAtFault it

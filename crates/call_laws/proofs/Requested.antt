@@ -22,7 +22,7 @@ use Rattle.file_rules.specs.Locking.{call_of, files_interrupted, first_request, 
 use Rattle.file_rules.specs.Processes.{files_ended, io_left}
 use Rattle.file_rules.specs.declared.path_call.PathCall.{PathCall}
 use Rattle.file_laws.specs.Attempt.{Attempt, made_in}
-use Rattle.file_laws.specs.Claims.{Made}
+use Rattle.file_laws.specs.Claims.{MadePathCall}
 use Rattle.file_laws.specs.Devices.{IsDevice, NoneRequested}
 use Rattle.file_laws.specs.Recorded.{RecordsCome, settled}
 use Rattle.file_laws.specs.Touch.{WaitsForRecord}
@@ -113,7 +113,7 @@ interrupted-stay files p = record {
 }
 
 -- an attempt leaves the places
-come-places : (m : Made) (now : Records) → RecordsCome m now → length now.locks.requests ≡ length m.files.records.locks.requests
+come-places : (m : MadePathCall) (now : Records) → RecordsCome m now → length now.locks.requests ≡ length m.files.records.locks.requests
 come-places m now (RecordsCome.stay is) =
     ap (λ (records : Records). length records.locks.requests) is ∙ length-set m.files.records.locks.requests m.asker.caller.process.0 None
 come-places m now (RecordsCome.holds request kind bytes it taken is) =

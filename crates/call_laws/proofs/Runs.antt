@@ -5,7 +5,7 @@ use Rattle.machine_model.specs.declared.ends.SliceEnd.{SliceEnd}
 use Rattle.machine_model.specs.declared.ends.SliceEnd.TheVariants.{Idle, Ran}
 use Rattle.machine_model.specs.Console.{console_bytes, terminals_emptied}
 use Rattle.machine_model.specs.Event.{cost}
-use Rattle.machine_model.specs.Run.{Run, Slice, Steps, is_going}
+use Rattle.machine_model.specs.Run.{Run, Slice, SliceEvents, is_going}
 use Rattle.machine_model.specs.State.{State, has_living}
 use Rattle.call_laws.specs.Running.{AllRunning, IsRunning}
 use Rattle.call_laws.proofs.Events.{event-running}
@@ -20,20 +20,20 @@ all-append (x ∷ first) later m t one two =
 last-of : (s t : State) → t ≡ s → IsRunning s → AllRunning [] t
 last-of s t is running = record { through = tt; last = subst IsRunning (sym is) running }
 
-steps-running : (left : ℕ) (s : State) (states : List State) (t : State) → Steps left s states t → IsRunning s → AllRunning states t
+steps-running : (left : ℕ) (s : State) (states : List State) (t : State) → SliceEvents left s states t → IsRunning s → AllRunning states t
 steps-running left s [] t (over, is) running = last-of s t is running
 steps-running left s (m ∷ ms) t (some, end, event, steps) running =
     let next : IsRunning m = event-running s m end event running in
     let rest : AllRunning ms t = by_going (is_going end) (λ steps. steps-running (left - cost s) m ms t steps next) next steps in
     record { through = (next, rest.through); last = rest.last }
   where
-    by_going : (going : Bool) → (Steps (left - cost s) m ms t → AllRunning ms t) → IsRunning m → MatchBool going (Steps (left - cost s) m ms t) ((ms ≡ []) × (t ≡ m)) → AllRunning ms t
+    by_going : (going : Bool) → (SliceEvents (left - cost s) m ms t → AllRunning ms t) → IsRunning m → MatchBool going (SliceEvents (left - cost s) m ms t) ((ms ≡ []) × (t ≡ m)) → AllRunning ms t
     by_going true others next steps = others steps
     by_going false others next (none, is) =
         subst (λ (ms : List State). AllRunning ms t) (sym none) (last-of m t is next)
 
 chosen-running : (n : ℕ) (chosen : State) (states : List State) (end : SliceEnd) (t : State) (who : Option ℕ)
-    → MatchOption who ((end ≡ Idle) × (states ≡ []) × (t ≡ chosen)) (λ p. (end ≡ Ran) × Steps n chosen states t)
+    → MatchOption who ((end ≡ Idle) × (states ≡ []) × (t ≡ chosen)) (λ p. (end ≡ Ran) × SliceEvents n chosen states t)
     → IsRunning chosen → AllRunning states t
 chosen-running n chosen states end t None (idle, none, is) running =
     subst (λ (states : List State). AllRunning states t) (sym none) (last-of chosen t is running)

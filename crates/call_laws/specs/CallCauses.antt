@@ -34,7 +34,7 @@ use Rattle.time_rules.specs.Packet.{packet_of}
 use Rattle.time_rules.specs.declared.clock.TheConstants.{PACKET_BYTES}
 use Rattle.time_rules.specs.declared.time_call.TimeCall.{TimeCall}
 use Rattle.time_rules.specs.declared.time_call.TimeCall.TheVariants as Time
-use Rattle.call_laws.specs.Causes.{HasNoByte, HasNoStatus, IsFull, IsUnreadable, LacksMode, NamesNoPath, search_of}
+use Rattle.call_laws.specs.Causes.{HasNoByte, HasNoIoStatus, IsFull, IoBytesUnreadable, IoCallLacksMode, NamesNoPath, search_of}
 use Rattle.file_laws.specs.LoadCauses.{LinkCause, StartCause, TestCause}
 
 -- ---- a call on a terminal or a pipe
@@ -54,10 +54,10 @@ pub data DeviceCause (call : IoCall) (caller : Caller) (files : Files) (terms nu
   path_table_full : number ≡ E_PTHFUL → IsFull call caller files.io (length files.drives) terms
       → DeviceCause call caller files terms number
   bad_path_number : number ≡ E_BPNUM → NamesNoPath call caller files.io → DeviceCause call caller files terms number
-  bad_mode : number ≡ E_BMODE → LacksMode call caller files.io → DeviceCause call caller files terms number
-  bad_address : number ≡ E_BPADDR → search_of call ≡ None → IsUnreadable call caller files.io
+  bad_mode : number ≡ E_BMODE → IoCallLacksMode call caller files.io → DeviceCause call caller files terms number
+  bad_address : number ≡ E_BPADDR → search_of call ≡ None → IoBytesUnreadable call caller files.io
       → DeviceCause call caller files terms number
-  no_status : number ≡ E_UNKSVC → HasNoStatus call caller.regs.b → DeviceCause call caller files terms number
+  no_status : number ≡ E_UNKSVC → HasNoIoStatus call caller.regs.b → DeviceCause call caller files terms number
   lost_file : number ≡ E_UNKSVC → IsOnLostFile call caller files → DeviceCause call caller files terms number
   not_ready : number ≡ E_NOTRDY → HasNoByte call caller files.io → DeviceCause call caller files terms number
 
@@ -91,7 +91,7 @@ HasBadName Call.CmpNam m p = same_names (cells_at m p) (regs_at m p).x (regs_at 
 HasBadName call m p = name_read call m p ≡ Some (Err NoName)
 
 -- the call finds this module, or none, by the name that it reads and the type and language in A
-pub record Finds (call : ProcCall) (m : Processes) (p : ℕ) (found : Option Entered) : Type 0 where
+pub record FindsModule (call : ProcCall) (m : Processes) (p : ℕ) (found : Option Entered) : Type 0 where
   pub by_name : (call ≡ Call.Link) ⊎ (call ≡ Call.UnLoad)
   pub name : List ℕ
   pub read : name_read call m p ≡ Some (Ok name)
@@ -100,7 +100,7 @@ pub record Finds (call : ProcCall) (m : Processes) (p : ℕ) (found : Option Ent
 -- 221: no module has the name, or none is at the address in U
 abbrev pub FindsNoModule : ProcCall → Processes → ℕ → Type 0
 FindsNoModule Call.UnLink m p = module_at m.memory.modules (map_at m.memory p) (regs_at m p).u ≡ None
-FindsNoModule call m p = Finds call m p None
+FindsNoModule call m p = FindsModule call m p None
 
 -- the number of blocks that F$Mem asks for, and the number beyond those of the data area
 abbrev pub blocks_asked : Processes → ℕ → ℕ
@@ -140,9 +140,9 @@ pub data ProcCause (m : Processes) (p : ℕ) (call : ProcCall) (number : ℕ) : 
   bad_name : number ≡ E_BNAM → HasBadName call m p → ProcCause m p call number
   no_module : number ≡ E_MNF → FindsNoModule call m p → ProcCause m p call number
   -- F$Link
-  most_links : (found : Entered) → number ≡ E_MEMFUL → call ≡ Call.Link → Finds call m p (Some found)
+  most_links : (found : Entered) → number ≡ E_MEMFUL → call ≡ Call.Link → FindsModule call m p (Some found)
       → has_most_links found.entry ≡ true → ProcCause m p call number
-  not_linked : (found : Entered) → call ≡ Call.Link → Finds call m p (Some found)
+  not_linked : (found : Entered) → call ≡ Call.Link → FindsModule call m p (Some found)
       → LinkCause m p (in_memory m found) number → ProcCause m p call number
   -- F$Mem
   no_slots : number ≡ E_MEMFUL → call ≡ Call.Mem → HasNoSlots m p → ProcCause m p call number

@@ -45,7 +45,7 @@ search_of Call.Create = Some a_new_place
 search_of call = None
 
 -- the call reads this path list, for this search
-pub record LooksFor (call : IoCall) (caller : Caller) (search : Search) (list : PathList) : Type 0 where
+pub record SearchesPathList (call : IoCall) (caller : Caller) (search : Search) (list : PathList) : Type 0 where
   pub search_is : search_of call ≡ Some search
   pub list_is : path_list caller.cells caller.regs.x ≡ Ok list
 
@@ -79,7 +79,7 @@ GivesNumber call = (call ≡ Call.Dup) ⊎ IsSome (search_of call)
 pub data IsFull (call : IoCall) (caller : Caller) (io : Io) (drives terms : ℕ) : Type 0 where
   numbers : GivesNumber call → free_number io.paths caller.process.0 ≡ None → IsFull call caller io drives terms
   paths : IsSome (search_of call) → free_path io.paths ≡ None → IsFull call caller io drives terms
-  pipes : (search : Search) (list : PathList) → LooksFor call caller search list
+  pipes : (search : Search) (list : PathList) → SearchesPathList call caller search list
       → device_at drives terms list ≡ Some Device.Pipe → free_pipe io.pipes ≡ None → IsFull call caller io drives terms
 
 -- 201: the number does not name a path of the process
@@ -94,22 +94,22 @@ Allows Writing mode = can_write mode ≡ true
 
 -- 203: the mode of the path to be opened has no bit of those that it needs, or the path of a read or a write was opened
 -- without them
-abbrev pub LacksMode : IoCall → Caller → Io → Type 0
-LacksMode Call.Open caller io = is_mode caller.regs.a ≡ false
-LacksMode Call.Create caller io = can_write caller.regs.a ≡ false
-LacksMode call caller io =
+abbrev pub IoCallLacksMode : IoCall → Caller → Io → Type 0
+IoCallLacksMode Call.Open caller io = is_mode caller.regs.a ≡ false
+IoCallLacksMode Call.Create caller io = can_write caller.regs.a ≡ false
+IoCallLacksMode call caller io =
     (way : Direction) × (opened : OpenPath) × (direction_of_call call ≡ Some way)
     × (open_path io caller.process.0 (path_number call caller.regs) ≡ Some opened)
     × (Allows way opened.desc.mode → ⊥)
 
 -- 208: the status of this code cannot be asked for, and none can be set
-abbrev pub HasNoStatus : IoCall → ℕ → Type 0
-HasNoStatus Call.GetStt code = ((code ≡ SS_OPT) ⊎ (code ≡ SS_READY) ⊎ (code ≡ SS_EOF)) → ⊥
-HasNoStatus Call.SetStt code = ⊤
-HasNoStatus call code = ⊥
+abbrev pub HasNoIoStatus : IoCall → ℕ → Type 0
+HasNoIoStatus Call.GetStt code = ((code ≡ SS_OPT) ⊎ (code ≡ SS_READY) ⊎ (code ≡ SS_EOF)) → ⊥
+HasNoIoStatus Call.SetStt code = ⊤
+HasNoIoStatus call code = ⊥
 
 -- a read or a write of a path that was opened on a file or a directory, as no call opens one
-pub record IsOnDisk (call : IoCall) (caller : Caller) (io : Io) : Type 0 where
+pub record MovesDiskBytes (call : IoCall) (caller : Caller) (io : Io) : Type 0 where
   pub moves : IsSome (direction_of_call call)
   pub drive : ℕ
   pub sector : ℕ
@@ -130,17 +130,17 @@ pub record ListBreaksOff (caller : Caller) : Type 0 where
   pub list : path_list caller.cells caller.regs.x ≡ Err Unreadable
 
 -- 210: a byte that has to be read or written is in no named slot or past FFFF
-abbrev pub IsUnreadable : IoCall → Caller → Io → Type 0
-IsUnreadable Call.Open caller io = ListBreaksOff caller
-IsUnreadable Call.Create caller io = ListBreaksOff caller
-IsUnreadable Call.Read caller io = HasGap caller.cells caller.regs.x caller.regs.y
-IsUnreadable Call.ReadLn caller io = HasGap caller.cells caller.regs.x caller.regs.y
-IsUnreadable Call.Write caller io = HasGap caller.cells caller.regs.x caller.regs.y
-IsUnreadable Call.WritLn caller io =
+abbrev pub IoBytesUnreadable : IoCall → Caller → Io → Type 0
+IoBytesUnreadable Call.Open caller io = ListBreaksOff caller
+IoBytesUnreadable Call.Create caller io = ListBreaksOff caller
+IoBytesUnreadable Call.Read caller io = HasGap caller.cells caller.regs.x caller.regs.y
+IoBytesUnreadable Call.ReadLn caller io = HasGap caller.cells caller.regs.x caller.regs.y
+IoBytesUnreadable Call.Write caller io = HasGap caller.cells caller.regs.x caller.regs.y
+IoBytesUnreadable Call.WritLn caller io =
     HasGap caller.cells caller.regs.x (asked_by caller io) × (line_bytes caller (pending_at io caller.process.0) ≡ None)
-IsUnreadable Call.GetStt caller io =
+IoBytesUnreadable Call.GetStt caller io =
     (caller.regs.b ≡ SS_OPT) × HasGap caller.cells caller.regs.x OPTION_BYTES
-IsUnreadable call caller io = ⊥
+IoBytesUnreadable call caller io = ⊥
 
 -- the list at X continues up to an address at which a name is required and missing: it is X, or after a slash
 pub record NamesNothing (caller : Caller) : Type 0 where
@@ -156,12 +156,12 @@ pub record NamesNothing (caller : Caller) : Type 0 where
 -- root of a drive is to be made
 pub data IsBadName (call : IoCall) (caller : Caller) (drives terms : ℕ) : Type 0 where
   no_name : IsSome (search_of call) → NamesNothing caller → IsBadName call caller drives terms
-  dots : (search : Search) (list : PathList) → LooksFor call caller search list → makes_dots search list ≡ true
+  dots : (search : Search) (list : PathList) → SearchesPathList call caller search list → makes_dots search list ≡ true
       → IsBadName call caller drives terms
-  behind : (search : Search) (list : PathList) (device : Dev) → LooksFor call caller search list
+  behind : (search : Search) (list : PathList) (device : Dev) → SearchesPathList call caller search list
       → device_at drives terms list ≡ Some device → IsNoDrive device → has_slash_behind_device list ≡ true
       → IsBadName call caller drives terms
-  root : (list : PathList) (drive : ℕ) → LooksFor call caller a_new_place list
+  root : (list : PathList) (drive : ℕ) → SearchesPathList call caller a_new_place list
       → device_at drives terms list ≡ Some (Device.Drive drive) → length list.names ≡ 0
       → IsBadName call caller drives terms
 
@@ -169,14 +169,14 @@ pub data IsBadName (call : IoCall) (caller : Caller) (drives terms : ℕ) : Type
 pub record HasNoDirectory (call : IoCall) (caller : Caller) : Type 0 where
   pub search : Search
   pub list : PathList
-  pub looks : LooksFor call caller search list
+  pub looks : SearchesPathList call caller search list
   pub relative : list.device ≡ None
 
 -- 221: the list starts at a device that does not exist, or at a drive while none is mounted
 pub record HasNoDevice (call : IoCall) (caller : Caller) (drives terms : ℕ) : Type 0 where
   pub search : Search
   pub list : PathList
-  pub looks : LooksFor call caller search list
+  pub looks : SearchesPathList call caller search list
   pub starts : IsSome list.device
   pub none : (device_at drives terms list ≡ None)
       ⊎ ((drive : ℕ) × (device_at drives terms list ≡ Some (Device.Drive drive)))
@@ -194,10 +194,10 @@ pub data StatedCause (call : IoCall) (caller : Caller) (io : Io) (drives terms n
   path_table_full : number ≡ E_PTHFUL → IsFull call caller io drives terms
       → StatedCause call caller io drives terms number
   bad_path_number : number ≡ E_BPNUM → NamesNoPath call caller io → StatedCause call caller io drives terms number
-  bad_mode : number ≡ E_BMODE → LacksMode call caller io → StatedCause call caller io drives terms number
-  unknown_service : number ≡ E_UNKSVC → HasNoStatus call caller.regs.b ⊎ IsOnDisk call caller io
+  bad_mode : number ≡ E_BMODE → IoCallLacksMode call caller io → StatedCause call caller io drives terms number
+  unknown_service : number ≡ E_UNKSVC → HasNoIoStatus call caller.regs.b ⊎ MovesDiskBytes call caller io
       → StatedCause call caller io drives terms number
-  bad_address : number ≡ E_BPADDR → IsUnreadable call caller io → StatedCause call caller io drives terms number
+  bad_address : number ≡ E_BPADDR → IoBytesUnreadable call caller io → StatedCause call caller io drives terms number
   bad_path_name : number ≡ E_BPNAM → IsBadName call caller drives terms
       → StatedCause call caller io drives terms number
   not_found : number ≡ E_PNNF → HasNoDirectory call caller → StatedCause call caller io drives terms number

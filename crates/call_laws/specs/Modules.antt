@@ -3,7 +3,7 @@ use Rattle.std.specs.Prelude.{◌+◌, ◌≡◌, ℕ, ◌≤◌, false, Option,
 use Rattle.proc_model.specs.ModuleList.{ModuleEntry, module_entry_at}
 
 -- an entered module leaves: the last link of its group was given up, and the group is not the boot file's
-pub record LeavesMemory (entries : List (Option ModuleEntry)) (old : ModuleEntry) : Type 0 where
+pub record LeavesWithLastLink (entries : List (Option ModuleEntry)) (old : ModuleEntry) : Type 0 where
   pub number : ℕ
   pub entry : ModuleEntry
   pub is : module_entry_at entries number ≡ Some entry  -- the module whose link was given up
@@ -18,13 +18,13 @@ pub record StaysEntered (old new : ModuleEntry) : Type 0 where
   pub falls : old.links ≤ new.links + 1
 
 -- the change of an entered module: it stays or leaves; and none appears
-abbrev pub ModuleComesOf : List (Option ModuleEntry) → Option ModuleEntry → Option ModuleEntry → Type 0
-ModuleComesOf entries (Some old) (Some new) = StaysEntered old new
-ModuleComesOf entries (Some old) None = LeavesMemory entries old
-ModuleComesOf entries None (Some new) = ⊥
-ModuleComesOf entries None None = Unit {0}
+abbrev pub ModuleStaysOrLeaves : List (Option ModuleEntry) → Option ModuleEntry → Option ModuleEntry → Type 0
+ModuleStaysOrLeaves entries (Some old) (Some new) = StaysEntered old new
+ModuleStaysOrLeaves entries (Some old) None = LeavesWithLastLink entries old
+ModuleStaysOrLeaves entries None (Some new) = ⊥
+ModuleStaysOrLeaves entries None None = Unit {0}
 
 -- the module directory changes only by the rules of links
-abbrev pub KeepsModules : List (Option ModuleEntry) → List (Option ModuleEntry) → Type 0
-KeepsModules entries later =
-    (number : ℕ) → ModuleComesOf entries (module_entry_at entries number) (module_entry_at later number)
+abbrev pub FollowsLinkRules : List (Option ModuleEntry) → List (Option ModuleEntry) → Type 0
+FollowsLinkRules entries later =
+    (number : ℕ) → ModuleStaysOrLeaves entries (module_entry_at entries number) (module_entry_at later number)

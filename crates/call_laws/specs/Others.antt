@@ -80,7 +80,7 @@ pub record Goes (m : Processes) (p : ℕ) (end : EventEnd) (old : Record) : Type
 
 -- another process begins: F$Fork makes it, with the least number that has no record and its parent's user and priority;
 -- it runs, and sees only new and shared objects
-pub record Begins (m : Processes) (p : ℕ) (n : Processes) (q : ℕ) (new : Record) : Type 0 where
+pub record ForksProcess (m : Processes) (p : ℕ) (n : Processes) (q : ℕ) (new : Record) : Type 0 where
   pub call : AttemptsCall m p Call.Fork
   pub number : free_process m.records ≡ Some q
   pub child : new.parent.0 ≡ p
@@ -96,7 +96,7 @@ pub record Begins (m : Processes) (p : ℕ) (n : Processes) (q : ℕ) (new : Rec
 abbrev pub ComesOf : Processes → ℕ → EventEnd → Processes → ℕ → Option Record → Option Record → Type 0
 ComesOf m p end n q (Some old) (Some new) = Stays m p end n q old new
 ComesOf m p end n q (Some old) None = Goes m p end old
-ComesOf m p end n q None (Some new) = Begins m p n q new
+ComesOf m p end n q None (Some new) = ForksProcess m p n q new
 ComesOf m p end n q None None = Unit {0}
 
 -- a process has a record

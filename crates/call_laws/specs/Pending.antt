@@ -13,8 +13,8 @@ use Rattle.io_model.specs.declared.io_call.Direction.TheVariants.{Reading}
 use Rattle.io_model.specs.declared.io_call.IoCall.{IoCall}
 
 -- if a call is a read, it is not refused
-abbrev pub StaysAllowed : IoCall → Cells → Regs → Io → ℕ → Type 0
-StaysAllowed call cells regs io p = direction_of_call call ≡ Some Reading → IsReadAllowed cells regs io p
+abbrev pub IsAllowedIfRead : IoCall → Cells → Regs → Io → ℕ → Type 0
+IsAllowedIfRead call cells regs io p = direction_of_call call ≡ Some Reading → IsReadAllowed cells regs io p
 
 -- this is the pending call of a process, which it made with its current registers, and which is not refused if it is
 -- attempted again
@@ -24,7 +24,7 @@ pub record IsPendingCall (processes : Processes) (io : Io) (p : ℕ) (pending : 
   pub made : (own_at processes p).call ≡ Some pending.code
   pub call : IoCall
   pub again : IsPending call (regs_at processes p) io p pending
-  pub stays : StaysAllowed call (cells_at processes p) (regs_at processes p) io p
+  pub stays : IsAllowedIfRead call (cells_at processes p) (regs_at processes p) io p
 
 -- each pending call is that of its process
 abbrev pub ArePending : Processes → Io → Type 0

@@ -13,7 +13,7 @@ use Rattle.proc_model.specs.Processes.{Processes, own_at, regs_at}
 use Rattle.proc_model.specs.UserBytes.{user_bytes}
 use Rattle.io_model.specs.Line.{line_put}
 use Rattle.io_model.specs.Pipe.{IsPipe, pipe_room}
-use Rattle.io_model.specs.Terminal.{BreaksOff, PutsPart, Terminal, after_reading, is_taken, typed, used_by, without_reading}
+use Rattle.io_model.specs.Terminal.{BreaksOffEcho, PutsPart, Terminal, after_reading, is_taken, typed, used_by, without_reading}
 use Rattle.io_model.specs.declared.keys.TheConstants.{END_OF_FILE}
 use Rattle.io_model.specs.declared.path.SysPath.{SysPath}
 use Rattle.io_model.specs.declared.path.Target.TheVariants.{Term, Pipe}
@@ -85,7 +85,7 @@ pub record IsRequest (call : IoCall) (caller : Caller) (io : Io) (request : Read
   pub most : request.most ≡ min (asked_by caller io) TYPE_AHEAD
 
 -- the terminal was given these bytes, and did not fail
-pub record IsGiven (bytes : List ℕ) (old now : TerminalState) : Type 0 where
+pub record IsGivenBytes (bytes : List ℕ) (old now : TerminalState) : Type 0 where
   pub put : now.put ≡ stream_with old.put bytes
   pub keys : now.keys ≡ old.keys
   pub faults : now.faults ≡ old.faults
@@ -110,7 +110,8 @@ pub record EndsAtKey (call : IoCall) (caller : Caller) (io new : Io) (before aft
   pub empty : (typed request (terminal_at io terminal).line front).line.bytes ≡ []
   pub now : new ≡ on_terminal io terminal
       (after_reading request (typed request (terminal_at io terminal).line front).line rest) caller.process.0
-  pub out : ChangesOneTerminal (IsGiven (typed request (terminal_at io terminal).line front).echo) terminal before after
+  pub out : ChangesOneTerminal (IsGivenBytes (typed request (terminal_at io terminal).line front).echo) terminal before
+      after
 
 -- 211 of a pipe: a read that has moved no byte of a line finds it empty, and nobody else could end a wait of the
 -- caller. Nothing changes.
@@ -136,7 +137,8 @@ pub record EchoFails (call : IoCall) (caller : Caller) (io new : Io) (before aft
   pub turn : is_taken request.process (terminal_at io terminal) ≡ false
   pub left : Terminal
   pub now : new ≡ on_terminal io terminal left caller.process.0
-  pub out : ChangesOneTerminal (λ old now. BreaksOff request (terminal_at io terminal) left old now × HasFailed old now)
+  pub out : ChangesOneTerminal (λ old now. BreaksOffEcho request (terminal_at io terminal) left old now
+      × HasFailed old now)
       terminal before after
 
 -- ---- writes
@@ -156,7 +158,8 @@ put_by call bytes = bytes
 
 -- 245 of a write to a terminal: a part of the bytes is out, no read is unfinished there, whoever's it was, and the
 -- caller is the last user
-pub record WriteFails (call : IoCall) (caller : Caller) (io new : Io) (before after : List TerminalState) : Type 0 where
+pub record TerminalWriteFails (call : IoCall) (caller : Caller) (io new : Io) (before after : List TerminalState)
+    : Type 0 where
   pub terminal : ℕ
   pub on : IsOn call caller io (Term terminal)
   pub bytes : List ℕ
@@ -199,11 +202,11 @@ LeftAtEnd call caller io new before after =
 abbrev pub LeftAtFault : IoCall → Caller → Io → Io → List TerminalState → List TerminalState → Type 0
 LeftAtFault call caller io new before after =
     EchoFails call caller io new before after
-    ⊎ WriteFails call caller io new before after
+    ⊎ TerminalWriteFails call caller io new before after
     ⊎ FindsNoReader call caller io new before after
 
 -- an attempt of a call on paths by a process, refused with this number
-pub record Refusal : Type 0 where
+pub record RefusedAttempt : Type 0 where
   pub call : IoCall
   pub process : ℕ
   pub processes : Processes
@@ -216,20 +219,20 @@ pub record Refusal : Type 0 where
   pub attempted : IoAttempts call processes io drives process (refused number) new terms left
 
 -- the calling process
-abbrev pub caller_in : Refusal → Caller
+abbrev pub caller_in : RefusedAttempt → Caller
 caller_in it = caller_of it.processes it.process
 
 -- nothing has changed
-abbrev pub KeepsAll : Refusal → Type 0
+abbrev pub KeepsAll : RefusedAttempt → Type 0
 KeepsAll it = ChangesNothing it.process it.io it.new it.terms it.left
 
 -- what is left after 211, and after 245
-abbrev pub LeavesAtEnd : Refusal → Type 0
+abbrev pub LeavesAtEnd : RefusedAttempt → Type 0
 LeavesAtEnd it = LeftAtEnd it.call (caller_in it) it.io it.new it.terms it.left
 
-abbrev pub LeavesAtFault : Refusal → Type 0
+abbrev pub LeavesAtFault : RefusedAttempt → Type 0
 LeavesAtFault it = LeftAtFault it.call (caller_in it) it.io it.new it.terms it.left
 
 -- the number has its cause
-abbrev pub HasCause : Refusal → Type 0
+abbrev pub HasCause : RefusedAttempt → Type 0
 HasCause it = StatedCause it.call (caller_in it) it.io it.drives (length it.terms) it.number

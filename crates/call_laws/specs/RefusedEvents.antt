@@ -15,7 +15,7 @@ use Rattle.io_model.specs.declared.io_call.IoCall.{IoCall}
 use Rattle.lock_model.specs.Records.{with_waiting}
 use Rattle.rbf_model.specs.Volume.{DiskVolume}
 use Rattle.file_rules.specs.Attempts.{asker_of, file_step}
-use Rattle.file_rules.specs.Files.{NoneFailed, OneFailed, volume_at, with_volume}
+use Rattle.file_rules.specs.Files.{KeepsDriveFaults, OneFailed, volume_at, with_volume}
 use Rattle.file_rules.specs.Program.{named_program, tests_program}
 use Rattle.file_rules.specs.ProgramFile.{ProgramFile, program_file}
 use Rattle.file_rules.specs.Step.{FileStep, MayBeLeft, Step, deed_of, drive_of}
@@ -24,21 +24,21 @@ use Rattle.time_rules.specs.Clock.{IsNow}
 use Rattle.time_rules.specs.declared.time_call.TimeCall.{TimeCall}
 use Rattle.call_laws.specs.Refusals.{ChangesNothing, LeavesProcesses, LeftAtEnd, LeftAtFault}
 use Rattle.file_laws.specs.Causes.{FileCause}
-use Rattle.file_laws.specs.Claims.{Made}
+use Rattle.file_laws.specs.Claims.{MadePathCall}
 use Rattle.file_laws.specs.Devices.{IsOnNoFile, LocksStay, device_call}
 use Rattle.file_laws.specs.LoadCauses.{ChainCause, ForkCause, LoadCause}
 use Rattle.file_laws.specs.Touch.{FaultAnswers, NoVolumeChanges, may_change_volume}
-use Rattle.machine_model.specs.Services.{Attempts, loads, no_call, on_paths, on_processes, on_time, service_of}
+use Rattle.machine_model.specs.Services.{CallAttempted, loads, no_call, on_paths, on_processes, on_time, service_of}
 use Rattle.machine_model.specs.State.{State, rest_of, with_rest}
 use Rattle.call_laws.specs.CallCauses.{DeviceCause, ProcCause, TimeCause, starts_program}
 
 -- the chosen process attempts the call of this code, which is refused with this number, and this is the state then
-pub record IsRefused (s : State) (code number : ℕ) (t : State) : Type 0 where
+pub record IsAttemptRefused (s : State) (code number : ℕ) (t : State) : Type 0 where
   pub process : ℕ
   pub chosen : s.chosen ≡ Some process
   pub lives : IsLiving s.processes.records process
   pub attempted : act_of s.processes process ≡ attempts code
-  pub attempt : Attempts code s process (refused number) (rest_of t)
+  pub attempt : CallAttempted code s process (refused number) (rest_of t)
   pub now : t ≡ with_rest s (after_attempt s.processes process (refused number)) (rest_of t)
 
 -- ---- a call on a terminal or a pipe
@@ -63,13 +63,13 @@ pub record RefusedOnDevice (s : State) (p : ℕ) (now : TimePacket) (call : Path
   pub locks : LocksStay call s.files p (regs_at s.processes p).a t.files.records
   pub directories : t.files.directories ≡ s.files.directories
   pub volumes : t.files.volumes ≡ s.files.volumes
-  pub none_failed : NoneFailed s.files.drives t.files.drives
+  pub none_failed : KeepsDriveFaults s.files.drives t.files.drives
   pub clock : t.clock ≡ s.clock
 
 -- ---- a call on a file or a directory
 
 -- the call that is made
-abbrev pub made_by : State → ℕ → TimePacket → PathCall → Made
+abbrev pub made_by : State → ℕ → TimePacket → PathCall → MadePathCall
 made_by s p now call = record {
   call = call;
   asker = asker_of s.processes p now;
@@ -124,7 +124,7 @@ pub record RefusedLoad (s : State) (p : ℕ) (now : TimePacket) (test : Step Pro
   pub clock : t.clock ≡ s.clock
   pub why : FaultAnswers (drive_of (program_file (asker_of s.processes p now) s.files (length s.terms) test)) s.files
       (refused number) t.files
-      ⊎ NoneFailed s.files.drives t.files.drives × Cause
+      ⊎ KeepsDriveFaults s.files.drives t.files.drives × Cause
 
 -- ---- any other call
 

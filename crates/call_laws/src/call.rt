@@ -1,7 +1,7 @@
 //! One attempt of a call on processes and modules.
 
 ghost use Rattle.std.specs.Prelude.{ℕ};
-ghost use Rattle.call_laws.specs.Isolation.{LeavesOthers};
+ghost use Rattle.call_laws.specs.Isolation.{LeavesOtherProcesses};
 ghost use Rattle.call_laws.specs.Others.{AttemptsCall};
 ghost use Rattle.proc_model.specs.Attempts.{after_attempt, attempted};
 ghost use Rattle.proc_model.specs.declared.proc_call.ProcCall.{ProcCall};
@@ -14,6 +14,6 @@ ghost use Rattle.proc_model.specs.Records.{IsLiving};
 pub fn a_call_leaves_what_it_does_not_name()
     ensures { (m : Processes) (p : ℕ) (call : ProcCall) → IsLiving m.records p
         → AttemptsCall m p call
-        → LeavesOthers m p
+        → LeavesOtherProcesses m p
         (call_event_end (attempted call m p)) (after_attempt m p (attempted call m p)) }
 {}

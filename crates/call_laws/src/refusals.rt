@@ -14,8 +14,8 @@ ghost use Rattle.machine_model.specs.declared.ends.EventEnd.TheVariants.{Ran};
 ghost use Rattle.machine_model.specs.Event.{Event};
 ghost use Rattle.machine_model.specs.State.{State};
 ghost use Rattle.call_laws.specs.CallCauses.{IsOnLostFile};
-ghost use Rattle.call_laws.specs.RefusedEvents.{IsRefused, LeavesMachine};
-ghost use Rattle.call_laws.specs.Refusals.{HasCause, KeepsAll, LeavesAtEnd, LeavesAtFault, LeavesProcesses, Refusal};
+ghost use Rattle.call_laws.specs.RefusedEvents.{IsAttemptRefused, LeavesMachine};
+ghost use Rattle.call_laws.specs.Refusals.{HasCause, KeepsAll, LeavesAtEnd, LeavesAtFault, LeavesProcesses, RefusedAttempt};
 
 /// A refused call leaves memory and the processes unchanged, except B and the condition codes of
 /// the caller, whose call is over. A refused call on paths also leaves input and output and the
@@ -27,16 +27,16 @@ ghost use Rattle.call_laws.specs.Refusals.{HasCause, KeepsAll, LeavesAtEnd, Leav
 pub fn refusals_change_nothing()
     ensures processes { (m : Processes) (p number : ℕ)
         → LeavesProcesses m p number (after_attempt m p (refused number)) }
-    ensures input_and_output { (it : Refusal) → it.number ≢ E_EOF → it.number ≢ E_WRITE
+    ensures input_and_output { (it : RefusedAttempt) → it.number ≢ E_EOF → it.number ≢ E_WRITE
         → KeepsAll it }
-    ensures end_of_file { (it : Refusal) → it.number ≡ E_EOF → LeavesAtEnd it }
-    ensures write_error { (it : Refusal) → it.number ≡ E_WRITE → LeavesAtFault it }
+    ensures end_of_file { (it : RefusedAttempt) → it.number ≡ E_EOF → LeavesAtEnd it }
+    ensures write_error { (it : RefusedAttempt) → it.number ≡ E_WRITE → LeavesAtFault it }
 {}
 
 /// Each number of a refused call on paths has only its own cause: 211 and 245 as in
 /// `refusals_change_nothing`, and any other as its definition says.
 pub fn refusals_have_their_causes()
-    ensures { (it : Refusal) → it.number ≢ E_EOF → it.number ≢ E_WRITE → HasCause it }
+    ensures { (it : RefusedAttempt) → it.number ≢ E_EOF → it.number ≢ E_WRITE → HasCause it }
 {}
 
 /// An attempt of any call that is refused is an event of the machine. It leaves the clock
@@ -49,8 +49,9 @@ pub fn refusals_have_their_causes()
 /// start of a program in a file, leaves everything else unchanged but what the drive that it
 /// reached counts.
 pub fn refused_events_change_nothing()
-    ensures event { (s t : State) (code number : ℕ) → IsRefused s code number t → Event s Ran t }
-    ensures machine { (s t : State) (code number : ℕ) → (it : IsRefused s code number t)
+    ensures event { (s t : State) (code number : ℕ) → IsAttemptRefused s code number t
+        → Event s Ran t }
+    ensures machine { (s t : State) (code number : ℕ) → (it : IsAttemptRefused s code number t)
         → LeavesMachine s it.process code number t }
 {}
 

@@ -14,24 +14,24 @@ use Rattle.rbf_model.proofs.Walked.{entry_file}
 use Rattle.rbf_change.specs.Calls.{shape}
 use Rattle.rbf_change.specs.Contents.{sector_count}
 use Rattle.rbf_change.proofs.LawfulWrites.{shape-image}
-use Rattle.rbf_access.specs.Mounted.{Represents}
-use Rattle.rbf_access.specs.Reading.{IsRead}
+use Rattle.rbf_access.specs.Mounted.{RepresentsVolume}
+use Rattle.rbf_access.specs.Reading.{IsReadInto}
 use Rattle.rbf_access.specs.declared.volume.Volume.{Volume}
 use Rattle.rbf_walk.proofs.Places.{find_none}
-use Rattle.rbf_walk.specs.Search.{IsFoundAt, NonePasses}
+use Rattle.rbf_walk.specs.Search.{IsNameFoundAt, NonePasses}
 use Rattle.file_rules.specs.Processes.{directory_in_root}
 use Rattle.lock_model.specs.declared.place.FilePlace.{FilePlace}
 use Rattle.file_drives.proofs.MountedLemmas.{mounted-below}
 use Rattle.file_drives.specs.Drives.{DriveView, unused_drive}
-use Rattle.file_drives.specs.Mounted.{AgreesOnDrive, AreMounted, HasFileAt, OnDisks, ReadsFile, kept_at, mounted_at}
+use Rattle.file_drives.specs.Mounted.{AgreesOnDrive, AreMounted, HasFileAt, OnDisks, ReadsFile, disk_at, mounted_at}
 use Rattle.cold_start.proofs.ReadLemmas.{drive-more, drive-then}
-use Rattle.cold_start.specs.Start.{IsNamed, IsRootAt, OnVolumeOf, directory_at, search_calls}
+use Rattle.cold_start.specs.Start.{IsNamedDescriptor, IsRootAt, OnVolumeOf, directory_at, search_calls}
 use Rattle.cold_start.specs.declared.fault.StartFault.{StartFault}
 
 -- ---- the bytes of a file
 
 -- all of them were read
-pub read-all : (file : DiskFile) (before now : List ℕ) (count : ℕ) → length before ≡ length file.contents → IsRead file 0 before now count → now ≡ file.contents
+pub read-all : (file : DiskFile) (before now : List ℕ) (count : ℕ) → length before ≡ length file.contents → IsReadInto file 0 before now count → now ≡ file.contents
 read-all file before now count same read =
     let all : take (length before) file.contents ≡ file.contents = take_all (length before) file.contents (omega (arith, same)) in
     read.buffer_is
@@ -53,14 +53,14 @@ none-named contents name i none past =
     ap (option_map descriptor_field) (find_none contents (entry_has_name name) (λ k low. none k (omega (arith, low, past))))
 
 -- the same of these bytes and this name
-pub named-as : (directory bytes word name : List ℕ) (o : Option ℕ) → directory ≡ bytes → word ≡ name → IsNamed directory word o → IsNamed bytes name o
+pub named-as : (directory bytes word name : List ℕ) (o : Option ℕ) → directory ≡ bytes → word ≡ name → IsNamedDescriptor directory word o → IsNamedDescriptor bytes name o
 named-as directory bytes word name o same called named =
-    subst (λ n. IsNamed bytes n o) called (subst (λ b. IsNamed b word o) same named)
+    subst (λ n. IsNamedDescriptor bytes n o) called (subst (λ b. IsNamedDescriptor b word o) same named)
 
 -- ---- the root
 
 -- what is mounted is the volume of an image
-represents : (slot : Option Volume) (view : DriveView) (v : DiskVolume) → AgreesOnDrive slot view (Some v) → Represents view.media v
+represents : (slot : Option Volume) (view : DriveView) (v : DiskVolume) → AgreesOnDrive slot view (Some v) → RepresentsVolume view.media v
 represents None view v agrees = absurd agrees
 represents (Some volume) view v agrees = agrees.on
 
@@ -71,8 +71,8 @@ of-image disks views volumes n v mounted is =
     let many = mounted.as_many in
     let below : n < length views = omega (arith, within, many) in
     let view : DriveView = get_or views n unused_drive in
-    let on : Represents view.media v = represents (kept_at disks n) view v
-    (subst (λ o. AgreesOnDrive (kept_at disks n) view o) is
+    let on : RepresentsVolume view.media v = represents (disk_at disks n) view v
+    (subst (λ o. AgreesOnDrive (disk_at disks n) view o) is
     (mounted.each n view (slice_get-get_or views n unused_drive below))) in
     (on.image, on.vol)
 
@@ -91,7 +91,7 @@ some-is (Some x) some = (x, refl)
 
 -- an entry of it names a file
 pub entry-there : (image : List ℕ) (v : DiskVolume) (root : DiskFile) (name : List ℕ) (place n : ℕ) → Vol image v
-    → v.files (shape v).root ≡ Some root → is_directory root ≡ true → IsFoundAt root.contents name place n
+    → v.files (shape v).root ≡ Some root → is_directory root ≡ true → IsNameFoundAt root.contents name place n
     → (file : DiskFile) × (v.files n ≡ Some file)
 entry-there image v root name place n vol is directory found =
     let used = (and_parts _ _ found.has).0 in
@@ -138,7 +138,7 @@ module _ (disks : List (Option Volume)) (views : List DriveView) (root : FilePla
     root-bytes : (v : DiskVolume) (volumes : List (Option DiskVolume)) → AreMounted disks views volumes → mounted_at volumes root.drive ≡ Some v → (of : RootOf v) → bytes ≡ of.file.contents
     root-bytes v volumes mounted is of = whole volumes v of.file mounted is of.is
 
-    module _ (n : ℕ) (named : IsNamed bytes wanted (Some n)) where
+    module _ (n : ℕ) (named : IsNamedDescriptor bytes wanted (Some n)) where
       abbrev entry : FilePlace
       entry = record { drive = root.drive; number = n }
 
@@ -147,7 +147,7 @@ module _ (disks : List (Option Volume)) (views : List DriveView) (root : FilePla
       entry-of volumes v mounted is =
           let of = root-of volumes v mounted is in
           entry-there of.image v of.file wanted named.0 n of.vol of.there of.directory
-          (subst (λ contents. IsFoundAt contents wanted named.0 n) (root-bytes v volumes mounted is of) named.1)
+          (subst (λ contents. IsNameFoundAt contents wanted named.0 n) (root-bytes v volumes mounted is of) named.1)
 
       pub entry-file : HasFileAt kept mid entry
       entry-file =

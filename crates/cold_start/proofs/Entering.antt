@@ -6,7 +6,7 @@ use Rattle.std.proofs.lemmas.Bool.{cond-false, le-ltb}
 use Rattle.std.proofs.lemmas.List.FromFn.{length-range_with_len}
 use Rattle.std.proofs.lemmas.Option.{none-some, same_Some}
 use Rattle.guest_memory.specs.declared.memory.Memory.{Memory}
-use Rattle.guest_memory.specs.Tie.{Represents, Answers, modules_of}
+use Rattle.guest_memory.specs.Tie.{RepresentsMemory, ReturnsMemoryResult, modules_of}
 use Rattle.guest_memory.proofs.Entered.{free_place}
 use Rattle.proc_model.specs.declared.module.ModuleInfo.{ModuleInfo}
 use Rattle.proc_model.specs.declared.memory.MemoryFault.{MemoryFault}
@@ -19,13 +19,13 @@ use Rattle.proc_model.specs.Objects.{file_blocks}
 use Rattle.proc_model.specs.ModuleList.{ModuleEntry, module_entry_at, free_number, new_entry, with_module_entry}
 use Rattle.proc_model.proofs.ModuleListLaws.{entry_at-with_entry_other}
 use Rattle.machine_model.specs.ProcessStart.{boot_group, boot_memory}
-use Rattle.cold_start.specs.Booting.{BeginsBoot, HasGroup, IsBooting, IsEmpty, with_boot_module}
+use Rattle.cold_start.specs.Booting.{BeginsBoot, HasGroup, IsBooting, IsEmptyMemory, with_boot_module}
 use Rattle.cold_start.proofs.Seen.{entered-here, free-seen, some-here}
 
 -- the modules of a boot file from one place up to another are entered, and what the rest comes to, they all come to
 pub record Progress (file : List ℕ) (number from : ℕ) (m : MemoryState) (to : ℕ) (memory : Memory) : Type 0 where
   pub modules : List (Option ModuleEntry)
-  pub represents : Represents memory (with_modules m modules)
+  pub represents : RepresentsMemory memory (with_modules m modules)
   pub has : HasGroup file number (with_modules m modules)
   pub goes_on : (outcome : Result (List (Option ModuleEntry)) (ℕ × ℕ)) → EntersModules file (boot_group file) true to modules outcome → EntersModules file (boot_group file) true from m.modules outcome
 
@@ -75,25 +75,25 @@ entered-first file info blocks short least =
     cond-false (nat_lt (free_blocks (first_memory blocks)) (file_blocks file)) (Err NoRam) _ (le-ltb (free_blocks (first_memory blocks)) (file_blocks file) (omega arith))
 
 -- two machines that one empty memory is have as many blocks
-same-blocks : (memory : Memory) (blocks other : ℕ) → Represents memory (first_memory blocks) → Represents memory (first_memory other) → blocks ≡ other
+same-blocks : (memory : Memory) (blocks other : ℕ) → RepresentsMemory memory (first_memory blocks) → RepresentsMemory memory (first_memory other) → blocks ≡ other
 same-blocks memory blocks other one two =
     ap (λ (s : MemoryState). s.blocks) one.is ∙ sym (ap (λ (s : MemoryState). s.blocks) two.is)
 
-module _ (old new : Memory) (file : List ℕ) (info : ModuleInfo) (short : length file ≤ 57344) (empty : IsEmpty old)
-    (result : Result ModId MemoryFault) (enters : (m : MemoryState) → Represents old m
-    → Answers (entered m file info true) m result new) where
+module _ (old new : Memory) (file : List ℕ) (info : ModuleInfo) (short : length file ≤ 57344) (empty : IsEmptyMemory old)
+    (result : Result ModId MemoryFault) (enters : (m : MemoryState) → RepresentsMemory old m
+    → ReturnsMemoryResult (entered m file info true) m result new) where
   -- what an empty memory comes to
-  loaded : (blocks : ℕ) → Represents old (first_memory blocks) → IsOk result × Represents new (with_boot_module file (boot_memory file blocks no_entries) info)
+  loaded : (blocks : ℕ) → RepresentsMemory old (first_memory blocks) → IsOk result × RepresentsMemory new (with_boot_module file (boot_memory file blocks no_entries) info)
   loaded blocks tied =
       let least : 8 ≤ blocks = let same = same-blocks old blocks empty.0 tied empty.2 in omega (arith, empty.1) in
-      subst (λ (change : Result MemoryState MemoryFault). Answers change (first_memory blocks) result new) (entered-first file info blocks short least) (enters (first_memory blocks) tied)
+      subst (λ (change : Result MemoryState MemoryFault). ReturnsMemoryResult change (first_memory blocks) result new) (entered-first file info blocks short least) (enters (first_memory blocks) tied)
 
   -- its file is never refused
   pub never-full : (fault : MemoryFault) → result ≡ Err fault → ⊥
   never-full fault is = let done = (loaded empty.0 empty.2).0 in cc
 
   -- it has the boot file, and its first module
-  pub begins-boot : (number blocks : ℕ) → Represents old (first_memory blocks) → free_number (modules_of old) ≡ Some number → BeginsBoot file blocks info number new
+  pub begins-boot : (number blocks : ℕ) → RepresentsMemory old (first_memory blocks) → free_number (modules_of old) ≡ Some number → BeginsBoot file blocks info number new
   begins-boot number blocks tied free =
       let first : 0 ≡ number = same_Some 0 number (free-seen old (first_memory blocks) tied ∙ free) in record {
         accepted = refl;

@@ -7,15 +7,15 @@ use Rattle.std.proofs.lemmas.Bool.{cases_eq, cases_lt, cond-true, cond-false, eq
 use Rattle.std.proofs.lemmas.List.{length-map, take_all}
 use Rattle.std.proofs.lemmas.Option.{none-some, same_Some, slice_get-get_or, slice_get_within, get_or_from_slice_get}
 use Rattle.rbf_model.specs.Volume.{DiskVolume, Vol}
-use Rattle.rbf_access.specs.Mounted.{Represents, media_calls}
-use Rattle.file_rules.specs.Files.{NoneFailed}
+use Rattle.rbf_access.specs.Mounted.{RepresentsVolume, media_calls}
+use Rattle.file_rules.specs.Files.{KeepsDriveFaults}
 use Rattle.file_rules.specs.Processes.{directories_on, directory_in_root}
 use Rattle.file_rules.specs.Route.{root_of}
 use Rattle.file_rules.specs.declared.places.Directories.{Directories}
 use Rattle.lock_model.specs.declared.place.FilePlace.{FilePlace}
 use Rattle.file_drives.specs.Drives.{DriveView, drive_state, drive_states, media_at, unused_drive}
 use Rattle.file_drives.specs.Mounted.{DriveHolds, mounted_at}
-use Rattle.file_state.specs.Tie.{StandsFor}
+use Rattle.file_state.specs.Tie.{RepresentsFiles}
 use Rattle.file_state.specs.declared.state.FileState.{FileState}
 use Rattle.cold_start.proofs.ReadLemmas.{read-more, read-none, read-then}
 use Rattle.cold_start.specs.Start.{HasMounted, HoldVolumes, MountsVolume, ReadUpTo, mounted_files, mounts_calls, only_drive}
@@ -33,7 +33,7 @@ holds-still views after n v many same holds =
     record {
       view = get_or after n unused_drive;
       is = slice_get-get_or after n unused_drive (omega (arith, inside, many));
-      on = subst (λ media. Represents media v) (sym (same ∙ there)) holds.on;
+      on = subst (λ media. RepresentsVolume media v) (sym (same ∙ there)) holds.on;
     }
 
 pub some-volume : (volumes : List DiskVolume) (n : ℕ) → n < length volumes → (v : DiskVolume) × (slice_get volumes n ≡ Some v)
@@ -71,7 +71,7 @@ volumes-next volumes n many more v is same enough =
 pub record MountedTo (n drives : ℕ) (first state : FileState) (before now : List DriveView) : Type 0 where
   pub mounted : (volumes : List DiskVolume) → length volumes ≡ drives → HoldVolumes volumes before → HasMounted [] first before → HasMounted (take n volumes) state now
   pub read : ReadUpTo (mounts_calls n before) before now
-  pub none : NoneFailed (drive_states before) (drive_states now)
+  pub none : KeepsDriveFaults (drive_states before) (drive_states now)
 
 pub mounted-none : (drives : ℕ) (state : FileState) (views : List DriveView) → MountedTo 0 drives state state views views
 mounted-none drives state views = record {
@@ -138,7 +138,7 @@ module _ (n drives : ℕ) (first state new : FileState) (before now after : List
                 omega (arith, few)
           ]
 
-  pub mounted-one : MountsVolume n state now new after → NoneFailed (drive_states now) (drive_states after) → MountedTo (n + 1) drives first new before after
+  pub mounted-one : MountsVolume n state now new after → KeepsDriveFaults (drive_states now) (drive_states after) → MountedTo (n + 1) drives first new before after
   mounted-one mounts none = record {
     mounted = λ volumes many hold has.
         let v = some-volume volumes n (omega (arith, many, inside)) in
@@ -147,7 +147,7 @@ module _ (n drives : ℕ) (first state new : FileState) (before now after : List
         let is = read.as_many in
         let first_many : length (drive_states now) ≡ length now = length-map now drive_state in
         let last_many : length (drive_states after) ≡ length after = length-map after drive_state in
-        subst (λ all. StandsFor new after (record (mounted_files (take (n + 1) volumes) (drive_states after)) { volumes = all }))
+        subst (λ all. RepresentsFiles new after (record (mounted_files (take (n + 1) volumes) (drive_states after)) { volumes = all }))
         (volumes-next volumes n (length (drive_states now)) (length (drive_states after)) v.0 v.1 (omega (arith, is, first_many, last_many)) (omega (arith, many, enough, was, first_many)))
         (mounts (mounted_files (take n volumes) (drive_states now)) v.0 (so_far.mounted volumes many hold has) held);
     read = mounted-read;

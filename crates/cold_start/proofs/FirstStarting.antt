@@ -7,7 +7,7 @@ use Rattle.os9_base.specs.declared.errors.TheConstants.{E_MEMFUL}
 use Rattle.os9_base.specs.declared.registers.Pid.{Pid}
 use Rattle.machine_model.specs.declared.ends.BootFault.TheVariants.{TooLarge}
 use Rattle.guest_memory.specs.declared.memory.Memory.{Memory}
-use Rattle.guest_memory.specs.Tie.{Represents as RepresentsMemory, modules_of}
+use Rattle.guest_memory.specs.Tie.{RepresentsMemory, modules_of}
 use Rattle.proc_model.specs.declared.memory.MemoryFault.{MemoryFault}
 use Rattle.proc_model.specs.declared.memory.MemoryFault.TheVariants.{MemFull}
 use Rattle.proc_model.specs.Memory.{MemoryState}
@@ -20,9 +20,9 @@ use Rattle.fork_calls.specs.declared.starting.Beginning.{Beginning}
 use Rattle.fork_calls.specs.Loading.{loads_program}
 use Rattle.proc_state.specs.declared.state.ProcState.{ProcState}
 use Rattle.proc_state.specs.Beginning.{with_made}
-use Rattle.proc_state.specs.Tie.{Represents}
-use Rattle.machine_model.specs.ProcessStart.{Refuses, StartsProcesses, first_priority, first_process, first_start, first_started, no_parent, only_process, superuser}
-use Rattle.cold_start.specs.Beginning.{Begins, HasFirstIn, nobody_in, with_first}
+use Rattle.proc_state.specs.Tie.{RepresentsProcesses}
+use Rattle.machine_model.specs.ProcessStart.{RefusesBoot, StartsProcesses, first_priority, first_process, first_start, first_started, no_parent, only_process, superuser}
+use Rattle.cold_start.specs.Beginning.{BeginsFirstProcess, HasFirstIn, nobody_in, with_first}
 use Rattle.cold_start.proofs.Seen.{entered-here}
 
 -- a program that is loaded has its memory
@@ -77,44 +77,44 @@ some-blocks memory m tied number entry is =
 -- the first process stands, which begins with its program
 pub first-stands : (t : MemoryState) (program : Program) (start : Beginning) (new : ProcState)
     → start.regs ≡ start_regs program → start.own ≡ start_own program
-    → Represents new (with_first (linked t program.entered.number) start) → Represents new (only_process t program)
+    → RepresentsProcesses new (with_first (linked t program.entered.number) start) → RepresentsProcesses new (only_process t program)
 first-stands t program start new regs own stands =
-    subst (λ (m : Processes). Represents new m)
+    subst (λ (m : Processes). RepresentsProcesses new m)
     (λ i. with_regs_of (with_made (with_own (nobody_in (linked t program.entered.number)) first_process.0 (own i)) first_process no_parent superuser first_priority) first_process.0 (regs i))
     stands
 
 module _ (memory : MemoryState) (number : ℕ) (entry : ModuleEntry) (pages : ℕ) (same : pages ≡ area_pages entry 0 0) (new : ProcState) where
   -- it has begun
   pub begins-so : (t : MemoryState) → started memory first_process.0 number (blocks_of_pages pages) ≡ Ok t
-      → Represents new (only_process t (record (first_start number entry) { pages = pages }))
-      → Begins (started memory first_process.0 number (blocks_of_pages (area_pages entry 0 0))) number entry (Ok tt)
+      → RepresentsProcesses new (only_process t (record (first_start number entry) { pages = pages }))
+      → BeginsFirstProcess (started memory first_process.0 number (blocks_of_pages (area_pages entry 0 0))) number entry (Ok tt)
       new
   begins-so t began stands =
       let there : started memory first_process.0 number (blocks_of_pages (area_pages entry 0 0)) ≡ Ok t = ap
       (λ (n : ℕ). started memory first_process.0 number (blocks_of_pages n)) (sym same) ∙ began in
-      let Stands : ℕ → Type 0 = λ n. Represents new (only_process t (record (first_start number entry) { pages = n })) in
-      subst (λ (change : Result MemoryState MemoryFault). Begins change number entry (Ok tt) new) (sym there) (refl, subst Stands same stands)
+      let Stands : ℕ → Type 0 = λ n. RepresentsProcesses new (only_process t (record (first_start number entry) { pages = n })) in
+      subst (λ (change : Result MemoryState MemoryFault). BeginsFirstProcess change number entry (Ok tt) new) (sym there) (refl, subst Stands same stands)
 
   -- there is no room for it
   pub begins-not : (error : ℕ) → IsErr (started memory first_process.0 number (blocks_of_pages pages))
-      → Begins (started memory first_process.0 number (blocks_of_pages (area_pages entry 0 0))) number entry
+      → BeginsFirstProcess (started memory first_process.0 number (blocks_of_pages (area_pages entry 0 0))) number entry
       (Err error) new
   begins-not error fails =
       by_change (started memory first_process.0 number (blocks_of_pages (area_pages entry 0 0)))
       (subst (λ (n : ℕ). IsErr (started memory first_process.0 number (blocks_of_pages n))) same fails)
     where
-      by_change : (change : Result MemoryState MemoryFault) → IsErr change → Begins change number entry (Err error) new
+      by_change : (change : Result MemoryState MemoryFault) → IsErr change → BeginsFirstProcess change number entry (Err error) new
       by_change (Ok t) fails = absurd cc
       by_change (Err fault) fails = refl
 
 -- what has begun, and what has not
 pub begun-is : (change : Result MemoryState MemoryFault) (number : ℕ) (entry : ModuleEntry) (new : ProcState)
-    → Begins change number entry (Ok tt) new → (t : MemoryState) × (change ≡ Ok t) × Represents new
+    → BeginsFirstProcess change number entry (Ok tt) new → (t : MemoryState) × (change ≡ Ok t) × RepresentsProcesses new
     (only_process t (first_start number entry))
 begun-is (Ok t) number entry new begins = (t, refl, begins.1)
 begun-is (Err fault) number entry new begins = absurd cc
 
-pub unbegun-is : (change : Result MemoryState MemoryFault) (number : ℕ) (entry : ModuleEntry) (error : ℕ) (new : ProcState) → Begins change number entry (Err error) new → IsErr change
+pub unbegun-is : (change : Result MemoryState MemoryFault) (number : ℕ) (entry : ModuleEntry) (error : ℕ) (new : ProcState) → BeginsFirstProcess change number entry (Err error) new → IsErr change
 unbegun-is (Ok t) number entry error new begins = let same = begins.0 in absurd cc
 unbegun-is (Err fault) number entry error new begins = refl
 
@@ -126,7 +126,8 @@ first-made made is = λ i. record { 0 = is i }
 
 module _ (file : List ℕ) (blocks number : ℕ) (old new : ProcState) (found : HasFirstIn file blocks number old) where
   -- a machine starts the boot file
-  pub starts-so : Begins (first_started file blocks found.entries number found.entry) number found.entry (Ok tt) new → (m : Processes) × StartsProcesses file blocks m × Represents new m
+  pub starts-so : BeginsFirstProcess (first_started file blocks found.entries number found.entry) number found.entry
+      (Ok tt) new → (m : Processes) × StartsProcesses file blocks m × RepresentsProcesses new m
   starts-so begins =
       let (t, begun, stands) = begun-is (first_started file blocks found.entries number found.entry) number found.entry new begins in (
         only_process t (first_start number found.entry),
@@ -135,12 +136,12 @@ module _ (file : List ℕ) (blocks number : ℕ) (old new : ProcState) (found : 
       )
 
   -- no slice was begun
-  pub starts-at : Begins (first_started file blocks found.entries number found.entry) number found.entry (Ok tt) new → new.tick ≡ 0
+  pub starts-at : BeginsFirstProcess (first_started file blocks found.entries number found.entry) number found.entry (Ok tt) new → new.tick ≡ 0
   starts-at begins =
       let (t, begun, stands) = begun-is (first_started file blocks found.entries number found.entry) number found.entry new begins in
       sym (ap (λ (m : Processes). m.tick) stands.is)
 
   -- the machine refuses the boot file, since it is too large
-  pub refuses-so : (error : ℕ) → Begins (first_started file blocks found.entries number found.entry) number found.entry (Err error) new → Refuses file blocks TooLarge
+  pub refuses-so : (error : ℕ) → BeginsFirstProcess (first_started file blocks found.entries number found.entry) number found.entry (Err error) new → RefusesBoot file blocks TooLarge
   refuses-so error begins =
       inr (found.entries, number, found.entry, found.has, unbegun-is (first_started file blocks found.entries number found.entry) number found.entry error new begins)

@@ -11,15 +11,15 @@ use Rattle.rbf_access.specs.Mounted.{media_calls}
 use Rattle.rbf_access.specs.declared.faults.VolFault.{VolFault}
 use Rattle.rbf_access.specs.declared.volume.Volume.{Volume}
 use Rattle.rbf_access.proofs.Counting.{counts_most, counts_then}
-use Rattle.file_rules.specs.Files.{NoneFailed}
+use Rattle.file_rules.specs.Files.{KeepsDriveFaults}
 use Rattle.lock_model.specs.declared.place.FilePlace.{FilePlace}
 use Rattle.file_drives.proofs.DriveLemmas.{changes-weaker, none-failed, one-failed}
 use Rattle.file_drives.proofs.MountedLemmas.{read-same}
-use Rattle.file_drives.specs.Drives.{ChangesOneDrive, DriveView, OneDriveMoves, Reads, ReadsDrive, drive_states, media_at, unused_drive}
+use Rattle.file_drives.specs.Drives.{ChangesOneDrive, DriveView, OneDriveMoves, OnlyReadsDrive, ReadsDrive, drive_states, media_at, unused_drive}
 use Rattle.file_drives.specs.Mounted.{ReadsFile, ReadsToMount, mounting_calls}
 use Rattle.file_state.proofs.ReachedLemmas.{moved-then}
 use Rattle.file_state.specs.Counted.{calls_at}
-use Rattle.cold_start.specs.Start.{FailsAmong, FailsOn, ReadUpTo, StartMoves, only_drive, start_fault}
+use Rattle.cold_start.specs.Start.{FailsAmong, IsFaultOfDrive, ReadUpTo, StartMoves, only_drive, start_fault}
 use Rattle.cold_start.specs.declared.fault.StartFault.{StartFault}
 use Rattle.cold_start.specs.declared.fault.StartFault.TheVariants.{OutOfMemory, Drive}
 
@@ -28,7 +28,7 @@ use Rattle.cold_start.specs.declared.fault.StartFault.TheVariants.{OutOfMemory, 
 -- more calls may be allowed
 pub drive-more : (fault : Option ℕ) (few most n : ℕ) (before after : List DriveView) → few ≤ most → ReadsDrive fault few n before after → ReadsDrive fault most n before after
 drive-more fault few most n before after more read =
-    changes-weaker (Reads fault few) (Reads fault most) n before after (λ old new reads. record {
+    changes-weaker (OnlyReadsDrive fault few) (OnlyReadsDrive fault most) n before after (λ old new reads. record {
       media_kept = reads.media_kept;
       counts = counts_most fault few most old.counts new.counts more reads.counts;
     }) read
@@ -50,7 +50,7 @@ drive-then fault first then n before mid after (old, new, is, mid_is, one) (ther
 
 pub moves-of : (fault : Option ℕ) (most n : ℕ) (before after : List DriveView) → ReadsDrive fault most n before after → OneDriveMoves fault most n before after
 moves-of fault most n before after read =
-    changes-weaker (Reads fault most) (λ old new. MovesCounts fault most old.counts new.counts) n before after (λ old new reads. reads.counts) read
+    changes-weaker (OnlyReadsDrive fault most) (λ old new. MovesCounts fault most old.counts new.counts) n before after (λ old new reads. reads.counts) read
 
 -- ---- reads of a file
 
@@ -139,7 +139,7 @@ mount-read result n before after all (old, new, is, after_is, mount) = (
   new,
   is,
   after_is,
-  subst (λ most. Reads (volume_fault result) most old new) (all old.media ∙ ap media_calls
+  subst (λ most. OnlyReadsDrive (volume_fault result) most old new) (all old.media ∙ ap media_calls
       (ap (λ (view : DriveView). view.media) (sym (get_or_from_slice_get before n old unused_drive is)))) mount.reads,
 )
 
@@ -154,21 +154,21 @@ mount-broken fault wanted n before after is all mount =
 -- ---- faults
 
 pub start-moves : {A : Type 0} (result : Result A StartFault) (most n : ℕ) (before after : List DriveView)
-    → FailsOn n result → OneDriveMoves (start_fault result) most n before after → StartMoves result before after
+    → IsFaultOfDrive n result → OneDriveMoves (start_fault result) most n before after → StartMoves result before after
 start-moves (Ok a) most n before after fails moved = none-failed most n before after moved
 start-moves (Err OutOfMemory) most n before after fails moved = none-failed most n before after moved
 start-moves (Err (Drive drive number)) most n before after fails moved =
     subst (λ d. StartMoves {A = Unit {0}} (Err (Drive d number)) before after) (sym fails) (one-failed number most n before after moved)
 
 -- the drive is one of the first, if it is below so many
-pub fails-among : {A : Type 0} (result : Result A StartFault) (n drives : ℕ) → n < drives → FailsOn n result → FailsAmong drives result
+pub fails-among : {A : Type 0} (result : Result A StartFault) (n drives : ℕ) → n < drives → IsFaultOfDrive n result → FailsAmong drives result
 fails-among (Ok a) n drives inside fails = tt
 fails-among (Err OutOfMemory) n drives inside fails = tt
 fails-among (Err (Drive drive number)) n drives inside fails = omega (arith, inside, fails)
 
 -- behind what did not fail
 pub moves-then : {A : Type 0} (result : Result A StartFault) (before mid after : List DriveView)
-    → NoneFailed (drive_states before) (drive_states mid) → StartMoves result mid after → StartMoves result before
+    → KeepsDriveFaults (drive_states before) (drive_states mid) → StartMoves result mid after → StartMoves result before
     after
 moves-then (Ok a) before mid after none moves = moves ∙ none
 moves-then (Err OutOfMemory) before mid after none moves = moves ∙ none

@@ -6,7 +6,7 @@ use Rattle.std.proofs.lemmas.List.Sums.{sum_by-cons}
 use Rattle.std.proofs.lemmas.Option.{none-some, same_Some}
 use Rattle.os9_base.specs.declared.errors.TheConstants.{E_DIRFUL, E_KWNMOD}
 use Rattle.guest_memory.specs.declared.memory.Memory.{Memory}
-use Rattle.guest_memory.specs.Tie.{Represents, modules_of}
+use Rattle.guest_memory.specs.Tie.{RepresentsMemory, modules_of}
 use Rattle.guest_memory.proofs.Seen.{entry-seen}
 use Rattle.module_dir.proofs.Lists.{position-is_none}
 use Rattle.guest_memory.specs.Renaming.{renamed_entry, renamed_modules}
@@ -39,18 +39,18 @@ module _ (number : ℕ → ℕ) where
       same (Some entry) = refl
 
 -- the directory of the machine takes the modules that the kernel's takes
-pub refusal-seen : (memory : Memory) (m : MemoryState) → Represents memory m → (info : ModuleInfo) → entry_refusal m.modules info ≡ entry_refusal (modules_of memory) info
+pub refusal-seen : (memory : Memory) (m : MemoryState) → RepresentsMemory memory m → (info : ModuleInfo) → entry_refusal m.modules info ≡ entry_refusal (modules_of memory) info
 refusal-seen memory m tied info =
     ap (λ (s : MemoryState). entry_refusal s.modules info) tied.is
     ∙ (λ i. if known-renamed tied.number memory.dir info i then Some E_KWNMOD else (if room-renamed tied.number memory.dir i == 0 then Some E_DIRFUL else None))
 
 -- the next number of both is the same
-pub free-seen : (memory : Memory) (m : MemoryState) → Represents memory m → free_number m.modules ≡ free_number (modules_of memory)
+pub free-seen : (memory : Memory) (m : MemoryState) → RepresentsMemory memory m → free_number m.modules ≡ free_number (modules_of memory)
 free-seen memory m tied =
     ap (λ (s : MemoryState). free_number s.modules) tied.is ∙ position-is_none (renamed_entry tied.number) memory.dir
 
 -- an entry of the machine's directory is one of the kernel's, with as many blocks in its group
-pub entered-here : (memory : Memory) (m : MemoryState) → Represents memory m → (number : ℕ) (entry : ModuleEntry)
+pub entered-here : (memory : Memory) (m : MemoryState) → RepresentsMemory memory m → (number : ℕ) (entry : ModuleEntry)
     → module_entry_at m.modules number ≡ Some entry → IsSomeAnd (module_entry_at (modules_of memory) number)
     (λ here. length here.group ≡ length entry.group)
 entered-here memory m tied number entry is = by_place (module_entry_at (modules_of memory) number) (sym (entry-seen memory m tied number) ∙ is)
@@ -61,12 +61,12 @@ entered-here memory m tied number entry is = by_place (module_entry_at (modules_
         sym (length-map here.group tied.number) ∙ ap (λ (e : ModuleEntry). length e.group) (same_Some (renamed_entry tied.number here) entry same)
 
 -- it is entered
-pub some-here : (memory : Memory) (m : MemoryState) → Represents memory m → (number : ℕ) (entry : ModuleEntry)
+pub some-here : (memory : Memory) (m : MemoryState) → RepresentsMemory memory m → (number : ℕ) (entry : ModuleEntry)
     → module_entry_at m.modules number ≡ Some entry → IsSome (module_entry_at (modules_of memory) number)
 some-here memory m tied number entry is = sym (entered-tied memory m tied number) ∙ ap is_some is
 
 -- an entry of the kernel's directory is one of the machine's
-pub entry-there : (memory : Memory) (m : MemoryState) → Represents memory m → (number : ℕ)
+pub entry-there : (memory : Memory) (m : MemoryState) → RepresentsMemory memory m → (number : ℕ)
     → IsSome (module_entry_at (modules_of memory) number) → (entry : ModuleEntry) × (module_entry_at m.modules number
     ≡ Some entry)
 entry-there memory m tied number some = by_place (module_entry_at m.modules number) (entered-tied memory m tied number ∙ some)

@@ -6,19 +6,19 @@ use Rattle.std.proofs.lemmas.Option.{none-some, same_Some, slice_get_within}
 use Rattle.rbf_model.specs.File.{DiskFile}
 use Rattle.rbf_model.specs.Volume.{DiskVolume}
 use Rattle.rbf_access.specs.declared.volume.Volume.{Volume}
-use Rattle.file_rules.specs.Files.{Files, NoneFailed, no_directories}
+use Rattle.file_rules.specs.Files.{Files, KeepsDriveFaults, no_directories}
 use Rattle.file_rules.specs.Processes.{first_directories, first_files}
 use Rattle.file_rules.specs.Route.{root_of}
 use Rattle.file_rules.specs.declared.places.Directories.{Directories}
 use Rattle.lock_model.specs.declared.place.FilePlace.{FilePlace}
 use Rattle.file_drives.specs.Drives.{DriveView, drive_state, drive_states}
 use Rattle.file_drives.specs.Mounted.{AreMounted, ReadsFile, mounted_at}
-use Rattle.file_state.specs.Tie.{StandsFor}
+use Rattle.file_state.specs.Tie.{RepresentsFiles}
 use Rattle.file_state.specs.declared.state.FileState.{FileState}
 use Rattle.cold_start.proofs.CommandLemmas.{root-of}
 use Rattle.cold_start.proofs.FirstLemmas.{first-volume, image-vol, images-zip}
 use Rattle.cold_start.proofs.ReadLemmas.{fails-among, moves-of, moves-then, read-one, read-then, start-moves}
-use Rattle.cold_start.specs.Start.{AreFirst, FailsAmong, FailsOn, HasMounted, HasStarted, HaveImages, HaveVolumes, HoldVolumes, IsRootAt, OnFirst, ReadUpTo, StartMoves, StartedOn, StartsDrives, given, mounted_files, mounts_calls, only_drive, root_calls, search_calls, start_calls, start_fault}
+use Rattle.cold_start.specs.Start.{AreFirst, FailsAmong, IsFaultOfDrive, HasMounted, RepresentsFirstFiles, HaveImages, HaveVolumes, HoldVolumes, IsRootAt, OnFirst, ReadUpTo, StartMoves, StartedOn, StartsDrives, given, mounted_files, mounts_calls, only_drive, root_calls, search_calls, start_calls, start_fault}
 use Rattle.cold_start.specs.declared.fault.StartFault.{StartFault}
 use Rattle.cold_start.specs.declared.fault.StartFault.TheVariants.{OutOfMemory, Drive}
 
@@ -36,7 +36,7 @@ module _ (disks : List (Option Volume)) (views : List DriveView) (root : FilePla
       (subst (λ d. ReadUpTo (only_drive d (search_calls of.file)) views after) first
       (read-one fault (search_calls of.file) root.drive views after (read.drive volumes v of.file mounted here of.is)))
 
-  pub root-moves : {A : Type 0} (result : Result A StartFault) → FailsOn root.drive result
+  pub root-moves : {A : Type 0} (result : Result A StartFault) → IsFaultOfDrive root.drive result
       → ReadsFile root (start_fault result) (λ v file. search_calls file) disks views new after → StartMoves result
       views after
   root-moves result fails read =
@@ -49,7 +49,7 @@ pub moves-as : (A B : Type 0) (fault : StartFault) (before after : List DriveVie
 moves-as A B OutOfMemory before after moves = moves
 moves-as A B (Drive drive number) before after moves = moves
 
-pub fails-as : (A B : Type 0) (fault : StartFault) (n : ℕ) → FailsOn {A = A} n (Err fault) → FailsOn {A = B} n (Err fault)
+pub fails-as : (A B : Type 0) (fault : StartFault) (n : ℕ) → IsFaultOfDrive {A = A} n (Err fault) → IsFaultOfDrive {A = B} n (Err fault)
 fails-as A B OutOfMemory n fails = fails
 fails-as A B (Drive drive number) n fails = fails
 
@@ -114,10 +114,10 @@ first-is volumes views v is = sym (first-volume volumes (length (drive_states vi
 
 pub without-drives : (volumes : List DiskVolume) (state : FileState) (views : List DriveView)
     → mounted_at (mounted_files volumes (drive_states views)).volumes 0 ≡ None → HasMounted volumes state views
-    → HasStarted volumes state views
+    → RepresentsFirstFiles volumes state views
 without-drives volumes state views none has =
     let is : slice_get volumes 0 ≡ None = sym (first-volume volumes (length (drive_states views) - length volumes)) ∙ none in
-    subst (λ (directories : Directories). StandsFor state views (record (first_files volumes (drive_states views))
+    subst (λ (directories : Directories). RepresentsFiles state views (record (first_files volumes (drive_states views))
     { directories = slice_set (replicate 33 no_directories) 2 directories })) (ap first_directories (sym is)) has
 
 -- the first process has its directories on D0
@@ -135,14 +135,16 @@ module _ (state new : FileState) (views after : List DriveView) (volumes : List 
       subst (λ (v : Option DiskVolume). ReadUpTo (only_drive 0 (root_calls v)) views after) (sym (first-is volumes views on-first.0 on-first.1)) (read files_before on-first.0 has on-first.1)
 
   -- D0 is one of the drives then
-  pub among-first : {A : Type 0} (result : Result A StartFault) → FailsOn 0 result → FailsAmong (length volumes) result
+  pub among-first : {A : Type 0} (result : Result A StartFault) → IsFaultOfDrive 0 result → FailsAmong (length volumes) result
   among-first result fails =
       fails-among result 0 (length volumes) (slice_get_within volumes 0 on-first.0 (first-is volumes views on-first.0 on-first.1)) fails
 
-  pub stands-first : {A E : Type 0} (result : Result A E) → OnFirst state views (λ files v. OnOk result (StandsFor new after (given files v after))) → OnOk result (HasStarted volumes new after)
+  pub stands-first : {A E : Type 0} (result : Result A E) → OnFirst state views
+      (λ files v. OnOk result (RepresentsFiles new after (given files v after)))
+      → OnOk result (RepresentsFirstFiles volumes new after)
   stands-first result stands =
-      ok-map result (StandsFor new after (given files_before on-first.0 after)) (HasStarted volumes new after)
-      (subst (λ (files : Files). StandsFor new after files) (given-first volumes on-first.0 views after
+      ok-map result (RepresentsFiles new after (given files_before on-first.0 after)) (RepresentsFirstFiles volumes new after)
+      (subst (λ (files : Files). RepresentsFiles new after files) (given-first volumes on-first.0 views after
       (first-is volumes views on-first.0 on-first.1) (read files_before on-first.0 has on-first.1).as_many))
       (stands files_before on-first.0 has on-first.1)
 
@@ -152,7 +154,7 @@ module _ (state new : FileState) (views after : List DriveView) (volumes : List 
 pub starts-drives : {A : Type 0} (result : Result A StartFault) (state : FileState) (drives : ℕ)
     (before mid after : List DriveView) → HaveVolumes drives before → ((volumes : List DiskVolume)
     → length volumes ≡ drives → HoldVolumes volumes before → HasMounted volumes state mid)
-    → ReadUpTo (mounts_calls drives before) before mid → NoneFailed (drive_states before) (drive_states mid)
+    → ReadUpTo (mounts_calls drives before) before mid → KeepsDriveFaults (drive_states before) (drive_states mid)
     → ((volumes : List DiskVolume) → HasMounted volumes state mid
     → ReadUpTo (only_drive 0 (root_calls (slice_get volumes 0))) mid after) → StartMoves result mid after
     → ((volumes : List DiskVolume) → HasMounted volumes state mid → FailsAmong (length volumes) result)
@@ -171,7 +173,7 @@ starts-drives result state drives before mid after have has mounted none found m
         (subst (λ k. ReadUpTo (mounts_calls k before) before mid) (sym many) mounted) (found volumes (has volumes many hold))
 
 pub started-on : (images : List (List ℕ)) (state : FileState) (before after : List DriveView) (drives : ℕ)
-    (have : HaveVolumes drives before) → HaveImages drives images before → HasStarted have.volumes state after
+    (have : HaveVolumes drives before) → HaveImages drives images before → RepresentsFirstFiles have.volumes state after
     → StartedOn images state after
 started-on images state before after drives have at has = record {
   was = first_files have.volumes (drive_states after);

@@ -4,11 +4,11 @@ use Rattle.proc_model.specs.declared.memory.MemoryFault.{MemoryFault}
 use Rattle.proc_model.specs.Memory.{MemoryState}
 use Rattle.proc_model.specs.ModuleList.{ModuleEntry}
 use Rattle.proc_model.specs.Processes.{Processes, with_memory, with_own, with_regs_of}
-use Rattle.machine_model.specs.ProcessStart.{HasFirst, boot_memory, first_priority, first_process, first_start, no_parent, only_process, superuser}
+use Rattle.machine_model.specs.ProcessStart.{HasFirstProgram, boot_memory, first_priority, first_process, first_start, no_parent, only_process, superuser}
 use Rattle.proc_state.specs.declared.state.ProcState.{ProcState}
 use Rattle.proc_state.specs.Beginning.{with_made}
 use Rattle.proc_state.specs.First.{first_processes}
-use Rattle.proc_state.specs.Tie.{Represents}
+use Rattle.proc_state.specs.Tie.{RepresentsProcesses}
 use Rattle.fork_calls.specs.declared.starting.Beginning.{Beginning}
 
 -- a machine with this memory in which no process has begun
@@ -16,7 +16,7 @@ abbrev pub nobody_in : MemoryState → Processes
 nobody_in memory = with_memory (first_processes 0) memory
 
 abbrev pub HasNobody : ProcState → Type 0
-HasNobody processes = (memory : MemoryState) × Represents processes (nobody_in memory)
+HasNobody processes = (memory : MemoryState) × RepresentsProcesses processes (nobody_in memory)
 
 -- the machine with the first process, which has this beginning
 abbrev pub with_first : MemoryState → Beginning → Processes
@@ -26,14 +26,15 @@ with_first memory start =
 
 -- the result of beginning the first process: it has begun in this memory, with the program of a module; or there is no
 -- room for it
-abbrev pub Begins : Result MemoryState MemoryFault → ℕ → ModuleEntry → Result (Unit {0}) ℕ → ProcState → Type 0
-Begins (Ok memory) number entry result new =
-    (result ≡ Ok tt) × Represents new (only_process memory (first_start number entry))
-Begins (Err fault) number entry result new = IsErr result
+abbrev pub BeginsFirstProcess : Result MemoryState MemoryFault → ℕ → ModuleEntry → Result (Unit {0}) ℕ → ProcState
+    → Type 0
+BeginsFirstProcess (Ok memory) number entry result new =
+    (result ≡ Ok tt) × RepresentsProcesses new (only_process memory (first_start number entry))
+BeginsFirstProcess (Err fault) number entry result new = IsErr result
 
 -- a machine with this number of blocks has the boot file, whose first program has this number; no process has begun
 pub record HasFirstIn (file : List ℕ) (blocks number : ℕ) (processes : ProcState) : Type 0 where
   pub entries : List (Option ModuleEntry)
   pub entry : ModuleEntry
-  pub has : HasFirst file entries number entry
-  pub represents : Represents processes (nobody_in (boot_memory file blocks entries))
+  pub has : HasFirstProgram file entries number entry
+  pub represents : RepresentsProcesses processes (nobody_in (boot_memory file blocks entries))

@@ -9,15 +9,15 @@ use Rattle.rbf_change.specs.Calls.{shape}
 use Rattle.rbf_change.specs.Contents.{sector_count}
 use Rattle.rbf_access.specs.Mounted.{media_calls}
 use Rattle.rbf_access.specs.declared.volume.Volume.{Volume}
-use Rattle.rbf_walk.specs.Search.{IsFoundAt}
-use Rattle.file_rules.specs.Files.{Files, DriveState, NoneFailed, OneFailed, no_directories, volume_at, with_directories_of, with_drives, with_volume}
-use Rattle.file_rules.specs.Processes.{StartsOn, directories_on, first_files}
+use Rattle.rbf_walk.specs.Search.{IsNameFoundAt}
+use Rattle.file_rules.specs.Files.{Files, DriveState, KeepsDriveFaults, OneFailed, no_directories, volume_at, with_directories_of, with_drives, with_volume}
+use Rattle.file_rules.specs.Processes.{StartsWithImages, directories_on, first_files}
 use Rattle.file_rules.specs.Route.{root_of}
 use Rattle.lock_model.specs.declared.place.FilePlace.{FilePlace}
 use Rattle.file_drives.specs.Drives.{DriveView, drive_states, media_at}
 use Rattle.file_drives.specs.Mounted.{AreMounted, DriveHolds, mounted_at}
 use Rattle.file_state.specs.Counted.{calls_at}
-use Rattle.file_state.specs.Tie.{StandsFor}
+use Rattle.file_state.specs.Tie.{RepresentsFiles}
 use Rattle.file_state.specs.declared.state.FileState.{FileState}
 use Rattle.cold_start.specs.declared.fault.StartFault.{StartFault}
 use Rattle.cold_start.specs.declared.fault.StartFault.TheVariants.{OutOfMemory, Drive}
@@ -47,17 +47,17 @@ mounted_files volumes drives = record (first_files volumes drives) { directories
 
 -- the state represents those files
 abbrev pub HasMounted : List DiskVolume → FileState → List DriveView → Type 0
-HasMounted volumes state views = StandsFor state views (mounted_files volumes (drive_states views))
+HasMounted volumes state views = RepresentsFiles state views (mounted_files volumes (drive_states views))
 
 -- the same with the directories of the first process
-abbrev pub HasStarted : List DiskVolume → FileState → List DriveView → Type 0
-HasStarted volumes state views = StandsFor state views (first_files volumes (drive_states views))
+abbrev pub RepresentsFirstFiles : List DiskVolume → FileState → List DriveView → Type 0
+RepresentsFirstFiles volumes state views = RepresentsFiles state views (first_files volumes (drive_states views))
 
 -- the state represents that of a machine at its start with these images
 pub record StartedOn (images : List (List ℕ)) (state : FileState) (views : List DriveView) : Type 0 where
   pub was : Files
-  pub starts : StartsOn images (drive_states views) was
-  pub stands : StandsFor state views was
+  pub starts : StartsWithImages images (drive_states views) was
+  pub stands : RepresentsFiles state views was
 
 -- volumes are mounted in the first drives, and no process has a directory yet
 pub record AreFirst (state : FileState) (views : List DriveView) : Type 0 where
@@ -67,8 +67,8 @@ pub record AreFirst (state : FileState) (views : List DriveView) : Type 0 where
 -- the volume in the drive of this number is mounted there
 abbrev pub MountsVolume : ℕ → FileState → List DriveView → FileState → List DriveView → Type 0
 MountsVolume n old before new after =
-    (files : Files) (v : DiskVolume) → StandsFor old before files → DriveHolds before n v
-    → StandsFor new after (with_drives (with_volume files n v) (drive_states after))
+    (files : Files) (v : DiskVolume) → RepresentsFiles old before files → DriveHolds before n v
+    → RepresentsFiles new after (with_drives (with_volume files n v) (drive_states after))
 
 -- the place is the root directory of the volume that is mounted on its drive
 pub record IsRootAt (disks : List (Option Volume)) (views : List DriveView) (root : FilePlace) : Type 0 where
@@ -88,7 +88,7 @@ OnVolumeOf disks views place fact =
 -- a fact of the files and of the volume of D0
 abbrev pub OnFirst : FileState → List DriveView → (Files → DiskVolume → Type 0) → Type 0
 OnFirst state views fact =
-    (files : Files) (v : DiskVolume) → StandsFor state views files → volume_at files 0 ≡ Some v → fact files v
+    (files : Files) (v : DiskVolume) → RepresentsFiles state views files → volume_at files 0 ≡ Some v → fact files v
 
 -- the files with the first process's directories on this volume of D0, and with these drives after reads
 abbrev pub given : Files → DiskVolume → List DriveView → Files
@@ -99,9 +99,9 @@ abbrev pub directory_at : FilePlace → DiskFile → Option FilePlace
 directory_at place file = if is_directory file then Some place else None
 
 -- the descriptor of the entry with a name, if these bytes of a directory have one
-abbrev pub IsNamed : List ℕ → List ℕ → Option ℕ → Type 0
-IsNamed contents name None = look_up contents name ≡ None
-IsNamed contents name (Some n) = (place : ℕ) × IsFoundAt contents name place n
+abbrev pub IsNamedDescriptor : List ℕ → List ℕ → Option ℕ → Type 0
+IsNamedDescriptor contents name None = look_up contents name ≡ None
+IsNamedDescriptor contents name (Some n) = (place : ℕ) × IsNameFoundAt contents name place n
 
 -- ---- faults
 
@@ -112,10 +112,10 @@ start_fault (Err OutOfMemory) = None
 start_fault (Err (Drive drive number)) = Some number
 
 -- a drive fault that ended the step was one of this drive
-abbrev pub FailsOn : {A : Type 0} → ℕ → Result A StartFault → Type 0
-FailsOn n (Ok a) = Unit {0}
-FailsOn n (Err OutOfMemory) = Unit {0}
-FailsOn n (Err (Drive drive number)) = drive ≡ n
+abbrev pub IsFaultOfDrive : {A : Type 0} → ℕ → Result A StartFault → Type 0
+IsFaultOfDrive n (Ok a) = Unit {0}
+IsFaultOfDrive n (Err OutOfMemory) = Unit {0}
+IsFaultOfDrive n (Err (Drive drive number)) = drive ≡ n
 
 -- the same for one of the first `drives` drives
 abbrev pub FailsAmong : {A : Type 0} → ℕ → Result A StartFault → Type 0
@@ -125,8 +125,8 @@ FailsAmong drives (Err (Drive drive number)) = drive < drives
 
 -- the drives after the step: none failed, or only the named one, and its last fault has this number
 abbrev pub StartMoves : {A : Type 0} → Result A StartFault → List DriveView → List DriveView → Type 0
-StartMoves (Ok a) before now = NoneFailed (drive_states before) (drive_states now)
-StartMoves (Err OutOfMemory) before now = NoneFailed (drive_states before) (drive_states now)
+StartMoves (Ok a) before now = KeepsDriveFaults (drive_states before) (drive_states now)
+StartMoves (Err OutOfMemory) before now = KeepsDriveFaults (drive_states before) (drive_states now)
 StartMoves (Err (Drive drive number)) before now = OneFailed drive number (drive_states before) (drive_states now)
 
 -- ---- calls of the drives
@@ -175,7 +175,7 @@ pub record MountsOne (n : ℕ) (result : Result (Unit {0}) StartFault) (old new 
   pub mounted : OnOk result (MountsVolume n old before new after)
   pub read : ReadUpTo (only_drive n (media_calls (media_at before n))) before after
   pub moves : StartMoves result before after
-  pub fails : FailsOn n result
+  pub fails : IsFaultOfDrive n result
 
 -- the volumes of the first `drives` drives are mounted, unless the step failed
 pub record MountsFirst (drives : ℕ) (result : Result (Unit {0}) StartFault) (old new : FileState)
@@ -190,7 +190,7 @@ pub record MountsFirst (drives : ℕ) (result : Result (Unit {0}) StartFault) (o
 pub record GivesDirectories (result : Result (Unit {0}) StartFault) (old new : FileState)
     (before after : List DriveView) : Type 0 where
   pub stands : (volumes : List DiskVolume) → HasMounted volumes old before
-      → OnOk result (HasStarted volumes new after)
+      → OnOk result (RepresentsFirstFiles volumes new after)
   pub read : (volumes : List DiskVolume) → HasMounted volumes old before
       → ReadUpTo (only_drive 0 (root_calls (slice_get volumes 0))) before after
   pub moves : StartMoves result before after
@@ -199,7 +199,7 @@ pub record GivesDirectories (result : Result (Unit {0}) StartFault) (old new : F
 -- the same if a volume is mounted on D0
 pub record GivesRoot (result : Result (Unit {0}) StartFault) (old new : FileState) (before after : List DriveView)
     : Type 0 where
-  pub stands : OnFirst old before (λ files v. OnOk result (StandsFor new after (given files v after)))
+  pub stands : OnFirst old before (λ files v. OnOk result (RepresentsFiles new after (given files v after)))
   pub read : OnFirst old before (λ files v. ReadUpTo (only_drive 0 (root_calls (Some v))) before after)
   pub moves : StartMoves result before after
-  pub fails : FailsOn 0 result
+  pub fails : IsFaultOfDrive 0 result

@@ -1,11 +1,11 @@
 //! A boot file in memory.
 
 ghost use Rattle.std.specs.Prelude.{◌≡◌, ℕ, ◌+◌, ◌<◌, ◌≤◌, Some, Ok, Err, OnOk, IfErr, true, length};
-ghost use Rattle.guest_memory.specs.Tie.{Represents};
+ghost use Rattle.guest_memory.specs.Tie.{RepresentsMemory};
 ghost use Rattle.proc_model.specs.Loading.{EntersModules, entry_refusal};
 ghost use Rattle.proc_model.specs.Memory.{MemoryState, first_memory};
-ghost use Rattle.machine_model.specs.ProcessStart.{Refuses, boot_group};
-ghost use Rattle.cold_start.specs.Booting.{IsEmpty, IsBooting, HasGroup, BeginsBoot, EntersBeside, EntersRest, HasBoot};
+ghost use Rattle.machine_model.specs.ProcessStart.{RefusesBoot, boot_group};
+ghost use Rattle.cold_start.specs.Booting.{IsEmptyMemory, IsBooting, HasGroup, BeginsBoot, EntersBeside, EntersRest, HasBoot};
 
 use crate::modules::{Refusal, module_from, takes};
 use guest_memory::memory::Memory;
@@ -21,10 +21,10 @@ use proc_model::module::{ModId, ModuleInfo};
 /// `BadModule` for the first refused module, and `NoFirst` if the file has no module.
 pub fn enter_boot(memory: &mut Memory, boot: &[u8]) -> Result<(), BootFault>
     requires short { length boot.now ≤ MOST_GROUP_BYTES }
-    requires empty { IsEmpty memory.old }
-    ensures entered { (blocks : ℕ) → Represents memory.old (first_memory blocks)
+    requires empty { IsEmptyMemory memory.old }
+    ensures entered { (blocks : ℕ) → RepresentsMemory memory.old (first_memory blocks)
         → OnOk result (HasBoot boot.now blocks memory.new) }
-    ensures refused { (blocks : ℕ) → IfErr result (Refuses boot.now blocks) }
+    ensures refused { (blocks : ℕ) → IfErr result (RefusesBoot boot.now blocks) }
 {
     let Some(info) = module_from(boot, 0)? else {
         return Err(BootFault::NoFirst);
@@ -40,8 +40,8 @@ fn enter_first(memory: &mut Memory, boot: &[u8], info: ModuleInfo) -> ModId
     requires short { length boot.now ≤ MOST_GROUP_BYTES }
     requires inside { info.at + info.size ≤ length boot.now }
     requires runs { info.entry < info.size }
-    requires empty { IsEmpty memory.old }
-    ensures entered { (blocks : ℕ) → Represents memory.old (first_memory blocks)
+    requires empty { IsEmptyMemory memory.old }
+    ensures entered { (blocks : ℕ) → RepresentsMemory memory.old (first_memory blocks)
         → BeginsBoot boot.now blocks info result.0 memory.new }
     ensures booting { IsBooting boot.now result.0 memory.new }
 {
@@ -60,9 +60,9 @@ fn enter_others(memory: &mut Memory, boot: &[u8], id: ModId, start: u32) -> Resu
     requires short { length boot.now ≤ MOST_GROUP_BYTES }
     requires within { start ≤ length boot.now }
     requires booting { IsBooting boot.now id.0 memory.old }
-    ensures entered { (m : MemoryState) → Represents memory.old m → HasGroup boot.now id.0 m
+    ensures entered { (m : MemoryState) → RepresentsMemory memory.old m → HasGroup boot.now id.0 m
         → OnOk result (EntersRest boot.now start m memory.new) }
-    ensures refused { (m : MemoryState) → Represents memory.old m → HasGroup boot.now id.0 m
+    ensures refused { (m : MemoryState) → RepresentsMemory memory.old m → HasGroup boot.now id.0 m
         → IfErr result (λ refusal. EntersModules boot.now (boot_group boot.now) true start
         m.modules (Err (refusal.at, refusal.error))) }
 {
@@ -83,9 +83,9 @@ fn enter_next(memory: &mut Memory, boot: &[u8], id: ModId, info: ModuleInfo) -> 
     requires inside { info.at + info.size ≤ length boot.now }
     requires runs { info.entry < info.size }
     requires booting { IsBooting boot.now id.0 memory.old }
-    ensures entered { (m : MemoryState) → Represents memory.old m → HasGroup boot.now id.0 m
+    ensures entered { (m : MemoryState) → RepresentsMemory memory.old m → HasGroup boot.now id.0 m
         → OnOk result (EntersBeside boot.now id.0 m info memory.new) }
-    ensures refused { (m : MemoryState) → Represents memory.old m
+    ensures refused { (m : MemoryState) → RepresentsMemory memory.old m
         → IfErr result (λ refusal. (refusal.at ≡ info.at)
         × (entry_refusal m.modules info ≡ Some refusal.error)) }
 {

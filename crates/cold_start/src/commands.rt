@@ -9,7 +9,7 @@ ghost use Rattle.rbf_model.specs.Walk.{entry_has_name};
 ghost use Rattle.file_rules.specs.Processes.{directory_in_root};
 ghost use Rattle.file_drives.specs.Drives.{drives_seen};
 ghost use Rattle.file_drives.specs.Mounted.{HasFileAt, OnDisks, ReadsFile};
-ghost use Rattle.cold_start.specs.Start.{FailsOn, IsNamed, IsRootAt, OnVolumeOf, directory_at as directory_at_model, search_calls, start_fault};
+ghost use Rattle.cold_start.specs.Start.{IsFaultOfDrive, IsNamedDescriptor, IsRootAt, OnVolumeOf, directory_at as directory_at_model, search_calls, start_fault};
 
 use crate::fault::StartFault;
 use device_table::devices::Devices;
@@ -38,7 +38,7 @@ pub fn find_commands(
     ensures drive { ReadsFile root (start_fault result) (λ v file. search_calls file)
         disks.old (drives_seen BlockDriver-box devices.old)
         disks.new (drives_seen BlockDriver-box devices.new) }
-    ensures failed { FailsOn root.drive result }
+    ensures failed { IsFaultOfDrive root.drive result }
     ensures terms_kept { devices.new.terms ≡ devices.old.terms }
 {
     let bytes = contents(alloc, disks, devices, root)?;
@@ -76,7 +76,7 @@ fn directory_at(
     ensures drive { ReadsFile place (start_fault result) (λ v file. 1)
         disks.old (drives_seen BlockDriver-box devices.old)
         disks.new (drives_seen BlockDriver-box devices.new) }
-    ensures failed { FailsOn place.drive result }
+    ensures failed { IsFaultOfDrive place.drive result }
     ensures terms_kept { devices.new.terms ≡ devices.old.terms }
 {
     let fd = fd_of(disks, devices, place)?;
@@ -112,7 +112,7 @@ fn contents(
         (λ v file. 2 + sector_count (length file.contents))
         disks.old (drives_seen BlockDriver-box devices.old)
         disks.new (drives_seen BlockDriver-box devices.new) }
-    ensures failed { FailsOn place.drive result }
+    ensures failed { IsFaultOfDrive place.drive result }
     ensures terms_kept { devices.new.terms ≡ devices.old.terms }
 {
     let fd = fd_of(disks, devices, place)?;
@@ -142,7 +142,7 @@ fn fd_of(disks: &mut Disks, devices: &mut Devices, place: FilePlace) -> Result<F
     ensures drive { ReadsFile place (start_fault result) (λ v file. 1)
         disks.old (drives_seen BlockDriver-box devices.old)
         disks.new (drives_seen BlockDriver-box devices.new) }
-    ensures failed { FailsOn place.drive result }
+    ensures failed { IsFaultOfDrive place.drive result }
     ensures terms_kept { devices.new.terms ≡ devices.old.terms }
 {
     match disks.fd(devices, place) {
@@ -166,7 +166,7 @@ fn read_whole(
         (λ v file. 1 + sector_count (length file.contents))
         disks.old (drives_seen BlockDriver-box devices.old)
         disks.new (drives_seen BlockDriver-box devices.new) }
-    ensures failed { FailsOn place.drive result }
+    ensures failed { IsFaultOfDrive place.drive result }
     ensures terms_kept { devices.new.terms ≡ devices.old.terms }
 {
     match disks.read_at(devices, place, 0, into) {
@@ -179,7 +179,7 @@ fn read_whole(
 /// of letters ignored; None if no used entry has the name (OS-9 Technical Reference, Random Block
 /// File Manager, "Directories").
 fn entry_named(directory: &[u8], name: &Name) -> Option<u32>
-    ensures { IsNamed directory.now name.now result }
+    ensures { IsNamedDescriptor directory.now name.now result }
 {
     for i in 0..directory.len() / 32 {
         let entry = entry_at(directory, i);

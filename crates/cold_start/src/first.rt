@@ -8,8 +8,8 @@ ghost use Rattle.proc_model.specs.MemoryChanges.{started};
 ghost use Rattle.proc_model.specs.ModuleList.{ModuleEntry, module_entry_at};
 ghost use Rattle.proc_model.specs.Program.{area_pages as area_pages_model, blocks_of_pages};
 ghost use Rattle.machine_model.specs.ProcessStart.{first_process, first_program as first_program_model};
-ghost use Rattle.proc_state.specs.Tie.{Represents};
-ghost use Rattle.cold_start.specs.Beginning.{HasNobody, Begins, nobody_in, with_first};
+ghost use Rattle.proc_state.specs.Tie.{RepresentsProcesses};
+ghost use Rattle.cold_start.specs.Beginning.{HasNobody, BeginsFirstProcess, nobody_in, with_first};
 
 use fork_calls::loading::load_program;
 use fork_calls::naming::area_pages;
@@ -40,7 +40,7 @@ pub fn first_program(modules: &Dir) -> Option<ModId>
     modules.find(&name, PROGRAM)
 }
 
-/// Begins the first process, with the program of an entered module and without parameters. No
+/// BeginsFirstProcess the first process, with the program of an entered module and without parameters. No
 /// process has begun yet.
 ///
 /// # Errors
@@ -51,9 +51,9 @@ pub fn begin(processes: &mut ProcState, id: ModId) -> Result<(), u8>
     requires nobody { HasNobody processes.old }
     requires entered { IsSome (module_entry_at (modules_of processes.old.memory) id.0) }
     ensures begun { (memory : MemoryState) (entry : ModuleEntry)
-        → Represents processes.old (nobody_in memory)
+        → RepresentsProcesses processes.old (nobody_in memory)
         → module_entry_at memory.modules id.0 ≡ Some entry
-        → Begins (started memory first_process.0 id.0
+        → BeginsFirstProcess (started memory first_process.0 id.0
         (blocks_of_pages (area_pages_model entry 0 0))) id.0 entry result processes.new }
 {
     let info = processes.memory.info(id);
@@ -74,8 +74,8 @@ fn add_first(processes: &mut ProcState, start: Beginning)
     requires entered { ForSome start.own.primary
         (λ id. IsSome (module_entry_at (modules_of processes.old.memory) id.0)) }
     requires until { start.own.until ≡ None }
-    ensures { (memory : MemoryState) → Represents processes.old (nobody_in memory)
-        → Represents processes.new (with_first memory start) }
+    ensures { (memory : MemoryState) → RepresentsProcesses processes.old (nobody_in memory)
+        → RepresentsProcesses processes.new (with_first memory start) }
 {
     processes.set_own(FIRST, start.own);
     let made = processes

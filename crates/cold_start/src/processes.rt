@@ -4,10 +4,10 @@ ghost use Rattle.std.specs.Prelude.{◌≡◌, ◌≢◌, ℕ, ◌≤◌, IsSome
 ghost use Rattle.guest_memory.specs.Tie.{modules_of};
 ghost use Rattle.machine_model.specs.declared.ends.BootFault.{BootFault};
 ghost use Rattle.proc_model.specs.ModuleList.{module_entry_at};
-ghost use Rattle.machine_model.specs.ProcessStart.{StartsProcesses, Refuses};
+ghost use Rattle.machine_model.specs.ProcessStart.{StartsProcesses, RefusesBoot};
 ghost use Rattle.proc_model.specs.Processes.{Processes};
 ghost use Rattle.proc_state.specs.First.{first_processes};
-ghost use Rattle.proc_state.specs.Tie.{Represents};
+ghost use Rattle.proc_state.specs.Tie.{RepresentsProcesses};
 ghost use Rattle.cold_start.specs.Beginning.{HasFirstIn};
 
 use crate::boot::enter_boot;
@@ -30,10 +30,10 @@ pub fn start(alloc: Global, blocks: u16, boot: &[u8]) -> Result<ProcState, BootF
     requires least { 8 ≤ blocks }
     requires most { blocks ≤ 256 }
     ensures start { IfOk result (λ processes.
-        (m : Processes) × StartsProcesses boot.now blocks m × Represents processes m) }
-    ensures accepted { OnOk result ((fault : BootFault) → ¬ Refuses boot.now blocks fault) }
+        (m : Processes) × StartsProcesses boot.now blocks m × RepresentsProcesses processes m) }
+    ensures accepted { OnOk result ((fault : BootFault) → ¬ RefusesBoot boot.now blocks fault) }
     ensures refused { IfErr result (λ fault. fault ≢ BootFault.OutOfMemory
-        → Refuses boot.now blocks fault) }
+        → RefusesBoot boot.now blocks fault) }
     ensures count { IfOk result (λ processes. processes.tick ≡ 0) }
 {
     if boot.len() > MOST_GROUP_BYTES as usize {
@@ -55,11 +55,11 @@ pub fn start(alloc: Global, blocks: u16, boot: &[u8]) -> Result<ProcState, BootF
 fn load_boot(processes: &mut ProcState, boot: &[u8]) -> Result<ModId, BootFault>
     requires short { length boot.now ≤ MOST_GROUP_BYTES }
     requires empty { (blocks : ℕ) × (8 ≤ blocks)
-        × Represents processes.old (first_processes blocks) }
-    ensures found { (blocks : ℕ) → Represents processes.old (first_processes blocks)
+        × RepresentsProcesses processes.old (first_processes blocks) }
+    ensures found { (blocks : ℕ) → RepresentsProcesses processes.old (first_processes blocks)
         → IfOk result (λ id. HasFirstIn boot.now blocks id.0 processes.new) }
-    ensures refused { (blocks : ℕ) → Represents processes.old (first_processes blocks)
-        → IfErr result (Refuses boot.now blocks) }
+    ensures refused { (blocks : ℕ) → RepresentsProcesses processes.old (first_processes blocks)
+        → IfErr result (RefusesBoot boot.now blocks) }
     ensures entered { IfOk result
         (λ id. IsSome (module_entry_at (modules_of processes.new.memory) id.0)) }
 {

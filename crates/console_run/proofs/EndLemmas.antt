@@ -29,7 +29,7 @@ use Rattle.console_run.specs.Lines.{LacksKeys}
 use Rattle.console_run.specs.Session.{RunsSession, StopsFor, at_start}
 use Rattle.console_run.specs.Turn.{AllWait, ConsoleState, LosesLine, MeetsEnd}
 use Rattle.console_run.specs.TypedTurn.{last_end, lines_of, shown_at, turn_of}
-use Rattle.console_run.specs.Waiting.{IsOver, WaitsForLine}
+use Rattle.console_run.specs.Waiting.{IsRunOver, WaitsForLine}
 use Rattle.console_run.specs.declared.typed.Typed.{Typed}
 use Rattle.console_run.specs.declared.turns.Stop.{Stop}
 use Rattle.console_run.proofs.KeyLemmas.{IsOfTerm, count-loaded, keys-still, loaded-typed}
@@ -200,7 +200,7 @@ lost-still out place new it =
 module _ (place : ConsoleState) (last : SliceEnd) (first : Option (List ℕ)) (from : KeyboardState) (s t : State)
     (written : List ℕ) (it : HasTurns place last first from s t written) where
   -- no slice can follow
-  pub stops-over : (after : Option (List ℕ)) → IsOver t → StopsFor Stop.Over it.turns t from place.keyboard first after
+  pub stops-over : (after : Option (List ℕ)) → IsRunOver t → StopsFor Stop.Over it.turns t from place.keyboard first after
   stops-over after over = inl (record { taken = it.taken; over = over })
 
   module _ (waits : WaitsForLine last t) (new : ConsoleState) (out : Option (List ℕ)) where

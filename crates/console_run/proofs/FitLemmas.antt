@@ -7,7 +7,7 @@ use Rattle.std.proofs.lemmas.List.{drop_all, length-map, length-replicate}
 use Rattle.std.proofs.lemmas.List.Elements.{All-append, All-cons, All-nil, All-replicate}
 use Rattle.std.proofs.lemmas.List.Folds.{sum_by-replicate}
 use Rattle.script_text.specs.declared.script.ScriptKey.{ScriptKey}
-use Rattle.script_text.specs.Script.{AreKeys, IsKey, key_at, never_fall}
+use Rattle.script_text.specs.Script.{AreKeys, IsScriptKey, key_at, never_fall}
 use Rattle.script_text.specs.Slices.{AreSlices, IsSlice}
 use Rattle.console_run.specs.Texts.{FitsTexts, line_fits}
 use Rattle.console_run.specs.Typed.{keys_of_parts, keys_typed, part_bytes}
@@ -63,16 +63,16 @@ lines_fit room last (line ∷ lines) = line_fits line room last && lines_fit (ro
 -- keys that fit after others
 record Fit (room last : ℕ) (keys : List ScriptKey) : Type 0 where
   few : length keys ≤ room
-  each : All (IsKey 4) keys
+  each : All (IsScriptKey 4) keys
   rising : rises last keys ≡ true
 
 line-count : (line : TypedPart) → length (line_keys_of line) ≡ length line.bytes.items + 1
 line-count line = length-map (part_bytes line) (key_at line.tick 0) ∙ length-append line.bytes.items (line.last ∷ [])
 
-each-key : (tick : ℕ) (bytes : List ℕ) → tick ≤ 1000000 → All (IsKey 4) (map (key_at tick 0) bytes)
-each-key tick [] early = All-nil (IsKey 4)
+each-key : (tick : ℕ) (bytes : List ℕ) → tick ≤ 1000000 → All (IsScriptKey 4) (map (key_at tick 0) bytes)
+each-key tick [] early = All-nil (IsScriptKey 4)
 each-key tick (byte ∷ bytes) early =
-    All-cons (IsKey 4) (key_at tick 0 byte) (map (key_at tick 0) bytes) (record { there = omega arith; early = early }) (each-key tick bytes early)
+    All-cons (IsScriptKey 4) (key_at tick 0 byte) (map (key_at tick 0) bytes) (record { there = omega arith; early = early }) (each-key tick bytes early)
 
 -- what it says of a line that it fits
 record LineFacts (line : TypedPart) (room last : ℕ) : Type 0 where
@@ -100,7 +100,7 @@ pub has-room : (line : TypedPart) (room last : ℕ) → line_fits line room last
 has-room line room last is = (line-facts line room last is).there
 
 fit-lines : (room last : ℕ) (lines : List TypedPart) → lines_fit room last lines ≡ true → Fit room last (flat_map line_keys_of lines)
-fit-lines room last [] is = record { few = omega arith; each = All-nil (IsKey 4); rising = refl }
+fit-lines room last [] is = record { few = omega arith; each = All-nil (IsScriptKey 4); rising = refl }
 fit-lines room last (line ∷ lines) is =
     let left : ℕ = room - (length line.bytes.items + 1) in
     let both = and_parts (line_fits line room last) (lines_fit (room - (length line.bytes.items + 1)) line.tick lines) is in
@@ -108,7 +108,7 @@ fit-lines room last (line ∷ lines) is =
     let rest : Fit (room - (length line.bytes.items + 1)) line.tick (flat_map line_keys_of lines) = fit-lines (room - (length line.bytes.items + 1)) line.tick lines both.1 in
     record {
       few = omega (arith, length-append (line_keys_of line) (flat_map line_keys_of lines), line-count line, rest.few, first.there);
-      each = All-append (IsKey 4) (line_keys_of line) (flat_map line_keys_of lines) (each-key line.tick (part_bytes line) first.early) rest.each;
+      each = All-append (IsScriptKey 4) (line_keys_of line) (flat_map line_keys_of lines) (each-key line.tick (part_bytes line) first.early) rest.each;
       rising = line-rises line.tick last line.bytes.items line.last (flat_map line_keys_of lines) first.rising rest.rising;
     }
 

@@ -7,7 +7,7 @@ use Rattle.machine_model.specs.State.{State}
 use Rattle.run_laws.specs.Session.{Keys, keys_loaded, with_keys}
 use Rattle.os9_kernel.specs.declared.kernel.Kernel.{Kernel}
 use Rattle.os9_kernel.specs.Outside.{Outside}
-use Rattle.os9_kernel.specs.Tie.{Represents, Stands}
+use Rattle.os9_kernel.specs.Tie.{Represents, RepresentsSomeState}
 use Rattle.boot_run.specs.Console.{IsObserved}
 use Rattle.console_run.proofs.KeyLemmas.{count-loaded}
 
@@ -57,6 +57,7 @@ represents-loaded kernel devices now s keys drives loaded tied =
     subst (λ (terms : List TerminalState). Represents kernel now (record s { terms = terms })) same (represents-with kernel devices now s drives count tied)
 
 -- a kernel that stood stands there too
-pub stands-loaded : (kernel : Kernel) (devices now : Outside) (keys : Keys) → now.drives ≡ devices.drives → now.terms ≡ keys_loaded devices.terms keys → Stands kernel devices → Stands kernel now
+pub stands-loaded : (kernel : Kernel) (devices now : Outside) (keys : Keys) → now.drives ≡ devices.drives
+    → now.terms ≡ keys_loaded devices.terms keys → RepresentsSomeState kernel devices → RepresentsSomeState kernel now
 stands-loaded kernel devices now keys drives loaded (s, tied) =
     (with_keys s keys, represents-loaded kernel devices now s keys drives loaded tied)

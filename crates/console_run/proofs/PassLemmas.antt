@@ -7,7 +7,7 @@ use Rattle.machine_model.specs.Console.{console_bytes, terminals_emptied}
 use Rattle.machine_model.specs.declared.ends.SliceEnd.{SliceEnd}
 use Rattle.machine_model.specs.Run.{BeginsSlice}
 use Rattle.machine_model.specs.State.{State}
-use Rattle.os9_kernel.specs.Calls.{HasSlice, StopsSlice}
+use Rattle.os9_kernel.specs.Calls.{KernelSlice, StopsSlice}
 use Rattle.os9_kernel.specs.Changes.{KeepsImages}
 use Rattle.os9_kernel.specs.Outside.{Outside}
 use Rattle.os9_kernel.specs.Tie.{Represents}
@@ -20,7 +20,7 @@ use Rattle.console_run.specs.Turn.{PassesSlice, StopsTurn}
 use Rattle.console_run.specs.declared.typed.TheConstants.{SLICE}
 
 -- the devices before a slice, where it was run, and at the end
-module _ (old new : Kernel) (before after : World) (sliced : Outside) (end : SliceEnd) (slice : HasSlice SLICE old new before.devices sliced end) where
+module _ (old new : Kernel) (before after : World) (sliced : Outside) (end : SliceEnd) (slice : KernelSlice SLICE old new before.devices sliced end) where
   -- memory was out within it
   pub stops-turn : (u : State) → Represents old before.devices u → end ≡ SliceEnd.NoMemory → after.devices ≡ sliced → after.out ≡ before.out → HasNoFault before after → StopsTurn u before after
   stops-turn u tied out same kept none =

@@ -6,7 +6,7 @@ use Rattle.std.proofs.lemmas.List.Elements.{All-append, All-nil}
 use Rattle.os9_outer.specs.TerminalState.{TerminalState}
 use Rattle.boot_run.specs.Loaded.{HasNoKeys, loaded}
 use Rattle.lock_model.specs.declared.history.Entry.{Entry}
-use Rattle.file_rules.specs.Files.{DriveState, NoneFailed}
+use Rattle.file_rules.specs.Files.{DriveState, KeepsDriveFaults}
 use Rattle.file_drives.specs.Drives.{drive_states}
 use Rattle.cold_start.specs.Start.{StartsDrives}
 use Rattle.machine_model.specs.Living.{living_count}
@@ -17,7 +17,7 @@ use Rattle.machine_model.specs.State.{State, has_living}
 use Rattle.run_laws.specs.Session.{keys_loaded, with_keys}
 use Rattle.os9_kernel.specs.Outside.{Outside}
 use Rattle.os9_kernel.specs.Starting.{drive_fault}
-use Rattle.os9_kernel.specs.Tie.{Represents, Stands}
+use Rattle.os9_kernel.specs.Tie.{Represents, RepresentsSomeState}
 use Rattle.os9_kernel.specs.declared.kernel.Kernel.{Kernel}
 use Rattle.os9_kernel.specs.declared.new.StartError.{StartError}
 use Rattle.os9_kernel.specs.declared.new.StartError.TheVariants.{Boot, Drive}
@@ -33,7 +33,7 @@ use Rattle.boot_run.proofs.RunLemmas.{none-living, some-living, terms-standing}
 use Rattle.script_text.specs.declared.script.ScriptKey.{ScriptKey}
 use Rattle.console_run.specs.Kept.{load_of}
 use Rattle.console_run.specs.Keyboard.{KeyboardState}
-use Rattle.console_run.specs.Session.{AsksKeyboard, HasPart, IsPartTo, IsSessionTo, LeadsSession, RunsSession, StopsSession, StopsWithin, untyped, with_bytes}
+use Rattle.console_run.specs.Session.{AsksKeyboard, HasPartOfSession, IsPartTo, IsSessionTo, LeadsSession, RunsSession, StopsConsoleSession, StopsWithin, untyped, with_bytes}
 use Rattle.console_run.specs.TypedTurn.{TypedTurn}
 use Rattle.console_run.specs.Typed.{kept_keys, kept_slices, keys_of_parts, keys_typed, part_bytes}
 use Rattle.console_run.specs.declared.typed.TheConstants.{SLICE}
@@ -94,7 +94,7 @@ asks-over (suc living) ticks end from to idle lives =
     subst (λ (end : RunEnd). AsksKeyboard (OfRun end) from to) (sym (lives (λ e. omega (arith, e)))) tt
 
 -- a kernel that a start made stands
-pub stands-begun : (setup : Setup) (kernel : Kernel) (started : Outside) → Begins setup kernel started → Stands kernel started
+pub stands-begun : (setup : Setup) (kernel : Kernel) (started : Outside) → Begins setup kernel started → RepresentsSomeState kernel started
 stands-begun setup kernel started (s, starts, tied) = (s, tied)
 
 -- no keys are loaded
@@ -141,7 +141,7 @@ pub runs-first : (setup : Setup) (typed : Typed) (from to : KeyboardState) (befo
     → All HasNoKeys before.devices.terms → StopsWithin (driven setup typed) typed from to before after
     → RunsFirst (driven setup typed) before after
 runs-first setup typed from to before after none it =
-    let part : HasPart it.s typed from to before after = it.part in
+    let part : HasPartOfSession it.s typed from to before after = it.part in
     let ran : List ℕ = replicate (length part.turns) SLICE in
     let reached : State = with_bytes part.m part.bytes in
     let start : State = with_keys it.s (load_of (kept_keys typed)) in
@@ -166,7 +166,7 @@ runs-first setup typed from to before after none it =
 
 -- a part of a session leaves the same, whatever the devices were
 pub part-from : (s : State) (typed : Typed) (from to : KeyboardState) (before after : World) (devices : Outside)
-    → HasPart s typed from to (with_devices before devices) after → HasPart s typed from to before after
+    → HasPartOfSession s typed from to (with_devices before devices) after → HasPartOfSession s typed from to before after
 part-from s typed from to before after devices it = record {
   turns = it.turns;
   states = it.states;
@@ -188,7 +188,7 @@ part-from s typed from to before after devices it = record {
 -- a kernel stood where nothing was typed yet, and there was a session
 module _ (setup : Setup) (typed : Typed) (from to : KeyboardState) (kernel later : Kernel) (before after : World)
     (started : Outside) (unloaded : All HasNoKeys before.devices.terms)
-    (none_failed : NoneFailed (drive_states before.devices.drives) (drive_states started.drives))
+    (none_failed : KeepsDriveFaults (drive_states before.devices.drives) (drive_states started.drives))
     (terms : started.terms ≡ before.devices.terms) (begins : Begins setup kernel started) where
   abbrev began : World
   began = with_devices before started
@@ -200,7 +200,7 @@ module _ (setup : Setup) (typed : Typed) (from to : KeyboardState) (kernel later
       (subst (λ (terms : List TerminalState). Starts (boot_with (untyped setup) (drive_states started.drives) terms) begins.0) same begins.1)
 
   -- it was stopped within a slice
-  pub session-part : ((s : State) → All IsObserved started.terms → Represents kernel started s → HasPart s typed from to
+  pub session-part : ((s : State) → All IsObserved started.terms → Represents kernel started s → HasPartOfSession s typed from to
       began after) → All IsObserved before.devices.terms → StopsWithin setup typed from to before after
   session-part part told =
       let told_started : All IsObserved started.terms = subst (λ (terms : List TerminalState). All IsObserved terms) (sym terms) told in
@@ -211,7 +211,7 @@ module _ (setup : Setup) (typed : Typed) (from to : KeyboardState) (kernel later
     pub session-stopped : (stop : Stop) (lives : Bool) → ((s : State) → All IsObserved started.terms → Represents kernel
         started s → RunsSession stop s later typed from to began after) → ((t : State) → Represents later after.devices
         t → has_living t ≡ lives) → All IsObserved before.devices.terms
-        → StopsSession (LeadsSession setup typed history before after) lives stop from to before after
+        → StopsConsoleSession (LeadsSession setup typed history before after) lives stop from to before after
     session-stopped stop lives session living told =
         let told_started : All IsObserved started.terms = subst (λ (terms : List TerminalState). All IsObserved terms) (sym terms) told in
         let it : RunsSession stop begins.0 later typed from to began after = session begins.0 told_started begins.2 in

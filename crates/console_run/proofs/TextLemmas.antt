@@ -14,10 +14,10 @@ use Rattle.text_values.specs.Number.{hex_digit, is_digit, number_after, number_o
 use Rattle.text_values.specs.Cuts.{is_space}
 use Rattle.script_text.specs.declared.script.ScriptKey.{ScriptKey}
 use Rattle.script_text.specs.Lines.{is_edged, is_word, line_words, text_lines}
-use Rattle.script_text.specs.Script.{AreKeys, IsKey, are_few_keys, byte_of, bytes_of, is_skipped, key_at, keys_at, keys_of, line_keys, never_fall, tick_of, words_keys}
+use Rattle.script_text.specs.Script.{AreKeys, IsScriptKey, are_few_keys, byte_of, bytes_of, is_skipped, key_at, keys_at, keys_of, line_keys, never_fall, tick_of, words_keys}
 use Rattle.script_text.specs.Slices.{AreSlices, are_few_slices, is_asterisk, line_slices, slices_of, word_slices}
 use Rattle.script_text.proofs.TextLemmas.{ReadSoFar, ReadSoFar-next, ReadSoFar-start, all_read, outcome}
-use Rattle.console_run.specs.Texts.{HasBytes, IsByte, byte_word, hex_digit as digit, script_line, script_text, slice_text}
+use Rattle.console_run.specs.Texts.{HasTypedBytes, IsByte, byte_word, hex_digit as digit, script_line, script_text, slice_text}
 use Rattle.console_run.specs.Typed.{kept_keys, kept_slices, keys_typed, part_bytes}
 use Rattle.console_run.specs.declared.typed.TheConstants.{SLICE}
 use Rattle.console_run.specs.declared.typed.Typed.{Typed}
@@ -221,7 +221,7 @@ keys-some : (tick : ℕ) (bytes : List ℕ) (end : ℕ) → option_and_then (key
 keys-some tick [] end = refl
 keys-some tick (byte ∷ bytes) end = refl
 
-line-gives : (line : TypedPart) → line.tick ≤ 1000000 → HasBytes line → line_keys 4 (body line) ≡ Some (keys_typed line.tick (part_bytes line))
+line-gives : (line : TypedPart) → line.tick ≤ 1000000 → HasTypedBytes line → line_keys 4 (body line) ≡ Some (keys_typed line.tick (part_bytes line))
 line-gives line early bytes =
     let it : Spells line.tick (decimal line.tick) = spelled line.tick (omega (arith, early)) in
     let high : All (λ byte. 48 ≤ byte) (decimal line.tick) = digits-high line.tick (decimal line.tick) it in
@@ -277,23 +277,23 @@ line_keys_of line = keys_typed line.tick (part_bytes line)
 abbrev pub IsEarly : TypedPart → Type 0
 IsEarly line = line.tick ≤ 1000000
 
-pub line-early : (line : TypedPart) → All (IsKey 4) (line_keys_of line) → IsEarly line
+pub line-early : (line : TypedPart) → All (IsScriptKey 4) (line_keys_of line) → IsEarly line
 line-early line all = by line.bytes.items all
   where
-    by : (bytes : List ℕ) → All (IsKey 4) (keys_typed line.tick (bytes ++ line.last ∷ [])) → IsEarly line
-    by [] all = (All-head (IsKey 4) (key_at line.tick 0 line.last) [] all).early
-    by (byte ∷ bytes) all = (All-head (IsKey 4) (key_at line.tick 0 byte) (map (key_at line.tick 0) (bytes ++ line.last ∷ [])) all).early
+    by : (bytes : List ℕ) → All (IsScriptKey 4) (keys_typed line.tick (bytes ++ line.last ∷ [])) → IsEarly line
+    by [] all = (All-head (IsScriptKey 4) (key_at line.tick 0 line.last) [] all).early
+    by (byte ∷ bytes) all = (All-head (IsScriptKey 4) (key_at line.tick 0 byte) (map (key_at line.tick 0) (bytes ++ line.last ∷ [])) all).early
 
-pub front-keys : (front behind : List ScriptKey) → All (IsKey 4) (front ++ behind) → All (IsKey 4) front
-front-keys [] behind all = All-nil (IsKey 4)
+pub front-keys : (front behind : List ScriptKey) → All (IsScriptKey 4) (front ++ behind) → All (IsScriptKey 4) front
+front-keys [] behind all = All-nil (IsScriptKey 4)
 front-keys (key ∷ front) behind all =
-    All-cons (IsKey 4) key front (All-head (IsKey 4) key (front ++ behind) all) (front-keys front behind (All-tail (IsKey 4) key (front ++ behind) all))
+    All-cons (IsScriptKey 4) key front (All-head (IsScriptKey 4) key (front ++ behind) all) (front-keys front behind (All-tail (IsScriptKey 4) key (front ++ behind) all))
 
-pub behind-keys : (front behind : List ScriptKey) → All (IsKey 4) (front ++ behind) → All (IsKey 4) behind
+pub behind-keys : (front behind : List ScriptKey) → All (IsScriptKey 4) (front ++ behind) → All (IsScriptKey 4) behind
 behind-keys [] behind all = all
-behind-keys (key ∷ front) behind all = behind-keys front behind (All-tail (IsKey 4) key (front ++ behind) all)
+behind-keys (key ∷ front) behind all = behind-keys front behind (All-tail (IsScriptKey 4) key (front ++ behind) all)
 
-early-lines : (lines : List TypedPart) → All (IsKey 4) (flat_map line_keys_of lines) → All IsEarly lines
+early-lines : (lines : List TypedPart) → All (IsScriptKey 4) (flat_map line_keys_of lines) → All IsEarly lines
 early-lines [] all = All-nil IsEarly
 early-lines (line ∷ lines) all =
     All-cons IsEarly line lines (line-early line (front-keys (line_keys_of line) (flat_map line_keys_of lines) all))
@@ -338,7 +338,7 @@ at-drop (y ∷ xs) (suc place) x rest is =
 
 module _ (texts : List (List ℕ)) where
   reads-on : (todo : List TypedPart) (place : ℕ) (given : List ScriptKey) → drop place texts ≡ map body todo ++ [] ∷
-      [] → All IsEarly todo → All HasBytes todo → are_few_keys (given ++ flat_map line_keys_of todo) ≡ true
+      [] → All IsEarly todo → All HasTypedBytes todo → are_few_keys (given ++ flat_map line_keys_of todo) ≡ true
       → ReadSoFar (line_keys 4) are_few_keys texts place given
       → outcome (line_keys 4) are_few_keys texts ≡ Ok (given ++ flat_map line_keys_of todo)
   reads-on [] place given left early bytes few so_far =
@@ -347,15 +347,15 @@ module _ (texts : List (List ℕ)) where
       all_read (line_keys 4) are_few_keys texts (place + 1) (given ++ []) (ReadSoFar-next (line_keys 4) are_few_keys texts place given [] [] so_far it.below it.here refl few) all
   reads-on (line ∷ todo) place given left early bytes few so_far =
       let it = at-drop texts place (body line) (map body todo ++ [] ∷ []) left in
-      let reads : line_keys 4 (body line) ≡ Some (line_keys_of line) = line-gives line (All-head IsEarly line todo early) (All-head HasBytes line todo bytes) in
+      let reads : line_keys 4 (body line) ≡ Some (line_keys_of line) = line-gives line (All-head IsEarly line todo early) (All-head HasTypedBytes line todo bytes) in
       let same : given ++ flat_map line_keys_of (line ∷ todo) ≡ (given ++ line_keys_of line) ++ flat_map line_keys_of
       todo = sym (append_assoc given (line_keys_of line) (flat_map line_keys_of todo)) in
       let few_then : are_few_keys ((given ++ line_keys_of line) ++ flat_map line_keys_of todo) ≡ true = subst (λ (keys : List ScriptKey). are_few_keys keys ≡ true) same few in
       let next = ReadSoFar-next (line_keys 4) are_few_keys texts place given (line_keys_of line) (body line) so_far
       it.below it.here reads (few-front (given ++ line_keys_of line) (flat_map line_keys_of todo) few_then) in
-      reads-on todo (place + 1) (given ++ line_keys_of line) it.behind (All-tail IsEarly line todo early) (All-tail HasBytes line todo bytes) few_then next ∙ ap Ok (sym same)
+      reads-on todo (place + 1) (given ++ line_keys_of line) it.behind (All-tail IsEarly line todo early) (All-tail HasTypedBytes line todo bytes) few_then next ∙ ap Ok (sym same)
 
-pub script-gives : (typed : Typed) → AreKeys 4 (kept_keys typed) → All HasBytes typed.parts.items → keys_of 4 (script_text typed) ≡ Ok (kept_keys typed)
+pub script-gives : (typed : Typed) → AreKeys 4 (kept_keys typed) → All HasTypedBytes typed.parts.items → keys_of 4 (script_text typed) ≡ Ok (kept_keys typed)
 script-gives typed keys bytes =
     let lines : List TypedPart = typed.parts.items in
     let early : All IsEarly lines = early-lines lines keys.each in

@@ -18,11 +18,11 @@ use Rattle.machine_model.specs.declared.ends.SliceEnd.{SliceEnd}
 use Rattle.file_rules.specs.Attempts.{asker_of, file_step}
 use Rattle.machine_model.specs.Run.{BeginsSlice, Run, Slice}
 use Rattle.machine_model.specs.State.{State, has_living}
-use Rattle.run_laws.specs.Session.{AreLater, Keys, Turn, keys_loaded, keys_then, with_keys}
-use Rattle.run_laws.specs.SoFar.{ComesTo, each_with}
+use Rattle.run_laws.specs.Session.{AreLater, Keys, SessionTurn, keys_loaded, keys_then, with_keys}
+use Rattle.run_laws.specs.SoFar.{SessionSoFar, each_with}
 use Rattle.run_laws.proofs.Loads.{begins-with, event-with, later-before, later-then, load-bytes, load-emptied, load-then, slice-with}
 use Rattle.run_laws.proofs.Onward.{comes-first, comes-on}
-use Rattle.os9_kernel.specs.Changes.{AsksToChange, BeginsAt, KeepsImages}
+use Rattle.os9_kernel.specs.Changes.{AsksToChange, BeginsEventAt, KeepsImages}
 use Rattle.os9_kernel.specs.Outside.{Outside}
 use Rattle.os9_kernel.specs.Tie.{Represents, ticks}
 use Rattle.os9_kernel.specs.declared.kernel.Kernel.{Kernel}
@@ -35,9 +35,9 @@ use Rattle.console_run.specs.Kept.{load_of}
 use Rattle.console_run.specs.Typed.{IsUntyped, kept_keys, kept_slices, keys_typed}
 use Rattle.console_run.specs.Keyboard.{KeyboardState, TakesLines, line_list, shown_for}
 use Rattle.console_run.specs.Lines.{TypesIf, left_after}
-use Rattle.console_run.specs.Session.{HasPart, at_start, with_bytes}
+use Rattle.console_run.specs.Session.{HasPartOfSession, at_start, with_bytes}
 use Rattle.console_run.specs.Turn.{ConsoleState, PassesSlice, RunsTurn, StopsTurn, TypesLine}
-use Rattle.console_run.specs.TypedTurn.{KeepsTurns, TypedTurn, TypedTurns, last_end, left_of, lines_of, shown_at, turn_keys, turn_of}
+use Rattle.console_run.specs.TypedTurn.{KeepsTypedTurns, TypedTurn, TypedTurns, last_end, left_of, lines_of, shown_at, turn_keys, turn_of}
 use Rattle.console_run.specs.Waiting.{WaitsForLine}
 use Rattle.console_run.specs.declared.typed.TheConstants.{SLICE}
 use Rattle.console_run.specs.declared.typed.Typed.{Typed}
@@ -66,7 +66,7 @@ asks-with drive at keys it = record {
 }
 
 begins-at-with : (n : ℕ) (u at : State) (states : List State) (keys : Keys) → AreLater (u.processes.tick + 1) keys
-    → BeginsAt (BeginsSlice n u) states at → BeginsAt (BeginsSlice n (with_keys u keys)) (each_with keys states)
+    → BeginsEventAt (BeginsSlice n u) states at → BeginsEventAt (BeginsSlice n (with_keys u keys)) (each_with keys states)
     (with_keys at keys)
 begins-at-with n u at states keys later it = record {
   first = each_with keys it.first;
@@ -100,9 +100,9 @@ written_of turns = flat_map (λ turn. turn.written) turns
 pub record HasTurns (place : ConsoleState) (last : SliceEnd) (first : Option (List ℕ)) (from : KeyboardState) (s m : State) (written : List ℕ) : Type 0 where
   pub turns : List TypedTurn
   pub states : List State
-  pub comes : ComesTo (map turn_of turns) s states written m
+  pub comes : SessionSoFar (map turn_of turns) s states written m
   pub types : TypedTurns at_start [] turns s states written m
-  pub kept : KeepsTurns place.typed turns
+  pub kept : KeepsTypedTurns place.typed turns
   pub last_is : last_end at_start turns ≡ last
   pub rest_is : left_of [] turns ≡ place.rest
   pub wrote : written_of turns ≡ written
@@ -484,7 +484,7 @@ module _ (start : List DriveView) (first : Option (List ℕ)) (was place : Conso
           turns = it.turns ++ turn ∷ [];
           states = it.states ++ passes.states;
           comes =
-              subst (λ (turns : List Turn). ComesTo turns s (it.states ++ passes.states) (here.written ++ console_bytes over.terms) bare) (sym (map-append turn_of it.turns (turn ∷ [])))
+              subst (λ (turns : List SessionTurn). SessionSoFar turns s (it.states ++ passes.states) (here.written ++ console_bytes over.terms) bare) (sym (map-append turn_of it.turns (turn ∷ [])))
               (comes-on (map turn_of it.turns) (turn_of turn) s m over it.states passes.states here.written end it.comes alive due ticked-then passes.slice);
           types =
               types-more at_start [] it.turns s m over turn it.states passes.states here.written it.types alive refl
@@ -539,7 +539,7 @@ module _ (start : List DriveView) (first : Option (List ℕ)) (was place : Conso
 
   -- or it stopped
   pub part-typed : (fault : RunFault) (origin : World) → origin.out ≡ first → HasNoFault origin before
-      → TakesTurn was place last kernel after (Err fault) before now → HasPart s new from place.keyboard origin now
+      → TakesTurn was place last kernel after (Err fault) before now → HasPartOfSession s new from place.keyboard origin now
   part-typed fault origin out none made =
       let it : HasTurns was last first from s m here.written = here.turns in
       let load : List ScriptKey = keys_typed (m.processes.tick + 1) made.bytes in

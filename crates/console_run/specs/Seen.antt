@@ -11,7 +11,7 @@ use Rattle.os9_words.specs.Notes.{Notes, notes_of}
 use Rattle.boot_run.specs.World.{OnWorld, World}
 
 -- there are as many terminals and drives as before
-pub record AreAsMany {Drive Terminal : Type 0} (before after : DeviceTable Drive Terminal) : Type 0 where
+pub record KeepsDeviceCounts {Drive Terminal : Type 0} (before after : DeviceTable Drive Terminal) : Type 0 where
   pub terms : vec_len after.terms ≡ vec_len before.terms
   pub drives : vec_len after.drives ≡ vec_len before.drives
 

@@ -25,8 +25,8 @@ use Rattle.console_run.specs.Keyboard.{GivesEnd, KeyboardState, TakesLines, line
 use Rattle.console_run.specs.Lines.{KeepsLines, LacksKeys, TypesIf}
 use Rattle.console_run.specs.Shown.{shown_length}
 use Rattle.console_run.specs.Turn.{StopsTurn}
-use Rattle.console_run.specs.TypedTurn.{KeepsTurns, TypedTurn, TypedTurns, last_end, left_of, lines_of, shown_at, turn_keys, turn_of}
-use Rattle.console_run.specs.Waiting.{IsOver, WaitsForLine}
+use Rattle.console_run.specs.TypedTurn.{KeepsTypedTurns, TypedTurn, TypedTurns, last_end, left_of, lines_of, shown_at, turn_keys, turn_of}
+use Rattle.console_run.specs.Waiting.{IsRunOver, WaitsForLine}
 use Rattle.console_run.specs.declared.typed.TheConstants.{SLICE}
 use Rattle.console_run.specs.declared.typed.Typed.{Typed}
 use Rattle.console_run.specs.declared.session.SessionEnd.{SessionEnd}
@@ -40,7 +40,7 @@ at_start = SliceEnd.Ran
 -- A session from s over these turns to t, with keys typed before its slices: a run whose keys are loaded before each
 -- slice. The output gained what it wrote, and its keys and slices are kept: over these it is one run of terminals that
 -- were loaded with all the keys before it.
-pub record HasSession (turns : List TypedTurn) (s t : State) (typed : Typed) (before after : Option (List ℕ))
+pub record HasTypedSession (turns : List TypedTurn) (s t : State) (typed : Typed) (before after : Option (List ℕ))
     : Type 0 where
   pub states : List State
   pub written : List ℕ
@@ -48,14 +48,14 @@ pub record HasSession (turns : List TypedTurn) (s t : State) (typed : Typed) (be
   pub session : Session (map turn_of turns) s states written t
   pub through : List State
   pub run : Run (kept_slices typed) (with_keys s (load_of (kept_keys typed))) through written t
-  pub kept : KeepsTurns typed turns
+  pub kept : KeepsTypedTurns typed turns
   pub output : after ≡ stream_with before written
 
 -- No slice can follow these turns. The keyboard gave their lines, each at its time, and was not asked again.
 pub record StopsAsOver (turns : List TypedTurn) (t : State) (from to : KeyboardState) (before : Option (List ℕ))
     : Type 0 where
   pub taken : TakesLines (lines_of turns) (shown_at before turns) from to
-  pub over : IsOver t
+  pub over : IsRunOver t
 
 -- Or every process waits for keys, no rest of a line is left, and the keyboard was asked once more and gave its end.
 pub record StopsAtEnd (turns : List TypedTurn) (t : State) (from to : KeyboardState) (before after : Option (List ℕ))
@@ -91,7 +91,7 @@ with_bytes m bytes = with_keys m (load_of (keys_typed (m.processes.tick + 1) byt
 
 -- A session from s that stopped within the slice behind these turns, or as the bytes of that slice were put out. What
 -- is kept was typed in these turns and before that slice, each at its time, and over it the turns are one run.
-pub record HasPart (s : State) (typed : Typed) (from to : KeyboardState) (before after : World) : Type 0 where
+pub record HasPartOfSession (s : State) (typed : Typed) (from to : KeyboardState) (before after : World) : Type 0 where
   pub turns : List TypedTurn
   pub states : List State
   pub written : List ℕ
@@ -117,7 +117,7 @@ pub record RunsSession (stop : Stop) (s : State) (new : Kernel) (typed : Typed) 
     (before after : World) : Type 0 where
   pub turns : List TypedTurn
   pub t : State
-  pub session : HasSession turns s t typed before.out after.out
+  pub session : HasTypedSession turns s t typed before.out after.out
   pub there : Represents new after.devices t
   pub stops : StopsFor stop turns t from to before.out after.out
 
@@ -130,7 +130,7 @@ pub record RunsTurns (typed : Typed) (old new : Kernel) (answer : Result Stop Ru
   pub session : IfOk answer (λ stop. (s : State) → All IsObserved before.devices.terms
       → Represents old before.devices s → RunsSession stop s new typed from to before after)
   pub stopped : OnErr answer ((s : State) → All IsObserved before.devices.terms → Represents old before.devices s
-      → HasPart s typed from to before after)
+      → HasPartOfSession s typed from to before after)
 
 -- ---- of a machine
 
@@ -144,13 +144,13 @@ pub record LeadsSession (setup : Setup) (typed : Typed) (history : List Entry) (
     (turns : List TypedTurn) (t : State) : Type 0 where
   pub s : State
   pub starts : StartsLoaded (untyped setup) before s
-  pub session : HasSession turns s t typed before.out after.out
+  pub session : HasTypedSession turns s t typed before.out after.out
   pub terminals : after.devices.terms ≡ t.terms
   pub drives : HoldsVolumes t after.devices.drives
   pub recorded : history ≡ t.files.records.history
 
 -- a session came so to its last state, in which a process lives or none does, and stopped
-pub record StopsSession (comes : List TypedTurn → State → Type 0) (lives : Bool) (stop : Stop)
+pub record StopsConsoleSession (comes : List TypedTurn → State → Type 0) (lives : Bool) (stop : Stop)
     (from to : KeyboardState) (before after : World) : Type 0 where
   pub turns : List TypedTurn
   pub t : State
@@ -161,9 +161,12 @@ pub record StopsSession (comes : List TypedTurn → State → Type 0) (lives : B
 -- by how it ended
 abbrev pub IsSessionTo : (List TypedTurn → State → Type 0) → SessionEnd → KeyboardState → KeyboardState → World → World
     → Type 0
-IsSessionTo comes (OfRun (Ended begun)) from to before after = StopsSession comes false Stop.Over from to before after
-IsSessionTo comes (OfRun (Living begun)) from to before after = StopsSession comes true Stop.Over from to before after
-IsSessionTo comes (LineLost end) from to before after = StopsSession comes true Stop.LineLost from to before after
+IsSessionTo comes (OfRun (Ended begun)) from to before after = StopsConsoleSession comes false Stop.Over from to before
+    after
+IsSessionTo comes (OfRun (Living begun)) from to before after = StopsConsoleSession comes true Stop.Over from to before
+    after
+IsSessionTo comes (LineLost end) from to before after = StopsConsoleSession comes true Stop.LineLost from to before
+    after
 IsSessionTo comes end from to before after = ⊤
 
 -- the machine that is set up so was started, and there was a part of a session from its start
@@ -171,7 +174,7 @@ pub record StopsWithin (setup : Setup) (typed : Typed) (from to : KeyboardState)
   where
     pub s : State
     pub starts : StartsLoaded (untyped setup) before s
-    pub part : HasPart s typed from to before after
+    pub part : HasPartOfSession s typed from to before after
 
 -- If the output failed, that was within a session. If memory was out, that was too, or nothing was run and the keyboard
 -- was not asked.
@@ -198,7 +201,7 @@ run_end (LineLost end) = end
 
 -- It is the run of the machine over the slices and with the keys that are kept, which are keys of lines that the
 -- keyboard gave, and a session or a part of one if the bytes of all terminals are observed.
-pub record SessionCall (setup : Setup) (end : SessionEnd) (history : List Entry) (typed : Typed)
+pub record ConsoleSessionCall (setup : Setup) (end : SessionEnd) (history : List Entry) (typed : Typed)
     (from to : KeyboardState) (before after : World) : Type 0 where
   pub machine : MachineCall setup history before after (run_end end)
   pub at_line : EndsAtLine end
@@ -214,5 +217,5 @@ abbrev pub SessionRuns : Config → List ℕ → SessionEnd → List Entry → T
     → World → Type 0
 SessionRuns config file end history typed from to before after =
     (images : List (List ℕ)) → HaveImages config.images images before.devices.drives
-    → SessionCall (setup_with config file images (kept_keys typed) (kept_slices typed)) end history typed from to
+    → ConsoleSessionCall (setup_with config file images (kept_keys typed) (kept_slices typed)) end history typed from to
     before after

@@ -29,8 +29,8 @@ abbrev pub IsByte : ℕ → Type 0
 IsByte byte = byte < 256
 
 -- each byte of the part is one
-abbrev pub HasBytes : TypedPart → Type 0
-HasBytes part = All IsByte (part_bytes part)
+abbrev pub HasTypedBytes : TypedPart → Type 0
+HasTypedBytes part = All IsByte (part_bytes part)
 
 -- a hexadecimal digit
 abbrev pub hex_digit : ℕ → ℕ

@@ -11,7 +11,7 @@ use Rattle.run_laws.specs.Session.{keys_loaded}
 use Rattle.os9_kernel.specs.Calls.{StopsSlice}
 use Rattle.os9_kernel.specs.Changes.{KeepsImages}
 use Rattle.os9_kernel.specs.Outside.{Outside}
-use Rattle.os9_kernel.specs.Tie.{Represents, Stands, ticks}
+use Rattle.os9_kernel.specs.Tie.{Represents, RepresentsSomeState, ticks}
 use Rattle.os9_kernel.specs.declared.kernel.Kernel.{Kernel}
 use Rattle.boot_run.specs.Console.{IsObserved}
 use Rattle.boot_run.specs.RunFault.{OnOutputFault, UnlessOutputFault}
@@ -142,7 +142,7 @@ pub record RunsTurn (old new : Kernel) (answer : Result SliceEnd RunFault) (befo
   pub ran : IfOk answer (λ end. (s : State) → Represents old before.devices s → PassesSlice s new before after end)
   pub stopped : OnErr answer ((s : State) → All IsObserved before.devices.terms → Represents old before.devices s
       → StopsTurn s before after)
-  pub stands : OnOk answer (Stands new after.devices)
+  pub stands : OnOk answer (RepresentsSomeState new after.devices)
   pub count : OnOk answer (ticks new ≡ ticks old + 1)
   pub output_fault : OnOutputFault answer (FailsToWrite before after)
   pub no_fault : UnlessOutputFault answer (HasNoFault before after)

@@ -7,7 +7,7 @@ use Rattle.machine_model.specs.declared.ends.SliceEnd.{SliceEnd}
 use Rattle.script_text.specs.declared.script.ScriptKey.{ScriptKey}
 use Rattle.machine_model.specs.Run.{Slice}
 use Rattle.machine_model.specs.State.{State, has_living}
-use Rattle.run_laws.specs.Session.{Turn, with_keys}
+use Rattle.run_laws.specs.Session.{SessionTurn, with_keys}
 use Rattle.console_run.specs.Kept.{load_of}
 use Rattle.console_run.specs.Typed.{kept_keys, keys_typed}
 use Rattle.console_run.specs.Keyboard.{line_list, shown_for}
@@ -29,7 +29,7 @@ abbrev pub turn_keys : TypedTurn → List ScriptKey
 turn_keys turn = keys_typed turn.tick turn.bytes
 
 -- they are loaded before its slice
-abbrev pub turn_of : TypedTurn → Turn
+abbrev pub turn_of : TypedTurn → SessionTurn
 turn_of turn = record { load = load_of (turn_keys turn); count = SLICE }
 
 -- the lines of turns, in their order
@@ -65,6 +65,6 @@ TypedTurns last rest (turn ∷ turns) s states written t =
     (record m { terms = terminals_emptied m.terms }) later more t
 
 -- what is kept of a session are the keys of its turns, and a slice for each
-pub record KeepsTurns (typed : Typed) (turns : List TypedTurn) : Type 0 where
+pub record KeepsTypedTurns (typed : Typed) (turns : List TypedTurn) : Type 0 where
   pub keys : kept_keys typed ≡ flat_map turn_keys turns
   pub slices : typed.slices ≡ length turns

@@ -24,5 +24,5 @@ pub record WaitsForLine (end : SliceEnd) (s : State) : Type 0 where
   pub none_left : term_keys s.terms ≡ []
 
 -- no slice can follow: no process lives, or the last tick would come
-abbrev pub IsOver : State → Type 0
-IsOver s = (has_living s ≡ false) ⊎ (s.processes.tick + 1 ≡ LAST_TICK)
+abbrev pub IsRunOver : State → Type 0
+IsRunOver s = (has_living s ≡ false) ⊎ (s.processes.tick + 1 ≡ LAST_TICK)

@@ -7,7 +7,7 @@ ghost use Rattle.boot_run.specs.Machine.{CanRun, history_left};
 ghost use Rattle.boot_run.specs.World.{OnWorld};
 ghost use Rattle.console_run.specs.Typed.{IsUntyped};
 ghost use Rattle.console_run.specs.Keyboard.{keyboard_state};
-ghost use Rattle.console_run.specs.Seen.{AreAsMany};
+ghost use Rattle.console_run.specs.Seen.{KeepsDeviceCounts};
 ghost use Rattle.console_run.specs.Session.{SessionRuns};
 
 use crate::console::Console;
@@ -58,7 +58,7 @@ pub fn run_session<H: Host, K: Keyboard<H> + Drop>(
         (keyboard_state K.Keyboard console.new.keyboard))
         H.Host host.old host.new BlockDriver-box CharDriver-box devices.old devices.new }
     ensures notes_kept { notes_of H.Host host.new ≡ notes_of H.Host host.old }
-    ensures places { AreAsMany devices.old devices.new }
+    ensures places { KeepsDeviceCounts devices.old devices.new }
 {
     let mut kernel = match Kernel::new(console.alloc, config, file, devices) {
         Ok(kernel) => kernel,

@@ -3,7 +3,7 @@
 ghost use Rattle.std.specs.Prelude.{◌≡◌, ◌++◌, ◌<◌, ◌+◌, ◌-◌, length, All, IfOk, IsFalse, IsTrue, OnOk, decimal};
 ghost use Rattle.std.specs.List.{flat_map};
 ghost use Rattle.script_text.specs.Script.{AreKeys};
-ghost use Rattle.console_run.specs.Texts.{byte_word, script_line, script_text, slice_text, FitsTexts, HasBytes, IsByte};
+ghost use Rattle.console_run.specs.Texts.{byte_word, script_line, script_text, slice_text, FitsTexts, HasTypedBytes, IsByte};
 ghost use Rattle.console_run.specs.Texts as model;
 ghost use Rattle.console_run.specs.Typed.{keys_of_parts};
 
@@ -68,7 +68,7 @@ fn room_after(line: &TypedPart, room: u64) -> u64
 /// The script of a session: a line for each of its parts.
 pub fn script_of(alloc: Global, typed: &Typed) -> Result<Vec<u8>, AllocError>
     ensures text { IfOk result (λ text. text.items ≡ script_text typed.now) }
-    ensures bytes { OnOk result (All HasBytes typed.now.parts.items) }
+    ensures bytes { OnOk result (All HasTypedBytes typed.now.parts.items) }
 {
     let mut text = Vec::new(alloc);
     push_lines(&mut text, typed.parts.as_slice())?;
@@ -79,7 +79,7 @@ pub fn script_of(alloc: Global, typed: &Typed) -> Result<Vec<u8>, AllocError>
 fn push_lines(text: &mut Vec<u8>, lines: &[TypedPart]) -> Result<(), AllocError>
     ensures lines { OnOk result
         (text.new.items ≡ text.old.items ++ flat_map script_line lines.now) }
-    ensures bytes { OnOk result (All HasBytes lines.now) }
+    ensures bytes { OnOk result (All HasTypedBytes lines.now) }
 {
     for line in lines {
         push_line(text, line)?;
@@ -90,7 +90,7 @@ fn push_lines(text: &mut Vec<u8>, lines: &[TypedPart]) -> Result<(), AllocError>
 /// Appends the line of a script for a part.
 fn push_line(text: &mut Vec<u8>, line: &TypedPart) -> Result<(), AllocError>
     ensures line { OnOk result (text.new.items ≡ text.old.items ++ script_line line.now) }
-    ensures bytes { OnOk result (HasBytes line.now) }
+    ensures bytes { OnOk result (HasTypedBytes line.now) }
 {
     push_number(text, line.tick)?;
     text.extend_from_slice(b" TERM")?;

@@ -3,10 +3,10 @@
 ghost use Rattle.std.specs.Prelude.{◌≡◌, ◌<◌, ◌+◌};
 ghost use Rattle.os9_base.specs.declared.limits.TheConstants.{LAST_TICK};
 ghost use Rattle.os9_kernel.specs.Outside.{outside};
-ghost use Rattle.os9_kernel.specs.Tie.{Stands, ticks};
+ghost use Rattle.os9_kernel.specs.Tie.{RepresentsSomeState, ticks};
 ghost use Rattle.os9_words.specs.Notes.{notes_of};
 ghost use Rattle.boot_run.specs.World.{OnWorld};
-ghost use Rattle.console_run.specs.Seen.{AreAsMany};
+ghost use Rattle.console_run.specs.Seen.{KeepsDeviceCounts};
 ghost use Rattle.console_run.specs.Turn.{RunsTurn};
 
 use crate::typed::SLICE;
@@ -28,11 +28,12 @@ pub(crate) fn run_turn<H: Host>(
     devices: &mut Devices,
 ) -> Result<SliceEnd, RunFault>
     requires early { ticks kernel.old + 1 < LAST_TICK }
-    requires stands { Stands kernel.old (outside BlockDriver-box CharDriver-box devices.old) }
+    requires stands { RepresentsSomeState kernel.old
+        (outside BlockDriver-box CharDriver-box devices.old) }
     ensures turn { OnWorld (RunsTurn kernel.old kernel.new result)
         H.Host host.old host.new BlockDriver-box CharDriver-box devices.old devices.new }
     ensures notes_kept { notes_of H.Host host.new ≡ notes_of H.Host host.old }
-    ensures places { AreAsMany devices.old devices.new }
+    ensures places { KeepsDeviceCounts devices.old devices.new }
 {
     let end = kernel.slice(SLICE, devices);
     if let SliceEnd::NoMemory = end {

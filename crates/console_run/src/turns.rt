@@ -5,11 +5,11 @@ ghost use Rattle.device_table.specs.Seen.{terminals_seen};
 ghost use Rattle.boot_run.specs.Loaded.{AreUnloaded};
 ghost use Rattle.boot_run.specs.World.{OnWorld};
 ghost use Rattle.os9_kernel.specs.Outside.{outside};
-ghost use Rattle.os9_kernel.specs.Tie.{Stands, ticks};
+ghost use Rattle.os9_kernel.specs.Tie.{RepresentsSomeState, ticks};
 ghost use Rattle.os9_words.specs.Notes.{notes_of};
 ghost use Rattle.console_run.specs.Typed.{IsUntyped};
 ghost use Rattle.console_run.specs.Keyboard.{keyboard_state};
-ghost use Rattle.console_run.specs.Seen.{AreAsMany};
+ghost use Rattle.console_run.specs.Seen.{KeepsDeviceCounts};
 ghost use Rattle.console_run.specs.Session.{RunsTurns};
 
 use crate::asking::Asked;
@@ -51,13 +51,14 @@ pub(crate) fn run_turns<H: Host, K: Keyboard<H> + Drop>(
     requires begins { ticks kernel.old ≡ 0 }
     requires untyped { IsUntyped console.old.typed }
     requires unloaded { AreUnloaded (terminals_seen CharDriver-box devices.old) }
-    requires stands { Stands kernel.old (outside BlockDriver-box CharDriver-box devices.old) }
+    requires stands { RepresentsSomeState kernel.old
+        (outside BlockDriver-box CharDriver-box devices.old) }
     ensures ran { OnWorld (RunsTurns console.new.typed kernel.old kernel.new result
         (keyboard_state K.Keyboard console.old.keyboard)
         (keyboard_state K.Keyboard console.new.keyboard))
         H.Host host.old host.new BlockDriver-box CharDriver-box devices.old devices.new }
     ensures notes_kept { notes_of H.Host host.new ≡ notes_of H.Host host.old }
-    ensures places { AreAsMany devices.old devices.new }
+    ensures places { KeepsDeviceCounts devices.old devices.new }
 {
     console.line = Vec::new(console.alloc);
     console.place = 0;

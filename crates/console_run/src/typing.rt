@@ -3,8 +3,8 @@
 ghost use Rattle.std.specs.Prelude.{◌<◌, ◌+◌, vec_len};
 ghost use Rattle.os9_base.specs.declared.limits.TheConstants.{LAST_TICK};
 ghost use Rattle.os9_kernel.specs.Outside.{outside};
-ghost use Rattle.os9_kernel.specs.Tie.{Stands, ticks};
-ghost use Rattle.console_run.specs.Seen.{AreAsMany};
+ghost use Rattle.os9_kernel.specs.Tie.{RepresentsSomeState, ticks};
+ghost use Rattle.console_run.specs.Seen.{KeepsDeviceCounts};
 ghost use Rattle.console_run.specs.Turn.{console_state, HasAsked};
 
 use crate::asking::{Asked, ask_line};
@@ -30,12 +30,13 @@ pub(crate) fn type_line<H: Host, K: Keyboard<H> + Drop>(
 ) -> Asked
     requires early { ticks kernel.now + 1 < LAST_TICK }
     requires some { 0 < vec_len devices.old.terms }
-    requires stands { Stands kernel.now (outside BlockDriver-box CharDriver-box devices.old) }
+    requires stands { RepresentsSomeState kernel.now
+        (outside BlockDriver-box CharDriver-box devices.old) }
     ensures asked { HasAsked last kernel.now (H.bytes_out host.now) result
         (console_state K.Keyboard console.old) (console_state K.Keyboard console.new)
         (outside BlockDriver-box CharDriver-box devices.old)
         (outside BlockDriver-box CharDriver-box devices.new) }
-    ensures places { AreAsMany devices.old devices.new }
+    ensures places { KeepsDeviceCounts devices.old devices.new }
 {
     if !waits_for_line(console.alloc, kernel, last, devices) {
         return Asked::GoesOn;

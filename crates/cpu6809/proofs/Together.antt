@@ -2,7 +2,7 @@
 use Rattle.std.proofs.Common.{◌≡◌, ◌≢◌, ℕ, zero, suc, ◌+◌, ◌-◌, ◌<◌, ◌≤◌, ◌==◌, ◌⊎◌, true, false, Some, IsSome, is_some, List, [], ◌∷◌, length, take, nat_le, nat_lt, slice_get, refl, ap, sym, ◌∙◌, inl, inr, arith}
 use Rattle.std.proofs.Math.Path.{fun_ext}
 use Rattle.std.proofs.lemmas.Bool.{cond-true, cond-false, cases_eq, cases_lt, eq-eqb, ne_eqb, lt-ltb, le-ltb, le-leb, lt-leb, and_from, and_left, and_right}
-use Rattle.os9_base.specs.Cells.{Cells, put_cell, store_cells, is_in_range, Holds}
+use Rattle.os9_base.specs.Cells.{Cells, put_cell, store_cells, is_in_range, HoldsBytes}
 use Rattle.cpu_model.specs.Registers.{wrapped}
 use Rattle.cpu_model.specs.Effects.{bytes_from}
 use Rattle.cpu_model.specs.Step.{window, all_named, write_cells}
@@ -12,13 +12,13 @@ use Rattle.cpu6809.proofs.Writes.{are_both}
 -- ---- bytes that are read
 
 pub window_together : (cells : Cells) (at n : ℕ) (bytes : List ℕ) → n ≤ length bytes → at + length bytes ≤ 65536
-    → Holds cells at bytes → window cells at n ≡ take n bytes
+    → HoldsBytes cells at bytes → window cells at n ≡ take n bytes
 unfolding window
 window_together cells at zero bytes enough fits held = refl
 window_together cells at (suc n) [] enough fits held = absurd (omega arith)
 window_together cells at (suc n) (byte ∷ bytes) enough fits held =
     let here : cells at ≡ Some byte = ap cells (omega arith) ∙ held 0 (omega arith) in
-    let next : Holds cells (wrapped (at + 1)) bytes = λ k within. ap cells (omega arith) ∙ held (suc k) (omega arith) in
+    let next : HoldsBytes cells (wrapped (at + 1)) bytes = λ k within. ap cells (omega arith) ∙ held (suc k) (omega arith) in
     window_some cells at n byte here
     ∙ ap (λ rest. byte ∷ rest) (window_together cells (wrapped (at + 1)) n bytes (omega arith) (omega arith) next)
 

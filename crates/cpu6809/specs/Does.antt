@@ -7,8 +7,8 @@ use Rattle.cpu_model.specs.declared.stop.Stop.TheVariants.{Next, Call, Abort}
 use Rattle.cpu_model.specs.Step.{Outcome, Done, Calls, Aborts, write_cells}
 
 -- as `Leaves`, but at an abort the registers can be any
-abbrev pub Does : Outcome → Stop → Regs → Cells → Cells → Type 0
-Does (Done effect) stop after cells now =
+abbrev pub HasStepOutcome : Outcome → Stop → Regs → Cells → Cells → Type 0
+HasStepOutcome (Done effect) stop after cells now =
     (stop ≡ Next) × (after ≡ effect.regs) × (now ≡ write_cells cells effect.writes)
-Does (Calls code past_it) stop after cells now = (stop ≡ Call code) × (after ≡ past_it) × (now ≡ cells)
-Does (Aborts status) stop after cells now = (stop ≡ Abort status) × (now ≡ cells)
+HasStepOutcome (Calls code past_it) stop after cells now = (stop ≡ Call code) × (after ≡ past_it) × (now ≡ cells)
+HasStepOutcome (Aborts status) stop after cells now = (stop ≡ Abort status) × (now ≡ cells)

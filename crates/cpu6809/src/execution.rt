@@ -2,7 +2,7 @@ ghost use Rattle.std.specs.Prelude.{◌≡◌, ◌↔◌, IfOk};
 ghost use Rattle.cpu_model.specs.Reading.{reading};
 ghost use Rattle.cpu_model.specs.Step as model;
 ghost use Rattle.cpu_table.specs.Decoded.{reading_of, HasItsRow};
-ghost use Rattle.cpu6809.specs.Does.{Does};
+ghost use Rattle.cpu6809.specs.Does.{HasStepOutcome};
 ghost use Rattle.cpu6809.specs.Running.{Runs};
 
 use crate::effect::{abx, branch, daa, exchange, mul, sex, transfer, unary_on};
@@ -40,7 +40,7 @@ fn fetch<B: Bus>(b: &B, mut at: u16) -> ArrayVec<u8, LONGEST>
 
 /// SWI2: the code byte is next.
 fn system_call<B: Bus>(r: &mut Regs, b: &B) -> Stop
-    ensures { Does (model.call_outcome r.old (B.cells b.now r.old.pc)) result r.new
+    ensures { HasStepOutcome (model.call_outcome r.old (B.cells b.now r.old.pc)) result r.new
         (B.cells b.now) (B.cells b.now) }
 {
     match b.read(r.pc) {
@@ -56,7 +56,7 @@ fn system_call<B: Bus>(r: &mut Regs, b: &B) -> Stop
 #[inline(always)]
 #[tactic(auto, unfolding(cpu_model::specs::Step::outcome_of, cpu_model::specs::Step::effect_of))]
 fn execute<B: Bus>(r: &mut Regs, b: &mut B, i: Instr, row: Row) -> Stop
-    ensures step { Does
+    ensures step { HasStepOutcome
         (model.outcome_of (B.cells b.old) r.old i row.1 row.0)
         result r.new (B.cells b.old) (B.cells b.new) }
     ensures beside { B.same_beside b.old b.new }
@@ -129,7 +129,7 @@ fn instruction_at<B: Bus>(b: &B, at: u16) -> Result<Decoded, DecodeFault>
 #[inline(always)]
 #[tactic(auto, unfolding(cpu_model::specs::Step::step_of))]
 fn carry_out<B: Bus>(r: &mut Regs, b: &mut B) -> Stop
-    ensures step { Does
+    ensures step { HasStepOutcome
         (model.step_of (B.cells b.old) r.old)
         result r.new (B.cells b.old) (B.cells b.new) }
     ensures beside { B.same_beside b.old b.new }
@@ -152,7 +152,7 @@ fn carry_out<B: Bus>(r: &mut Regs, b: &mut B) -> Stop
 /// and over 227. After an `Abort` nothing has changed.
 #[inline(always)]
 pub fn step<B: Bus>(r: &mut Regs, b: &mut B) -> Stop
-    ensures step { model.Leaves
+    ensures step { model.LeavesCells
         (model.step_of (B.cells b.old) r.old)
         result r.old r.new (B.cells b.old) (B.cells b.new) }
     ensures beside { B.same_beside b.old b.new }

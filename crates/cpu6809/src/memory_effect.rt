@@ -2,7 +2,7 @@ ghost use Rattle.std.specs.Prelude.{◌≡◌, option_map, option_and_then};
 ghost use Rattle.cpu_model.specs.Effects as model;
 ghost use Rattle.cpu_model.specs.Places as places;
 ghost use Rattle.cpu_model.specs.Step.{outcome_of_effect};
-ghost use Rattle.cpu6809.specs.Does.{Does};
+ghost use Rattle.cpu6809.specs.Does.{HasStepOutcome};
 
 use crate::bytes::{write_byte, write_word};
 use crate::effect::{binary_on, lea, word_on};
@@ -20,7 +20,7 @@ use os9_base::registers::Regs;
 /// NEG to CLR of the byte at the operand's address. TST writes nothing.
 #[inline(always)]
 pub(crate) fn unary_at<B: Bus>(r: &mut Regs, b: &mut B, by: Addressing, operation: Unary) -> Stop
-    ensures step { Does
+    ensures step { HasStepOutcome
         (outcome_of_effect (B.cells b.old) (option_and_then
         (λ p. model.unary_effect_at (B.cells b.old) operation p)
         (places.place_of (B.cells b.old) r.old by.mode by.i)))
@@ -47,7 +47,7 @@ pub(crate) fn unary_at<B: Bus>(r: &mut Regs, b: &mut B, by: Addressing, operatio
 /// STA and STB.
 #[inline(always)]
 pub(crate) fn store<B: Bus>(r: &mut Regs, b: &mut B, by: Addressing, from: Accumulator) -> Stop
-    ensures step { Does
+    ensures step { HasStepOutcome
         (outcome_of_effect (B.cells b.old) (option_map (λ p. model.store from p)
         (places.place_of (B.cells b.old) r.old by.mode by.i)))
         result r.new (B.cells b.old) (B.cells b.new) }
@@ -73,7 +73,7 @@ pub(crate) fn store_word<B: Bus>(
     by: Addressing,
     from: WordRegister,
 ) -> Stop
-    ensures step { Does
+    ensures step { HasStepOutcome
         (outcome_of_effect (B.cells b.old) (option_map (λ p. model.store_word from p)
         (places.place_of (B.cells b.old) r.old by.mode by.i)))
         result r.new (B.cells b.old) (B.cells b.new) }
@@ -100,7 +100,7 @@ pub(crate) fn binary_from<B: Bus>(
     operation: Binary,
     on: Accumulator,
 ) -> Stop
-    ensures { Does
+    ensures { HasStepOutcome
         (outcome_of_effect (B.cells b.now) (option_map
         (λ x. model.changes (model.binary_on operation on x))
         (places.byte_operand (B.cells b.now) r.old by.mode by.i)))
@@ -122,7 +122,7 @@ pub(crate) fn word_from<B: Bus>(
     operation: WordBinary,
     on: WordRegister,
 ) -> Stop
-    ensures { Does
+    ensures { HasStepOutcome
         (outcome_of_effect (B.cells b.now) (option_map
         (λ x. model.changes (model.word_on operation on x))
         (places.word_operand (B.cells b.now) r.old by.mode by.i)))
@@ -138,7 +138,7 @@ pub(crate) fn word_from<B: Bus>(
 /// LEAX to LEAU.
 #[inline(always)]
 pub(crate) fn lea_of<B: Bus>(r: &mut Regs, b: &B, by: Addressing, to: IndexRegister) -> Stop
-    ensures { Does
+    ensures { HasStepOutcome
         (outcome_of_effect (B.cells b.now) (option_map (λ p. model.changes (model.lea to p))
         (places.place_of (B.cells b.now) r.old by.mode by.i)))
         result r.new (B.cells b.now) (B.cells b.now) }
@@ -153,7 +153,7 @@ pub(crate) fn lea_of<B: Bus>(r: &mut Regs, b: &B, by: Addressing, to: IndexRegis
 /// JMP.
 #[inline(always)]
 pub(crate) fn jump<B: Bus>(r: &mut Regs, b: &B, by: Addressing) -> Stop
-    ensures { Does
+    ensures { HasStepOutcome
         (outcome_of_effect (B.cells b.now) (option_map (model.jump)
         (places.place_of (B.cells b.now) r.old by.mode by.i)))
         result r.new (B.cells b.now) (B.cells b.now) }
@@ -168,7 +168,7 @@ pub(crate) fn jump<B: Bus>(r: &mut Regs, b: &B, by: Addressing) -> Stop
 /// JSR.
 #[inline(always)]
 pub(crate) fn enter_at<B: Bus>(r: &mut Regs, b: &mut B, by: Addressing) -> Stop
-    ensures step { Does
+    ensures step { HasStepOutcome
         (outcome_of_effect (B.cells b.old) (option_map (λ p. model.enters p.regs p.at)
         (places.place_of (B.cells b.old) r.old by.mode by.i)))
         result r.new (B.cells b.old) (B.cells b.new) }

@@ -4,7 +4,7 @@ ghost use Rattle.cpu_model.specs.Effects as model;
 ghost use Rattle.cpu_model.specs.Flags.{has_bit};
 ghost use Rattle.cpu_model.specs.Places.{place};
 ghost use Rattle.cpu_model.specs.Step.{outcome_of_effect};
-ghost use Rattle.cpu6809.specs.Does.{Does};
+ghost use Rattle.cpu6809.specs.Does.{HasStepOutcome};
 
 use crate::bytes::{word_at, write, write_word};
 use crate::register::{other_pointer, register, set_register, set_stack_pointer, stack_pointer};
@@ -21,8 +21,8 @@ const FRAME: usize = 12;
 /// A subroutine is entered: the next instruction's address is pushed on the stack.
 #[inline(always)]
 pub(crate) fn enter<B: Bus>(r: &mut Regs, b: &mut B, target: u16) -> Stop
-    ensures step { Does (outcome_of_effect (B.cells b.old) (Some (model.enters r.old target)))
-        result r.new (B.cells b.old) (B.cells b.new) }
+    ensures step { HasStepOutcome (outcome_of_effect (B.cells b.old)
+        (Some (model.enters r.old target))) result r.new (B.cells b.old) (B.cells b.new) }
     ensures beside { B.same_beside b.old b.new }
 {
     let at = r.s.wrapping_sub(2);
@@ -101,8 +101,8 @@ fn frame(r: &Regs, stack: Stack, mask: u8) -> ArrayVec<u8, FRAME>
 
 /// PSHS and PSHU.
 pub(crate) fn push<B: Bus>(r: &mut Regs, b: &mut B, stack: Stack, mask: u8) -> Stop
-    ensures step { Does (outcome_of_effect (B.cells b.old) (Some (model.push r.old stack mask)))
-        result r.new (B.cells b.old) (B.cells b.new) }
+    ensures step { HasStepOutcome (outcome_of_effect (B.cells b.old)
+        (Some (model.push r.old stack mask))) result r.new (B.cells b.old) (B.cells b.new) }
     ensures beside { B.same_beside b.old b.new }
 {
     let bytes = frame(r, stack, mask);
@@ -187,7 +187,7 @@ fn pulled<B: Bus>(b: &B, r: &mut Regs, stack: Stack, mask: u8) -> bool
 
 /// PULS and PULU.
 pub(crate) fn pull<B: Bus>(r: &mut Regs, b: &B, stack: Stack, mask: u8) -> Stop
-    ensures { Does
+    ensures { HasStepOutcome
         (outcome_of_effect (B.cells b.now) (option_map model.changes
         (model.pull (B.cells b.now) r.old stack mask)))
         result r.new (B.cells b.now) (B.cells b.now) }
@@ -200,7 +200,7 @@ pub(crate) fn pull<B: Bus>(r: &mut Regs, b: &B, stack: Stack, mask: u8) -> Stop
 
 /// RTI: E of the CC on the stack says whether all registers are there, or CC and PC alone.
 pub(crate) fn return_from_interrupt<B: Bus>(r: &mut Regs, b: &B) -> Stop
-    ensures { Does
+    ensures { HasStepOutcome
         (outcome_of_effect (B.cells b.now) (option_map model.changes
         (model.return_from_interrupt (B.cells b.now) r.old)))
         result r.new (B.cells b.now) (B.cells b.now) }
@@ -215,7 +215,7 @@ pub(crate) fn return_from_interrupt<B: Bus>(r: &mut Regs, b: &B) -> Stop
 /// RTS.
 #[inline(always)]
 pub(crate) fn return_from_subroutine<B: Bus>(r: &mut Regs, b: &B) -> Stop
-    ensures { Does
+    ensures { HasStepOutcome
         (outcome_of_effect (B.cells b.now) (option_map model.changes
         (model.return_from_subroutine (B.cells b.now) r.old)))
         result r.new (B.cells b.now) (B.cells b.now) }

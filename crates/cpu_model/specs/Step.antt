@@ -115,8 +115,8 @@ write_cells cells [] = cells
 write_cells cells (w ∷ ws) = write_cells (put_cell cells w.0 w.1) ws
 
 -- how the step ended, the registers before and after, and the cells before and after
-abbrev pub Leaves : Outcome → Stop → Regs → Regs → (ℕ → Option ℕ) → (ℕ → Option ℕ) → Type 0
-Leaves (Done effect) stop r after cells now =
+abbrev pub LeavesCells : Outcome → Stop → Regs → Regs → (ℕ → Option ℕ) → (ℕ → Option ℕ) → Type 0
+LeavesCells (Done effect) stop r after cells now =
     (stop ≡ Next) × (after ≡ effect.regs) × (now ≡ write_cells cells effect.writes)
-Leaves (Calls code past_it) stop r after cells now = (stop ≡ Call code) × (after ≡ past_it) × (now ≡ cells)
-Leaves (Aborts status) stop r after cells now = (stop ≡ Abort status) × (after ≡ r) × (now ≡ cells)
+LeavesCells (Calls code past_it) stop r after cells now = (stop ≡ Call code) × (after ≡ past_it) × (now ≡ cells)
+LeavesCells (Aborts status) stop r after cells now = (stop ≡ Abort status) × (after ≡ r) × (now ≡ cells)

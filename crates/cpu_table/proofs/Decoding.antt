@@ -7,7 +7,7 @@ use Rattle.std.proofs.lemmas.List.Elements.{All-from_recursion}
 use Rattle.cpu_model.specs.declared.instruction.Instr.{Instr}
 use Rattle.cpu_model.specs.declared.instruction.DecodeFault.TheVariants.{NotDocumented, Short}
 use Rattle.cpu_model.specs.Reading.{Reading, reading}
-use Rattle.cpu_table.specs.Spelling.{IsDocumented, spelling, plain, IsPlain, BeginsWith, IsBegun, IsSpelled}
+use Rattle.cpu_table.specs.Spelling.{IsDocumented, spelling, plain, IsPlainInstr, BeginsWithInstruction, IsBegun, IsSpelled}
 use Rattle.cpu_table.proofs.Plain.{front_plain}
 use Rattle.cpu_table.proofs.Read.{spelling_read}
 use Rattle.cpu_table.proofs.Classes.{AreBytes, is_spelled, is_begun, is_wrong, class}
@@ -15,7 +15,7 @@ use Rattle.cpu_table.proofs.Classes.{AreBytes, is_spelled, is_begun, is_wrong, c
 -- ---- what is found is spelled so
 
 spelled_front : (bytes : List ℕ) (i : Instr) (count : ℕ) (written : Instr) (after : List ℕ) → bytes ≡ spelling written ++ after →
-    IsDocumented written → reading bytes ≡ Ok (i, count) → BeginsWith bytes i count
+    IsDocumented written → reading bytes ≡ Ok (i, count) → BeginsWithInstruction bytes i count
 spelled_front bytes i count written after e d r =
     let read : reading bytes ≡ Ok (plain written, length (spelling written)) = rw e (spelling_read written after d) in
     let both : ◌≡◌ {A = Instr × ℕ} (i, count) (plain written, length (spelling written)) = cc in
@@ -34,7 +34,7 @@ spelled_front bytes i count written after e d r =
 not_read : (bytes : List ℕ) → ((after : List ℕ) → reading (bytes ++ after) ≡ Err NotDocumented) → reading bytes ≡ Err NotDocumented
 not_read bytes wrong = rw append-nil at (wrong [])
 
-pub found : (bytes : List ℕ) → AreBytes bytes → (i : Instr) (count : ℕ) → reading bytes ≡ Ok (i, count) → BeginsWith bytes i count
+pub found : (bytes : List ℕ) → AreBytes bytes → (i : Instr) (count : ℕ) → reading bytes ≡ Ok (i, count) → BeginsWithInstruction bytes i count
 found bytes h i count r =
     elim (class bytes h) [
       | is_spelled written after e d ↦ spelled_front bytes i count written after e d r
@@ -44,7 +44,7 @@ found bytes h i count r =
 
 -- ---- whatever is spelled so is found
 
-pub only : (bytes : List ℕ) (i : Instr) (count : ℕ) → BeginsWith bytes i count → reading bytes ≡ Ok (i, count)
+pub only : (bytes : List ℕ) (i : Instr) (count : ℕ) → BeginsWithInstruction bytes i count → reading bytes ≡ Ok (i, count)
 only bytes i count b =
     let written : Instr = b.spells.written in
     let front : bytes ≡ spelling written ++ drop count bytes =
@@ -128,10 +128,10 @@ bytes_fit [] h = tt
 bytes_fit (b ∷ bytes) h = (h 0, bytes_fit bytes (λ k. h (suc k)))
 
 pub ok_found : (bytes : List ℕ) → AreBytes bytes → (result : Reading) → result ≡ reading bytes →
-    IfOk result (λ f. BeginsWith bytes f.0 f.1)
+    IfOk result (λ f. BeginsWithInstruction bytes f.0 f.1)
 ok_found bytes h (Ok f) e = found bytes h f.0 f.1 (sym e)
 ok_found bytes h (Err fault) e = tt
 
-pub ok_plain : (bytes : List ℕ) → AreBytes bytes → (result : Reading) → result ≡ reading bytes → IfOk result (λ f. IsPlain f.0)
+pub ok_plain : (bytes : List ℕ) → AreBytes bytes → (result : Reading) → result ≡ reading bytes → IfOk result (λ f. IsPlainInstr f.0)
 ok_plain bytes h (Ok f) e = front_plain bytes h f.0 f.1 (found bytes h f.0 f.1 (sym e))
 ok_plain bytes h (Err fault) e = tt

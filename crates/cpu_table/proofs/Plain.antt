@@ -15,7 +15,7 @@ use Rattle.cpu_model.specs.declared.instruction.Tail.{Tail}
 use Rattle.cpu_model.specs.declared.instruction.Instr.{Instr}
 use Rattle.cpu_model.specs.Table.{row, postbyte, form_lines}
 use Rattle.cpu_model.specs.Reading.{extent_of_form}
-use Rattle.cpu_table.specs.Spelling.{HasExtent, HasOperand, IsDocumented, prefix, tail_bytes, spelling, plain_post, plain, IsPlain, BeginsWith}
+use Rattle.cpu_table.specs.Spelling.{HasExtent, HasOperand, IsDocumented, prefix, tail_bytes, spelling, plain_post, plain, IsPlainInstr, BeginsWithInstruction}
 use Rattle.cpu_table.proofs.Classes.{AreBytes}
 
 -- two functions that agree on the list of all bytes agree on each
@@ -73,12 +73,12 @@ post_byte Base opcode (Some post) tail after h = h.1.0
 post_byte Ten opcode (Some post) tail after h = h.1.1.0
 post_byte Eleven opcode (Some post) tail after h = h.1.1.0
 
-is_plain : (i : Instr) → IsDocumented i → IfSome i.post (λ p. p < 256) → IsPlain (plain i)
+is_plain : (i : Instr) → IsDocumented i → IfSome i.post (λ p. p < 256) → IsPlainInstr (plain i)
 is_plain i d k =
     (row_plain (row i.page i.opcode) i.post i.tail k d, ap (λ post. record i { post = post }) (post_twice i.post k))
 
 -- what is spelled at the front of bytes is plain
-pub front_plain : (bytes : List ℕ) → AreBytes bytes → (i : Instr) (count : ℕ) → BeginsWith bytes i count → IsPlain i
+pub front_plain : (bytes : List ℕ) → AreBytes bytes → (i : Instr) (count : ℕ) → BeginsWithInstruction bytes i count → IsPlainInstr i
 front_plain bytes h i count b =
     let written : Instr = b.spells.written in
     let front : bytes ≡ spelling written ++ drop count bytes =

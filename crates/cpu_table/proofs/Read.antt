@@ -13,7 +13,7 @@ use Rattle.cpu_model.specs.declared.instruction.Instr.{Instr}
 use Rattle.cpu_model.specs.Table.{row, postbyte, plain_postbyte}
 use Rattle.cpu_model.specs.Reading.{Extent, none, byte, word, extent_of_form, Reading, read_tail, read_form, read_operand, read_row, reading}
 use Rattle.cpu_model.specs.BasePage.{base_page}
-use Rattle.cpu_table.specs.Spelling.{HasExtent, HasOperand, IsDocumented, prefix, tail_bytes, spelling, plain_post, plain, IsPlain}
+use Rattle.cpu_table.specs.Spelling.{HasExtent, HasOperand, IsDocumented, prefix, tail_bytes, spelling, plain_post, plain, IsPlainInstr}
 
 -- ---- what is spelled is read
 
@@ -127,5 +127,5 @@ spelling_read i rest h =
     (row_read i.page i.opcode (length (prefix i.page) + 1) (row i.page i.opcode) i.post i.tail rest h)
 
 -- and a plain one as itself
-pub plain_read : (i : Instr) (rest : List ℕ) → IsPlain i → reading (spelling i ++ rest) ≡ Ok (i, length (spelling i))
+pub plain_read : (i : Instr) (rest : List ℕ) → IsPlainInstr i → reading (spelling i ++ rest) ≡ Ok (i, length (spelling i))
 plain_read i rest p = spelling_read i rest p.0 ∙ ap (λ j. Ok (j, length (spelling i))) p.1

@@ -61,8 +61,8 @@ abbrev pub plain : Instr → Instr
 plain i = record i { post = option_map plain_post i.post }
 
 -- an instruction that decoding can return
-abbrev pub IsPlain : Instr → Type 0
-IsPlain i = IsDocumented i × (plain i ≡ i)
+abbrev pub IsPlainInstr : Instr → Type 0
+IsPlainInstr i = IsDocumented i × (plain i ≡ i)
 
 -- exactly these bytes spell the instruction
 pub record Spells (i : Instr) (bytes : List ℕ) : Type 0 where
@@ -72,7 +72,7 @@ pub record Spells (i : Instr) (bytes : List ℕ) : Type 0 where
   pub plainly : i ≡ plain written
 
 -- the first `count` of these bytes spell the instruction
-pub record BeginsWith (bytes : List ℕ) (i : Instr) (count : ℕ) : Type 0 where
+pub record BeginsWithInstruction (bytes : List ℕ) (i : Instr) (count : ℕ) : Type 0 where
   pub enough : count ≤ length bytes
   pub spells : Spells i (take count bytes)
 
@@ -86,4 +86,4 @@ pub record IsBegun (bytes : List ℕ) : Type 0 where
 
 -- the bytes begin with the spelling of some instruction
 abbrev pub IsSpelled : List ℕ → Type 0
-IsSpelled bytes = (i : Instr) × (count : ℕ) × BeginsWith bytes i count
+IsSpelled bytes = (i : Instr) × (count : ℕ) × BeginsWithInstruction bytes i count

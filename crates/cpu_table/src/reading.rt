@@ -3,7 +3,7 @@ ghost use Rattle.cpu_model.specs.Reading as model;
 ghost use Rattle.cpu_model.specs.Table as tables;
 ghost use Rattle.cpu_model.specs.declared.instruction.Instr.{Instr};
 ghost use Rattle.cpu_table.specs.Decoded.{BeginsWithHead, reading_of, HasItsRow};
-ghost use Rattle.cpu_table.specs.Spelling.{BeginsWith, IsPlain, IsBegun, IsSpelled};
+ghost use Rattle.cpu_table.specs.Spelling.{BeginsWithInstruction, IsPlainInstr, IsBegun, IsSpelled};
 
 use crate::table::{postbyte, row};
 use cpu_model::indexing::{Form, Indexing};
@@ -273,9 +273,10 @@ pub fn decode(bytes: &[u8]) -> Result<(Instr, u8), DecodeFault>
     ensures value { result ≡ model.reading bytes.now }
 
     // The result is documented and spelled so, and each instruction spelled so is the result.
-    ensures found { IfOk result (λ found. BeginsWith bytes.now found.0 found.1) }
-    ensures plain { IfOk result (λ found. IsPlain found.0) }
-    ensures only { (i : Instr) (count : ℕ) → BeginsWith bytes.now i count → result ≡ Ok (i, count) }
+    ensures found { IfOk result (λ found. BeginsWithInstruction bytes.now found.0 found.1) }
+    ensures plain { IfOk result (λ found. IsPlainInstr found.0) }
+    ensures only { (i : Instr) (count : ℕ) → BeginsWithInstruction bytes.now i count → result
+        ≡ Ok (i, count) }
 
     ensures short { (result ≡ Err DecodeFault.Short) ↔ IsBegun bytes.now }
     ensures not_documented { (result ≡ Err DecodeFault.NotDocumented)

@@ -1,6 +1,6 @@
 ghost use Rattle.std.specs.Prelude.{◌≡◌, ◌+◌, ◌<◌, ◌≤◌, List, ℕ, [], ◌∷◌, ◌++◌, length, take, Ok, option_to_list};
 ghost use Rattle.cpu_model.specs.Reading.{reading};
-ghost use Rattle.cpu_table.specs.Spelling.{spelling, prefix, tail_bytes, IsPlain};
+ghost use Rattle.cpu_table.specs.Spelling.{spelling, prefix, tail_bytes, IsPlainInstr};
 
 use cpu_model::instruction::{Instr, Page, Tail};
 
@@ -75,7 +75,7 @@ fn with_tail(spelled: Spelling, tail: Tail) -> Spelling
 pub fn spell(i: &Instr) -> Spelling
     ensures bytes { take result.len result.bytes ≡ spelling i.now }
     ensures len { result.len ≡ length (spelling i.now) }
-    ensures read_again { IsPlain i.now → (rest : List ℕ)
+    ensures read_again { IsPlainInstr i.now → (rest : List ℕ)
         → reading (spelling i.now ++ rest) ≡ Ok (i.now, result.len) }
 {
     let opcode = with_byte(of_page(i.page), i.opcode);

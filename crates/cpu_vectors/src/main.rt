@@ -4,7 +4,7 @@
 #![tactic(auto)]
 
 ghost use Rattle.std.specs.Prelude.{IsTrue};
-ghost use Rattle.cpu_model.specs.Step.{step_of, Leaves};
+ghost use Rattle.cpu_model.specs.Step.{step_of, LeavesCells};
 
 mod memory;
 mod vector;
@@ -25,8 +25,8 @@ struct Agreement {
 
 /// Does the step end as the line says, with these registers?
 fn comes_out<B: Bus>(vector: &Vector, bus: &mut B) -> bool
-    ensures { IsTrue result → Leaves (step_of (B.cells bus.old) vector.now.before) vector.now.stop
-        vector.now.before vector.now.after (B.cells bus.old) (B.cells bus.new) }
+    ensures { IsTrue result → LeavesCells (step_of (B.cells bus.old) vector.now.before)
+        vector.now.stop vector.now.before vector.now.after (B.cells bus.old) (B.cells bus.new) }
 {
     let mut regs = vector.before;
     let stop = step(&mut regs, bus);

@@ -1,6 +1,6 @@
 ghost use Rattle.std.specs.Prelude.{◌≡◌, false, ◌↔◌, ◌+◌, ◌/◌, ◌%◌, ◌*◌, ◌≤◌, ◌++◌, IsTrue, bytes_eq, length, take, drop, vec_len};
 ghost use Rattle.std.specs.Bool.{OnTrue, OnFalse};
-ghost use Rattle.os9_base.specs.Cells.{FitsIn, Holds, store_cells};
+ghost use Rattle.os9_base.specs.Cells.{FitsIn, HoldsBytes, store_cells};
 ghost use Rattle.cpu_vectors.specs.Memory.{cells_of, is_in_named_slot};
 
 use crate::vector::{Cell, Vector};
@@ -98,7 +98,8 @@ impl Bus for Memory {
 
     fn slice_from(&self, at: u16) -> &[u8]
         ensures fits { at + length result.now ≤ 65536 }
-        ensures bytes { Holds (cells_of self.now.slots self.now.bytes.all.items) at result.now }
+        ensures bytes { HoldsBytes (cells_of self.now.slots self.now.bytes.all.items) at
+            result.now }
         ensures whole { OnTrue (is_in_named_slot self.now.slots at)
             (at % 8192 + length result.now ≡ 8192) }
     {
@@ -161,7 +162,7 @@ impl Bus for Scattered {
 
     fn slice_from(&self, _at: u16) -> &[u8]
         ensures fits { _at + length result.now ≤ 65536 }
-        ensures bytes { Holds
+        ensures bytes { HoldsBytes
             (cells_of self.now.memory.slots self.now.memory.bytes.all.items) _at result.now }
         ensures none { length result.now ≡ 0 }
     {

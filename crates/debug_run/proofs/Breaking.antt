@@ -7,7 +7,7 @@ use Rattle.os9_base.specs.declared.registers.TimePacket.{TimePacket}
 use Rattle.os9_outer.specs.Stream.{stream_with}
 use Rattle.os9_outer.specs.TerminalState.{TerminalState, ChangesOneTerminal}
 use Rattle.proc_model.specs.CallResult.{CallResult}
-use Rattle.io_model.specs.Terminal.{BreaksOff as BreaksOffRead, IsCutShort, Reads, Terminal, Writes}
+use Rattle.io_model.specs.Terminal.{BreaksOffEcho as BreaksOffRead, IsOutputCutShort, ReadAttempted, Terminal, WriteAttempted}
 use Rattle.io_model.specs.declared.terminal.Progress.TheVariants.{NoMemory}
 use Rattle.io_model.specs.declared.terminal.Reading.{Reading}
 use Rattle.io_model.specs.Attempts.{caller_of}
@@ -20,8 +20,8 @@ use Rattle.machine_model.proofs.TerminalLaws.{gain-attempt, gain-same}
 use Rattle.file_rules.specs.Attempts.{FileAttempts}
 use Rattle.file_rules.specs.Files.{DriveState, Files}
 use Rattle.file_rules.specs.declared.path_call.PathCall.{PathCall}
-use Rattle.file_laws.specs.Devices.{IsOnDevice}
-use Rattle.file_laws.specs.Touch.{LeavesDevices, WaitsForRecord}
+use Rattle.file_laws.specs.Devices.{DeviceAttempted}
+use Rattle.file_laws.specs.Touch.{TouchesNoDevice, WaitsForRecord}
 use Rattle.file_laws.proofs.TouchAttempts.{attempt-comes}
 use Rattle.file_drives.specs.Drives.{drive_states}
 use Rattle.machine_model.specs.Devices.{DrivesOnlyGain}
@@ -30,9 +30,9 @@ use Rattle.machine_model.specs.State.{State}
 use Rattle.machine_model.proofs.Drives.{drives-same, none-gains, volumes-gain}
 use Rattle.machine_model.proofs.Gains.{broken-gains}
 use Rattle.os9_kernel.specs.Breaks.{BreaksAtByte, BreaksAtEntry}
-use Rattle.os9_kernel.specs.Calls.{BreaksOff}
+use Rattle.os9_kernel.specs.Calls.{BreaksOffEvent}
 use Rattle.os9_kernel.specs.Outside.{Outside}
-use Rattle.os9_kernel.specs.Tie.{Represents, Stands}
+use Rattle.os9_kernel.specs.Tie.{Represents, RepresentsSomeState}
 use Rattle.os9_kernel.specs.Volumes.{HoldsVolumes}
 use Rattle.os9_kernel.specs.declared.kernel.Kernel.{Kernel}
 use Rattle.debug_run.specs.Devices.{DevicesGain}
@@ -44,7 +44,7 @@ observed-with : (put : Option (List ℕ)) (bytes : List ℕ) → is_some (stream
 observed-with None bytes = refl
 observed-with (Some before) bytes = refl
 
-read-gains : (request : Reading) (old new : Terminal) (before now : TerminalState) → Reads request NoMemory old new before now → OnlyGains before now
+read-gains : (request : Reading) (old new : Terminal) (before now : TerminalState) → ReadAttempted request NoMemory old new before now → OnlyGains before now
 read-gains request old new before now it =
     let broken : BreaksOffRead request old new before now = it.outcome in
     record {
@@ -53,9 +53,9 @@ read-gains request old new before now it =
       observed = ap (λ put. is_some put) broken.echo ∙ observed-with before.put _;
     }
 
-write-gains : (process : Pid) (bytes : List ℕ) (count : ℕ) (old new : Terminal) (before now : TerminalState) → Writes process bytes count NoMemory old new before now → OnlyGains before now
+write-gains : (process : Pid) (bytes : List ℕ) (count : ℕ) (old new : Terminal) (before now : TerminalState) → WriteAttempted process bytes count NoMemory old new before now → OnlyGains before now
 write-gains process bytes count old new before now it =
-    let cut : IsCutShort process bytes old new before now = it.outcome in
+    let cut : IsOutputCutShort process bytes old new before now = it.outcome in
     record {
       keys = ([], sym it.driver.keys);
       faults = it.driver.never_falls;
@@ -89,7 +89,7 @@ wants-gain (writes write) caller io before after (new, device) =
 
 -- an attempt of a call on a path is done
 module _ (call : PathCall) (s : State) (now : TimePacket) (p : ℕ) (result : CallResult) (done : Files) (terms : List TerminalState) where
-  by-touch : IsOnDevice call s.processes s.files p result done s.terms terms ⊎ LeavesDevices call s.processes s.files now p
+  by-touch : DeviceAttempted call s.processes s.files p result done s.terms terms ⊎ TouchesNoDevice call s.processes s.files now p
       result done s.terms terms ⊎ WaitsForRecord call s.processes s.files now p result done s.terms terms
       → TerminalsOnlyGain s.terms terms × DrivesOnlyGain s.files.drives done.drives
   by-touch (inl on) = (
@@ -134,12 +134,12 @@ module _ (old : Kernel) (before after : Outside) (s : State) (tied : Represents 
       gains-done it.done gained.0 gained.1 it.drives
 
 -- an event is broken off
-pub event-breaks : (old : Kernel) (before after : Outside) → Stands old before → BreaksOff old before after → DevicesGain before after
+pub event-breaks : (old : Kernel) (before after : Outside) → RepresentsSomeState old before → BreaksOffEvent old before after → DevicesGain before after
 event-breaks old before after (s, tied) breaks =
     let it = breaks s tied in breaks-gain old before after s tied it.call it.now it.p it.lacks
 
 -- a tick is broken off
-pub tick-breaks : (old : Kernel) (before after : Outside) → Stands old before → ((s : State) → Represents old before s
+pub tick-breaks : (old : Kernel) (before after : Outside) → RepresentsSomeState old before → ((s : State) → Represents old before s
     → BreaksTick s after.terms × HoldsVolumes s after.drives) → DevicesGain before after
 tick-breaks old before after (s, tied) breaks =
     let it = breaks s tied in gains-so old before after s tied (broken-gains s after.terms it.0) it.1

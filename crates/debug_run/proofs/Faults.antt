@@ -9,7 +9,7 @@ use Rattle.machine_model.specs.Terminals.{TerminalsOnlyGain}
 use Rattle.machine_model.proofs.TerminalLaws.{gain-emptied, gain-same, gain-then}
 use Rattle.machine_model.proofs.Induction.{IsCarriedByEvents, along-steps}
 use Rattle.machine_model.specs.Devices.{DrivesOnlyGain, OnlyGain}
-use Rattle.machine_model.specs.Run.{Steps}
+use Rattle.machine_model.specs.Run.{SliceEvents}
 use Rattle.machine_model.specs.State.{State}
 use Rattle.machine_model.proofs.Drives.{drives-same, drives-then}
 use Rattle.machine_model.proofs.Gains.{event-gains, run-gains}
@@ -110,7 +110,7 @@ by_events = record {
   event = λ s m t end states event later. gain-two s m t (event-gains s m end event) later;
 }
 
-pub steps-gain : (left : ℕ) (s : State) (states : List State) (t : State) → Steps left s states t → OnlyGain s t
+pub steps-gain : (left : ℕ) (s : State) (states : List State) (t : State) → SliceEvents left s states t → OnlyGain s t
 steps-gain left s states t steps = along-steps Gains by_events left s t states steps
 
 pub continues-gain : (slices : List ℕ) (s : State) (states : List State) (last : State) → Continues slices s states last → OnlyGain s last

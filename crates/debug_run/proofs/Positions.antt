@@ -23,7 +23,7 @@ use Rattle.machine_model.proofs.Drives.{drives-same}
 use Rattle.machine_model.proofs.Gains.{tick-gains}
 use Rattle.os9_kernel.specs.Outside.{Outside}
 use Rattle.os9_kernel.specs.Slice.{IsTurn}
-use Rattle.os9_kernel.specs.Tie.{IsGoing, Represents, Stands, executed, ticks}
+use Rattle.os9_kernel.specs.Tie.{IsGoing, Represents, RepresentsSomeState, executed, ticks}
 use Rattle.os9_kernel.specs.declared.kernel.Kernel.{Kernel}
 use Rattle.os9_kernel.proofs.Represented.{living-few, represents-emptied}
 use Rattle.run_laws.specs.Faults.{HasNoVolumes, NoneFailed}
@@ -37,7 +37,7 @@ use Rattle.proc_model.specs.Processes.{cells_at}
 use Rattle.os9_base.specs.UserNames.{user_cell}
 use Rattle.os9_kernel.specs.View.{living_regs}
 use Rattle.debug_run.specs.Devices.{DevicesGain, Unfailed}
-use Rattle.debug_run.specs.Moves.{BeginsWith, HasBegun, HasEvents, HasFound, HasGone, IsLast, StaysIn}
+use Rattle.debug_run.specs.Moves.{HasNextSlice, HasBegun, HasEventsUpTo, BeginsNextSlices, HasReachedEvent, IsLastPosition, StaysIn}
 use Rattle.debug_run.specs.declared.position.Step.TheVariants.{Event as AnEvent, End}
 use Rattle.debug_run.specs.Position.{CanGoOn, Continues, ContinuesIn, IsAt, LooksAlike, Remains, slices_left}
 use Rattle.debug_run.specs.declared.position.Position.{Position}
@@ -106,10 +106,10 @@ pub none-living : (s : State) → living_count s.processes ≡ 0 → has_living 
 none-living s none = rw none refl
 
 -- the kernel stands where bytes were taken, and no count fell
-pub taken-stands : (kernel : Kernel) (mid now : Outside) → now.drives ≡ mid.drives → now.terms ≡ terminals_emptied mid.terms → Stands kernel mid → Stands kernel now
+pub taken-stands : (kernel : Kernel) (mid now : Outside) → now.drives ≡ mid.drives → now.terms ≡ terminals_emptied mid.terms → RepresentsSomeState kernel mid → RepresentsSomeState kernel now
 taken-stands kernel mid now drives terms (t, tied) = (emptied t, represents-taken kernel mid now t drives terms tied)
 
-pub taken-gained : (kernel : Kernel) (mid now : Outside) → now.drives ≡ mid.drives → now.terms ≡ terminals_emptied mid.terms → Stands kernel mid → DevicesGain mid now
+pub taken-gained : (kernel : Kernel) (mid now : Outside) → now.drives ≡ mid.drives → now.terms ≡ terminals_emptied mid.terms → RepresentsSomeState kernel mid → DevicesGain mid now
 taken-gained kernel mid now drives terms (t, tied) = gains-taken kernel mid now t drives terms tied
 
 -- ---- the drives in a tick and in a choice
@@ -206,18 +206,18 @@ module _ (old : Position) (kernel : Kernel) (before mid : Outside) (count events
 
   -- ---- what it leaves
 
-  pub turn-gained : Stands old.kernel before → DevicesGain before mid
+  pub turn-gained : RepresentsSomeState old.kernel before → DevicesGain before mid
   turn-gained (s, tied) =
       let (t, turn, there) = steps s tied in gains-outside old.kernel kernel before mid s t tied there (turn-gains s t end count turn)
 
-  pub numbered : Stands old.kernel before → p.0 < PROCESS_PLACES
+  pub numbered : RepresentsSomeState old.kernel before → p.0 < PROCESS_PLACES
   numbered (s, tied) =
       let (t, turn, there) = steps s tied in
       let event = (turn-first s t end count turn).event in
       let who : event.0 ≡ p.0 = same_Some event.0 p.0 (sym event.1 ∙ chosen-is s tied) in
       living-few old.kernel.machine.processes s.processes tied.processes p.0 (subst (IsLiving s.processes.records) who event.2)
 
-  pub turn-stands : Stands old.kernel before → Stands kernel mid
+  pub turn-stands : RepresentsSomeState old.kernel before → RepresentsSomeState kernel mid
   turn-stands (s, tied) = let (t, turn, there) = steps s tied in (t, there)
 
   -- the turn, in a slice that goes on, and in one that is over, where there is room for so many events
@@ -228,7 +228,7 @@ module _ (old : Position) (kernel : Kernel) (before mid : Outside) (count events
     events-within : old.events + events ≤ k
     events-within = omega (arith, room, events-few count events (k - old.events) many one (omega (arith, room)) fits)
 
-    pub had-in : end ≡ EventEnd.Ran → executed kernel < old.slice → IsGoing kernel → Stands old.kernel before → HasEvents k old (behind old.slice) (Ok tt) before mid
+    pub had-in : end ≡ EventEnd.Ran → executed kernel < old.slice → IsGoing kernel → RepresentsSomeState old.kernel before → HasEventsUpTo k old (behind old.slice) (Ok tt) before mid
     had-in ran more going stands = record {
       goes_on = λ slices can. record {
         stands = turn-stands stands;
@@ -244,8 +244,8 @@ module _ (old : Position) (kernel : Kernel) (before mid : Outside) (count events
       few = events-within;
     }
 
-    pub had-over : (end ≡ EventEnd.Ran → old.slice ≤ executed kernel) → Stands old.kernel before → (after : Outside)
-        → after.drives ≡ mid.drives → after.terms ≡ terminals_emptied mid.terms → HasEvents k old (behind 0) (Ok tt)
+    pub had-over : (end ≡ EventEnd.Ran → old.slice ≤ executed kernel) → RepresentsSomeState old.kernel before → (after : Outside)
+        → after.drives ≡ mid.drives → after.terms ≡ terminals_emptied mid.terms → HasEventsUpTo k old (behind 0) (Ok tt)
         before after
     had-over no_more stands after drives terms = record {
       goes_on = λ slices can. record {
@@ -276,7 +276,7 @@ module _ (n : ℕ) (old : Position) (kernel : Kernel) (before mid : Outside)
       gain-two s ticked t (tick-gains s ticked ticks) (subst (OnlyGain ticked) (sym chooses) (record { terminals = gain-same ticked.terms; drives = drives-same ticked.files.drives }))
 
   module _ (slices : List ℕ) (course : Course) (last : State) (at : IsAt course last slices old before)
-      (starts : BeginsWith n slices old before) (ticked t : State) (ticks-on : Tick at.s ticked)
+      (starts : HasNextSlice n slices old before) (ticked t : State) (ticks-on : Tick at.s ticked)
       (chooses : Choose ticked t) (none : NoneFailed at.s t) where
     cont : Continues (slices_left slices old) at.s at.later last
     cont = by_rest at.rest
@@ -317,7 +317,7 @@ module _ (n : ℕ) (old : Position) (kernel : Kernel) (before mid : Outside)
     bare-then = choice-bare ticked t chooses (tick-bare at.s ticked ticks-on at.bare)
 
   pub begins-in : (slices : List ℕ) (p : ℕ) → ((s : State) → Represents kernel mid s → s.chosen ≡ Some p) → 0 < n
-      → executed kernel ≡ 0 → BeginsWith n slices old before → StaysIn slices old (begun n) before mid
+      → executed kernel ≡ 0 → HasNextSlice n slices old before → StaysIn slices old (begun n) before mid
   begins-in slices p chosen some fresh starts course last at unfailed =
       let (ticked, t, ticks-on, chooses, tied) = steps at.s at.represents in
       let none : NoneFailed at.s t = unfailed-inside old.kernel kernel before mid at.s t at.represents tied unfailed in
@@ -329,7 +329,7 @@ module _ (n : ℕ) (old : Position) (kernel : Kernel) (before mid : Outside)
 
   pub begins-idle : (slices : List ℕ) → ((s : State) → Represents kernel mid s → (s.chosen ≡ None) ⊎ (n ≡ 0))
       → (after : Outside) → after.drives ≡ mid.drives → after.terms ≡ terminals_emptied mid.terms
-      → BeginsWith n slices old before → StaysIn slices old (begun old.slice) before after
+      → HasNextSlice n slices old before → StaysIn slices old (begun old.slice) before after
   begins-idle slices nobody after drives terms starts course last at unfailed =
       let (ticked, t, ticks-on, chooses, tied) = steps at.s at.represents in
       let taken = represents-taken kernel mid after t drives terms tied in
@@ -343,16 +343,16 @@ module _ (n : ℕ) (old : Position) (kernel : Kernel) (before mid : Outside)
       (bare-then slices course last at starts ticked t ticks-on chooses none) faultless (emptied-looks t) refl
       (inl (between, rest))
 
-  pub begin-gained : Stands old.kernel before → DevicesGain before mid
+  pub begin-gained : RepresentsSomeState old.kernel before → DevicesGain before mid
   begin-gained (s, tied) =
       let (ticked, t, ticks-on, chooses, there) = steps s tied in gains-outside old.kernel kernel before mid s t tied there (begin-gains s ticked t ticks-on chooses)
 
-  pub begin-stands : Stands old.kernel before → Stands kernel mid
+  pub begin-stands : RepresentsSomeState old.kernel before → RepresentsSomeState kernel mid
   begin-stands (s, tied) = let (ticked, t, ticks-on, chooses, there) = steps s tied in (t, there)
 
   -- a slice in which a process is Ready, and one that is over at once
   pub begun-in : (p : ℕ) → ((s : State) → Represents kernel mid s → s.chosen ≡ Some p) → 0 < n → executed kernel ≡ 0
-      → IsGoing kernel → Stands old.kernel before → HasBegun n old (begun n) (Ok AnEvent) before mid
+      → IsGoing kernel → RepresentsSomeState old.kernel before → HasBegun n old (begun n) (Ok AnEvent) before mid
   begun-in p chosen some fresh going stands = record {
     goes_on = λ slices starts can. record {
       stands = begin-stands stands;
@@ -370,7 +370,7 @@ module _ (n : ℕ) (old : Position) (kernel : Kernel) (before mid : Outside)
     events = refl;
   }
 
-  pub begun-idle : ((s : State) → Represents kernel mid s → (s.chosen ≡ None) ⊎ (n ≡ 0)) → Stands old.kernel before
+  pub begun-idle : ((s : State) → Represents kernel mid s → (s.chosen ≡ None) ⊎ (n ≡ 0)) → RepresentsSomeState old.kernel before
       → (after : Outside) → after.drives ≡ mid.drives → after.terms ≡ terminals_emptied mid.terms
       → HasBegun n old (begun old.slice) (Ok End) before after
   begun-idle nobody stands after drives terms = record {
@@ -439,7 +439,7 @@ module _ (kernel : Kernel) (fresh : ticks kernel ≡ 0) where
   abbrev pub first_position : Position
   first_position = record { kernel = kernel; slice = 0; events = 0; process = first_process }
 
-  pub start-goes : (slices : List ℕ) (devices : Outside) → Stands kernel devices → length slices < LAST_TICK → CanGoOn slices first_position devices
+  pub start-goes : (slices : List ℕ) (devices : Outside) → RepresentsSomeState kernel devices → length slices < LAST_TICK → CanGoOn slices first_position devices
   start-goes slices devices stands few = record {
     stands = stands;
     begun = omega (arith, fresh);
@@ -493,14 +493,14 @@ stays-then slices a b c x y z one two first next course last at none =
 
 -- the position that was reached is the last one
 pub last-then : (slices : List ℕ) (a b : Position) (x y : Outside) → b.events ≡ a.events → StaysIn slices a b x y
-    → ((course : Course) (last : State) → IsAt course last slices b y → last_of course ≡ b.events) → IsLast slices a x
+    → ((course : Course) (last : State) → IsAt course last slices b y → last_of course ≡ b.events) → IsLastPosition slices a x
     y
 last-then slices a b x y same first ends course last at none = ends course last (first course last at none) ∙ same
 
 -- the next slice is the one at this place
 pub begins-with : (n : ℕ) (slices : List ℕ) (position : Position) (devices : Outside) (index : ℕ)
     → ticks position.kernel ≡ index → slice_get slices index ≡ Some n
-    → ((s : State) → Represents position.kernel devices s → living_count s.processes ≢ 0) → BeginsWith n slices position
+    → ((s : State) → Represents position.kernel devices s → living_count s.processes ≢ 0) → HasNextSlice n slices position
     devices
 begins-with n slices position devices index at is some = record {
   next = ap (slice_get slices) at ∙ is;
@@ -534,7 +534,7 @@ found-start slices old index before begun can between = record {
 }
 
 module _ (slices : List ℕ) (old : Position) (index : ℕ) (now : Position) (before after : Outside) (so_far : FoundSoFar slices old index now before after) where
-  pub found-idle : (n : ℕ) (next : Position) (then : Outside) → BeginsWith n slices now after → HasBegun n now next (Ok End) after then → FoundSoFar slices old (index + 1) next before then
+  pub found-idle : (n : ℕ) (next : Position) (then : Outside) → HasNextSlice n slices now after → HasBegun n now next (Ok End) after then → FoundSoFar slices old (index + 1) next before then
   found-idle n next then starts begun = record {
     goes_on = begun.goes_on slices starts so_far.goes_on;
     between = begun.idle refl;
@@ -544,7 +544,8 @@ module _ (slices : List ℕ) (old : Position) (index : ℕ) (now : Position) (be
     events = begun.events ∙ so_far.events;
   }
 
-  pub found-busy : (n : ℕ) (next : Position) (then : Outside) → BeginsWith n slices now after → HasBegun n now next (Ok AnEvent) after then → HasFound slices old next (Ok AnEvent) before then
+  pub found-busy : (n : ℕ) (next : Position) (then : Outside) → HasNextSlice n slices now after → HasBegun n now next
+      (Ok AnEvent) after then → BeginsNextSlices slices old next (Ok AnEvent) before then
   found-busy n next then starts begun = record {
     goes_on = begun.goes_on slices starts so_far.goes_on;
     gains = devices-gain before after then so_far.gains begun.gains;
@@ -556,7 +557,7 @@ module _ (slices : List ℕ) (old : Position) (index : ℕ) (now : Position) (be
 
   -- memory was out
   pub found-broken : (n : ℕ) (next : Position) (then : Outside) (fault : OutOfMemory) {told : OutOfMemory}
-      → HasBegun n now next (Err fault) after then → HasFound slices old next (Err told) before then
+      → HasBegun n now next (Err fault) after then → BeginsNextSlices slices old next (Err told) before then
   found-broken n next then fault begun = record {
     goes_on = tt;
     gains = devices-gain before after then so_far.gains begun.gains;
@@ -566,7 +567,7 @@ module _ (slices : List ℕ) (old : Position) (index : ℕ) (now : Position) (be
     end = λ is. absurd (cc);
   }
 
-  pub found-none : ((course : Course) (last : State) → IsAt course last slices now after → last_of course ≡ now.events) → HasFound slices old now (Ok End) before after
+  pub found-none : ((course : Course) (last : State) → IsAt course last slices now after → last_of course ≡ now.events) → BeginsNextSlices slices old now (Ok End) before after
   found-none ends = record {
     goes_on = so_far.goes_on;
     gains = so_far.gains;
@@ -576,14 +577,14 @@ module _ (slices : List ℕ) (old : Position) (index : ℕ) (now : Position) (be
     end = λ _. last-then slices old now before after so_far.events so_far.stays ends;
   }
 
-  pub found-nobody : ((s : State) → Represents now.kernel after s → living_count s.processes ≡ 0) → HasFound slices old now (Ok End) before after
+  pub found-nobody : ((s : State) → Represents now.kernel after s → living_count s.processes ≡ 0) → BeginsNextSlices slices old now (Ok End) before after
   found-nobody nobody = found-none (last-idle slices now after so_far.between nobody)
 
-  pub found-all : length slices ≤ index → HasFound slices old now (Ok End) before after
+  pub found-all : length slices ≤ index → BeginsNextSlices slices old now (Ok End) before after
   found-all all = found-none (last-slice slices now after so_far.between (omega (arith, all, so_far.begun)))
 
 -- in a slice that is under way
-pub found-here : (slices : List ℕ) (old : Position) (before : Outside) → CanGoOn slices old before → 0 < old.slice → HasFound slices old old (Ok AnEvent) before before
+pub found-here : (slices : List ℕ) (old : Position) (before : Outside) → CanGoOn slices old before → 0 < old.slice → BeginsNextSlices slices old old (Ok AnEvent) before before
 found-here slices old before can some = record {
   goes_on = can;
   gains = gain-nothing before;
@@ -607,8 +608,8 @@ gone-start k slices old before can within =
 
 module _ (k : ℕ) (slices : List ℕ) (old now : Position) (before after : Outside) (so_far : GoneSoFar k slices old now before after) where
   -- a slice with an event was found, and a turn was had in it
-  pub gone-more : (mid next : Position) (between then : Outside) → HasFound slices now mid (Ok AnEvent) after between
-      → HasEvents k mid next (Ok tt) between then → GoneSoFar k slices old next before then
+  pub gone-more : (mid next : Position) (between then : Outside) → BeginsNextSlices slices now mid (Ok AnEvent) after between
+      → HasEventsUpTo k mid next (Ok tt) between then → GoneSoFar k slices old next before then
   gone-more mid next between then found had = record {
     goes_on = had.goes_on slices found.goes_on;
     gains = devices-gain before after then so_far.gains (devices-gain after between then found.gains had.gains);
@@ -617,7 +618,7 @@ module _ (k : ℕ) (slices : List ℕ) (old now : Position) (before after : Outs
     within = had.few;
   }
 
-  pub gone-there : k ≤ now.events → HasGone k slices old now (Ok AnEvent) before after
+  pub gone-there : k ≤ now.events → HasReachedEvent k slices old now (Ok AnEvent) before after
   gone-there there = record {
     goes_on = so_far.goes_on;
     gains = so_far.gains;
@@ -628,7 +629,7 @@ module _ (k : ℕ) (slices : List ℕ) (old now : Position) (before after : Outs
   }
 
   -- memory was out
-  pub gone-broken : (told : OutOfMemory) (next : Position) (then : Outside) → DevicesGain after then → HasGone k slices old next (Err told) before then
+  pub gone-broken : (told : OutOfMemory) (next : Position) (then : Outside) → DevicesGain after then → HasReachedEvent k slices old next (Err told) before then
   gone-broken told next then gains = record {
     goes_on = tt;
     gains = devices-gain before after then so_far.gains gains;
@@ -639,7 +640,7 @@ module _ (k : ℕ) (slices : List ℕ) (old now : Position) (before after : Outs
   }
 
   -- no slice with an event was found
-  pub gone-short : (next : Position) (then : Outside) → now.events < k → HasFound slices now next (Ok End) after then → HasGone k slices old next (Ok End) before then
+  pub gone-short : (next : Position) (then : Outside) → now.events < k → BeginsNextSlices slices now next (Ok End) after then → HasReachedEvent k slices old next (Ok End) before then
   gone-short next then below found = record {
     goes_on = found.goes_on;
     gains = devices-gain before after then so_far.gains found.gains;

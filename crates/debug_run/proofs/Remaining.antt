@@ -11,7 +11,7 @@ use Rattle.machine_model.specs.declared.ends.SliceEnd.{SliceEnd}
 use Rattle.machine_model.specs.declared.ends.SliceEnd.TheVariants.{Idle, Ran}
 use Rattle.machine_model.specs.Devices.{OnlyGain}
 use Rattle.machine_model.specs.Event.{Event, cost}
-use Rattle.machine_model.specs.Run.{Choose, Run, Slice, Steps, Tick, is_going}
+use Rattle.machine_model.specs.Run.{Choose, Run, Slice, SliceEvents, Tick, is_going}
 use Rattle.machine_model.specs.State.{State, has_living}
 use Rattle.machine_model.proofs.Gains.{event-gains, tick-gains}
 use Rattle.run_laws.specs.Faults.{HasNoVolumes, NoneFailed, SameButClusters, SameEvent}
@@ -40,13 +40,13 @@ pub record Stepped (left : ℕ) (slices : List ℕ) (m : State) (end : EventEnd)
   pub going : end ≡ EventEnd.Ran → 0 < left → ContinuesIn left slices m later last
   pub over : (end ≡ EventEnd.Ran → left ≡ 0) → Continues slices (emptied m) later last
 
-steps-over : (left : ℕ) (s : State) (states : List State) (t : State) → left ≡ 0 → Steps left s states t → (states ≡ []) × (t ≡ s)
+steps-over : (left : ℕ) (s : State) (states : List State) (t : State) → left ≡ 0 → SliceEvents left s states t → (states ≡ []) × (t ≡ s)
 steps-over left s [] t none (over, is) = (refl, is)
 steps-over left s (m ∷ ms) t none (some, end, event, steps) = absurd (omega (arith, some, none))
 
 -- the events behind the first one
 abbrev After : ℕ → Bool → State → List State → State → Type 0
-After left going u us t = MatchBool going (Steps left u us t) ((us ≡ []) × (t ≡ u))
+After left going u us t = MatchBool going (SliceEvents left u us t) ((us ≡ []) × (t ≡ u))
 
 after-gain : (left : ℕ) (going : Bool) (u : State) (us : List State) (t : State) → After left going u us t → OnlyGain u t
 after-gain left true u us t steps = steps-gain left u us t steps
@@ -89,7 +89,8 @@ module _ (slices : List ℕ) (m : State) (later : List State) (last : State) (re
   }
 
   -- the first event of a slice is the one that was done
-  stepped-first : (left : ℕ) (s : State) (first : List State) → HasNoVolumes s → 0 < left → Steps left s first m → NoneFailed s last → (t : State) (end : EventEnd) → Event s end t → NoneFailed s t
+  stepped-first : (left : ℕ) (s : State) (first : List State) → HasNoVolumes s → 0 < left → SliceEvents left s first m
+      → NoneFailed s last → (t : State) (end : EventEnd) → Event s end t → NoneFailed s t
       → Stepped (left - cost s) slices t end (first ++ later) last
   stepped-first left s [] bare some (over, is) faultless t end event none = absurd (omega (arith, some, over))
   stepped-first left s (u ∷ us) bare some (some_too, other, event_too, steps) faultless t end event none =
@@ -124,7 +125,7 @@ begun s = record s {
 
 abbrev Begun : ℕ → State → Option ℕ → List State → SliceEnd → State → Type 0
 Begun n t who states end m =
-    MatchOption who ((end ≡ Idle) × (states ≡ []) × (m ≡ t)) (λ p. (end ≡ Ran) × Steps n t states m)
+    MatchOption who ((end ≡ Idle) × (states ≡ []) × (m ≡ t)) (λ p. (end ≡ Ran) × SliceEvents n t states m)
 
 begun-gain : (n : ℕ) (t : State) (who : Option ℕ) (states : List State) (end : SliceEnd) (m : State) → Begun n t who states end m → OnlyGain t m
 begun-gain n t None states end m (idle, none, is) = subst (OnlyGain t) (sym is) (gain-none t)

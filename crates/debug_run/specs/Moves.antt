@@ -18,13 +18,13 @@ StaysIn slices old new before after =
     → IsAt course last slices new after
 
 -- it is the last position of each of its courses
-abbrev pub IsLast : List ℕ → Position → Outside → Outside → Type 0
-IsLast slices old before after =
+abbrev pub IsLastPosition : List ℕ → Position → Outside → Outside → Type 0
+IsLastPosition slices old before after =
     (course : Course) (last : State) → IsAt course last slices old before → Unfailed before after
     → last_of course ≡ old.events
 
 -- the position after k events was reached, or the last one, which is before it
-pub record HasGone (k : ℕ) (slices : List ℕ) (old new : Position) (answer : Result Step OutOfMemory)
+pub record HasReachedEvent (k : ℕ) (slices : List ℕ) (old new : Position) (answer : Result Step OutOfMemory)
     (before after : Outside) : Type 0 where
   pub goes_on : OnOk answer (CanGoOn slices new after)
   pub gains : DevicesGain before after
@@ -37,17 +37,17 @@ pub record HasGone (k : ℕ) (slices : List ℕ) (old new : Position) (answer : 
 -- ---- its parts
 
 -- the next of these slices has n instructions, and a process lives that may have it
-pub record BeginsWith (n : ℕ) (slices : List ℕ) (position : Position) (devices : Outside) : Type 0 where
+pub record HasNextSlice (n : ℕ) (slices : List ℕ) (position : Position) (devices : Outside) : Type 0 where
   pub next : slice_get slices (ticks position.kernel) ≡ Some n
   pub lives : (s : State) → Represents position.kernel devices s → has_living s ≡ true
 
 -- a slice of n instructions was begun, if a process is Ready; else it is over
 pub record HasBegun (n : ℕ) (old new : Position) (answer : Result Step OutOfMemory) (before after : Outside) : Type 0
   where
-    pub goes_on : OnOk answer ((slices : List ℕ) → BeginsWith n slices old before → CanGoOn slices old before
+    pub goes_on : OnOk answer ((slices : List ℕ) → HasNextSlice n slices old before → CanGoOn slices old before
         → CanGoOn slices new after)
     pub gains : DevicesGain before after
-    pub stays : OnOk answer ((slices : List ℕ) → BeginsWith n slices old before
+    pub stays : OnOk answer ((slices : List ℕ) → HasNextSlice n slices old before
         → StaysIn slices old new before after)
     pub begun : answer ≡ Ok Event → 0 < new.slice
     pub idle : answer ≡ Ok End → new.slice ≡ 0
@@ -55,17 +55,18 @@ pub record HasBegun (n : ℕ) (old new : Position) (answer : Result Step OutOfMe
     pub events : OnOk answer (new.events ≡ old.events)
 
 -- the next slices were begun, up to one in which a process is Ready, if there is one
-pub record HasFound (slices : List ℕ) (old new : Position) (answer : Result Step OutOfMemory) (before after : Outside)
+pub record BeginsNextSlices (slices : List ℕ) (old new : Position) (answer : Result Step OutOfMemory)
+    (before after : Outside)
     : Type 0 where
   pub goes_on : OnOk answer (CanGoOn slices new after)
   pub gains : DevicesGain before after
   pub stays : OnOk answer (StaysIn slices old new before after)
   pub begun : answer ≡ Ok Event → 0 < new.slice
   pub events : OnOk answer (new.events ≡ old.events)
-  pub end : answer ≡ Ok End → IsLast slices old before after
+  pub end : answer ≡ Ok End → IsLastPosition slices old before after
 
 -- one or more events, up to event k
-pub record HasEvents (k : ℕ) (old new : Position) (answer : Result (Unit {0}) OutOfMemory) (before after : Outside)
+pub record HasEventsUpTo (k : ℕ) (old new : Position) (answer : Result (Unit {0}) OutOfMemory) (before after : Outside)
     : Type 0 where
   pub goes_on : OnOk answer ((slices : List ℕ) → CanGoOn slices old before → CanGoOn slices new after)
   pub gains : DevicesGain before after

@@ -2,10 +2,10 @@
 use Rattle.std.specs.Prelude.{◌≡◌, ◌⊎◌, ℕ, ◌-◌, ◌<◌, ◌≤◌, List, ◌++◌, length, drop}
 use Rattle.os9_base.specs.declared.limits.TheConstants.{LAST_TICK, PROCESS_PLACES}
 use Rattle.machine_model.specs.Console.{terminals_emptied}
-use Rattle.machine_model.specs.Run.{Run, Steps}
+use Rattle.machine_model.specs.Run.{Run, SliceEvents}
 use Rattle.machine_model.specs.State.{State}
 use Rattle.os9_kernel.specs.Outside.{Outside}
-use Rattle.os9_kernel.specs.Tie.{IsGoing, Represents, Stands, executed, ticks}
+use Rattle.os9_kernel.specs.Tie.{IsGoing, Represents, RepresentsSomeState, executed, ticks}
 use Rattle.os9_kernel.specs.View.{living_regs}
 use Rattle.run_laws.specs.Faults.{HasNoVolumes, NoneFailed}
 use Rattle.debug_run.specs.Course.{Course, state_at}
@@ -23,7 +23,7 @@ pub record ContinuesIn (left : ℕ) (slices : List ℕ) (s : State) (states : Li
   pub some : 0 < left
   pub first : List State
   pub m : State
-  pub steps : Steps left s first m
+  pub steps : SliceEvents left s first m
   pub later : List State
   pub rest : Continues slices (record m { terms = terminals_emptied m.terms }) later last
   pub all : states ≡ first ++ later
@@ -64,7 +64,7 @@ pub record IsAt (course : Course) (last : State) (slices : List ℕ) (position :
 
 -- a kernel that can go on over these slices
 pub record CanGoOn (slices : List ℕ) (position : Position) (devices : Outside) : Type 0 where
-  pub stands : Stands position.kernel devices
+  pub stands : RepresentsSomeState position.kernel devices
   pub begun : ticks position.kernel ≤ length slices
   pub few : length slices < LAST_TICK
   -- in a slice the chosen process lives and has instructions left

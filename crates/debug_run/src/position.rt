@@ -1,12 +1,12 @@
 ghost use Rattle.std.specs.Prelude.{◌≡◌, ◌⊎◌, ◌<◌, ◌≤◌, ◌-◌, ◌^◌, ℕ, IsSome, List, None, [], length, true, false, vec_len};
 ghost use Rattle.os9_kernel.specs.Outside.{OnDevices, Outside, outside};
-ghost use Rattle.os9_kernel.specs.Tie.{IsGoing, Represents, Stands, executed, ticks};
+ghost use Rattle.os9_kernel.specs.Tie.{IsGoing, Represents, RepresentsSomeState, executed, ticks};
 ghost use Rattle.machine_model.specs.Start.{Boot};
 ghost use Rattle.machine_model.specs.State.{State};
 ghost use Rattle.debug_run.specs.Course.{Course, state_at};
 ghost use Rattle.debug_run.specs.Prints.{IsCourse};
 ghost use Rattle.debug_run.specs.Show.{shown, shown_cells, shown_regs};
-ghost use Rattle.debug_run.specs.Moves.{HasBegun, HasEvents, HasFound, HasGone};
+ghost use Rattle.debug_run.specs.Moves.{HasBegun, HasEventsUpTo, BeginsNextSlices, HasReachedEvent};
 ghost use Rattle.debug_run.specs.Position.{CanGoOn, IsAt};
 
 use crate::console::empty_terminals;
@@ -67,7 +67,7 @@ impl Position {
     /// The start of a run of a kernel that has not begun a slice.
     pub fn start(kernel: Kernel) -> Self
         requires { ticks kernel ≡ 0 }
-        ensures goes_on { (slices : List ℕ) (devices : Outside) → Stands kernel devices
+        ensures goes_on { (slices : List ℕ) (devices : Outside) → RepresentsSomeState kernel devices
             → length slices < LAST_TICK → CanGoOn slices result devices }
         ensures at { (boot : Boot) (slices : List ℕ) (course : Course) (devices : Outside)
             → boot.images ≡ [] → (is : IsCourse boot slices course)
@@ -134,7 +134,7 @@ impl Position {
         requires goes_on { CanGoOn slices.now self.old
             (outside BlockDriver-box CharDriver-box devices.old) }
         requires later { self.old.events ≤ k }
-        ensures gone { OnDevices (HasGone k slices.now self.old self.new result)
+        ensures gone { OnDevices (HasReachedEvent k slices.now self.old self.new result)
             BlockDriver-box CharDriver-box devices.old devices.new }
         ensures terminals { vec_len devices.new.terms ≡ vec_len devices.old.terms }
         ensures drives { vec_len devices.new.drives ≡ vec_len devices.old.drives }
@@ -157,7 +157,7 @@ impl Position {
     fn find_event(&mut self, slices: &[u32], devices: &mut Devices) -> Result<Step, OutOfMemory>
         requires { CanGoOn slices.now self.old
             (outside BlockDriver-box CharDriver-box devices.old) }
-        ensures found { OnDevices (HasFound slices.now self.old self.new result)
+        ensures found { OnDevices (BeginsNextSlices slices.now self.old self.new result)
             BlockDriver-box CharDriver-box devices.old devices.new }
         ensures terminals { vec_len devices.new.terms ≡ vec_len devices.old.terms }
         ensures drives { vec_len devices.new.drives ≡ vec_len devices.old.drives }
@@ -174,7 +174,7 @@ impl Position {
         requires goes_on { CanGoOn slices.now self.old
             (outside BlockDriver-box CharDriver-box devices.old) }
         requires between { self.old.slice ≡ 0 }
-        ensures found { OnDevices (HasFound slices.now self.old self.new result)
+        ensures found { OnDevices (BeginsNextSlices slices.now self.old self.new result)
             BlockDriver-box CharDriver-box devices.old devices.new }
         ensures terminals { vec_len devices.new.terms ≡ vec_len devices.old.terms }
         ensures drives { vec_len devices.new.drives ≡ vec_len devices.old.drives }
@@ -196,7 +196,7 @@ impl Position {
     // Ready or `n` is 0.
     fn begin_slice(&mut self, n: u32, devices: &mut Devices) -> Result<Step, OutOfMemory>
         requires count { ticks self.old.kernel < LAST_TICK }
-        requires stands { Stands self.old.kernel
+        requires stands { RepresentsSomeState self.old.kernel
             (outside BlockDriver-box CharDriver-box devices.old) }
         requires between { self.old.slice ≡ 0 }
         ensures begun { OnDevices (HasBegun n self.old self.new result)
@@ -219,12 +219,12 @@ impl Position {
 
     // A turn in the current slice: its next event or events, up to the one of number `k`.
     fn turn(&mut self, k: u64, devices: &mut Devices) -> Result<(), OutOfMemory>
-        requires stands { Stands self.old.kernel
+        requires stands { RepresentsSomeState self.old.kernel
             (outside BlockDriver-box CharDriver-box devices.old) }
         requires going { IsGoing self.old.kernel }
         requires left { executed self.old.kernel < self.old.slice }
         requires before { self.old.events < k }
-        ensures turn { OnDevices (HasEvents k self.old self.new result)
+        ensures turn { OnDevices (HasEventsUpTo k self.old self.new result)
             BlockDriver-box CharDriver-box devices.old devices.new }
         ensures terminals { vec_len devices.new.terms ≡ vec_len devices.old.terms }
         ensures drives { vec_len devices.new.drives ≡ vec_len devices.old.drives }

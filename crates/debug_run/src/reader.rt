@@ -1,5 +1,5 @@
 ghost use Rattle.std.specs.Prelude.{◌≡◌, Ok, Err, IfOk};
-ghost use Rattle.script_text.specs.Fault.{OnLine};
+ghost use Rattle.script_text.specs.Fault.{OnRefusedLine};
 ghost use Rattle.script_text.specs.Lines.{line_words};
 ghost use Rattle.debug_run.specs.Commands.{command_of, commands_of, line_command};
 ghost use Rattle.debug_run.specs.Cuts.{span_in};
@@ -22,7 +22,7 @@ use std::alloc::Global;
 /// `Line` with the first line that is none of these, exactly if one is not.
 pub fn read_commands(alloc: Global, text: &[u8]) -> Result<Vec<Command>, LineFault>
     ensures commands { IfOk result (λ commands. commands_of text.now ≡ Ok commands.items) }
-    ensures line { OnLine result (λ line. commands_of text.now ≡ Err line) }
+    ensures line { OnRefusedLine result (λ line. commands_of text.now ≡ Err line) }
 {
     let mut commands = Vec::new(alloc);
     let mut number = 0;

@@ -4,16 +4,16 @@ use Rattle.std.proofs.lemmas.List.{length-map}
 use Rattle.os9_outer.specs.TerminalState.{TerminalState}
 use Rattle.io_model.specs.Arrivals.{ArrivesAt, ArrivesFrom, Desk}
 use Rattle.io_model.specs.Io.{Io}
-use Rattle.device_io.specs.Keys.{KeysArrive, KeysArriveAt, KeysBreak, KeysBreakAt, PollBreaks, desk}
+use Rattle.device_io.specs.Keys.{AllKeysArrive, KeysArriveAt, KeysBreak, KeysBreakAt, PollBreaks, desk}
 use Rattle.proc_state.specs.declared.state.ProcState.{ProcState}
 use Rattle.proc_model.specs.Processes.{Processes}
-use Rattle.proc_state.specs.Tie.{Represents}
+use Rattle.proc_state.specs.Tie.{RepresentsProcesses}
 
 -- the keys of `count` terminals from this one on arrived
 abbrev pub KeysArriveFrom : ProcState → Io → List TerminalState → ProcState → Io → List TerminalState → ℕ → ℕ → Type 0
 KeysArriveFrom s io terms new now after n count =
-    (m : Processes) → Represents s m →
-    (next : Processes) × ArrivesFrom s.tick n count (desk m io terms) (desk next now after) × Represents new next
+    (m : Processes) → RepresentsProcesses s m →
+    (next : Processes) × ArrivesFrom s.tick n count (desk m io terms) (desk next now after) × RepresentsProcesses new next
 
 -- no terminal is left
 pub arrive-none : (s : ProcState) (io : Io) (terms : List TerminalState) (n count : ℕ) → count ≡ 0 → KeysArriveFrom s io terms s io terms n count
@@ -68,7 +68,7 @@ module _ (s between new : ProcState) (io now last : Io) (terms states after : Li
 -- all of them
 pub arrive-all : {Driver : Type 0} (screen : Driver → TerminalState) (drivers : List Driver) (s new : ProcState)
     (io now : Io) (after : List TerminalState) (count : ℕ) → count ≡ length drivers → KeysArriveFrom s io
-    (map screen drivers) new now after 0 count → KeysArrive s io (map screen drivers) new now after
+    (map screen drivers) new now after 0 count → AllKeysArrive s io (map screen drivers) new now after
 arrive-all screen drivers s new io now after count all arrive = λ m tied.
     let done = arrive m tied in (
       done.0,

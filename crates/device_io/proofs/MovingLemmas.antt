@@ -24,19 +24,19 @@ use Rattle.io_model.specs.Again.{IsAgain, IsPending, KeepsCount, path_number}
 use Rattle.io_state.proofs.HeldLemmas.{slot-held}
 use Rattle.io_state.proofs.WaitLemmas.{none-some, some-same}
 use Rattle.io_state.specs.Sound.{IsIo, MayWait, read_kind, read_kind_of, target_at}
-use Rattle.proc_state.specs.Tie.{Represents}
+use Rattle.proc_state.specs.Tie.{RepresentsProcesses}
 use Rattle.proc_state.specs.declared.state.ProcState.{ProcState}
 use Rattle.proc_model.specs.Records.{record_at}
 use Rattle.io_state.specs.Context.{InCall}
 use Rattle.io_state.specs.declared.requester.Requester.{Requester}
-use Rattle.device_io.specs.Moving.{MayAttempt, StaysAllowed, StaysIfPending}
+use Rattle.device_io.specs.Moving.{MayAttemptIo, PendingReadIsAllowed, StaysIfPending}
 
 -- the registers of the processes are those of the machine
-pub regs-tied : (s : ProcState) (m : Processes) (p : ℕ) → Represents s m → (record_at s.table p).regs ≡ regs_at m p
+pub regs-tied : (s : ProcState) (m : Processes) (p : ℕ) → RepresentsProcesses s m → (record_at s.table p).regs ≡ regs_at m p
 regs-tied s m p tied = ap (λ (i : Processes). regs_at i p) (sym tied.is)
 
 -- the registers at a call are those of the machine
-pub called-regs : (by : Requester) (s : ProcState) (m : Processes) → InCall by s → Represents s m → by.regs ≡ regs_at m by.p.0
+pub called-regs : (by : Requester) (s : ProcState) (m : Processes) → InCall by s → RepresentsProcesses s m → by.regs ≡ regs_at m by.p.0
 called-regs by s m calls tied = calls.regs ∙ regs-tied s m by.p.0 tied
 
 -- what is not there is nothing
@@ -167,8 +167,8 @@ read-call kind regs io p opened call is again open_is call_is some = by (pending
 
 -- ---- a read that its process may attempt
 
-module _ (kind : ReadKind) (by : Requester) (s : ProcState) (io : Io) (terms : ℕ) (calls : InCall by s) (may : MayAttempt (read_call kind) s io by.p.0 terms) where
-  stays-if : (kind : ReadKind) (cells : Cells) (regs : Regs) → StaysAllowed (read_call kind) cells regs io by.p.0 → StaysIfPending cells regs io by.p.0
+module _ (kind : ReadKind) (by : Requester) (s : ProcState) (io : Io) (terms : ℕ) (calls : InCall by s) (may : MayAttemptIo (read_call kind) s io by.p.0 terms) where
+  stays-if : (kind : ReadKind) (cells : Cells) (regs : Regs) → PendingReadIsAllowed (read_call kind) cells regs io by.p.0 → StaysIfPending cells regs io by.p.0
   stays-if Bytes cells regs stays = stays
   stays-if WholeLine cells regs stays = stays
 

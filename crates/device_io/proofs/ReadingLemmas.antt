@@ -5,7 +5,7 @@ use Rattle.std.proofs.lemmas.Bool.{false≢true}
 use Rattle.std.proofs.lemmas.List.{drop-take, take_min, take-append-le}
 use Rattle.std.proofs.lemmas.Option.{none-some, same_Some}
 use borrow.Rule.Slice.PartMut.{put_mid}
-use Rattle.os9_base.specs.Cells.{Cells, Holds}
+use Rattle.os9_base.specs.Cells.{Cells, HoldsBytes}
 use Rattle.os9_base.specs.declared.call.CallEnd.{CallEnd}
 use Rattle.os9_base.specs.declared.errors.TheConstants.{E_BMODE, E_BPNUM}
 use Rattle.os9_base.specs.declared.registers.Pid.{Pid}
@@ -31,7 +31,7 @@ use Rattle.io_model.specs.declared.io_call.Direction.TheVariants as Way
 use Rattle.proc_state.proofs.UserBytes.{user_bytes-Some}
 use Rattle.device_io.proofs.LineLemmas.{user-length}
 use Rattle.device_io.proofs.SendingLemmas.{done-regs, on-pipe}
-use Rattle.device_io.specs.Reading.{IsRead, StandsFor, is_on_pipe, is_pipe, moved_before, window}
+use Rattle.device_io.specs.Reading.{AreWriteBytesRead, AreReadForWrite, is_on_pipe, is_pipe, moved_before, window}
 use Rattle.device_io.specs.Sending.{Sends, regs_done, sender, sent, write_call, write_code, write_named, write_open, write_on}
 use Rattle.device_io.specs.declared.sending.WriteKind.{WriteKind}
 
@@ -83,7 +83,7 @@ put-room first count into new within same =
     omega (arith, length-append (take first into) (new ++ rest), length-append new rest, length-take-le first into (omega arith), length-drop count (drop first into), length-drop first into)
 
 pub window-read : (cells : Cells) (at moved count few k : ℕ) (into new : List ℕ) → moved < count → count ≤ length into
-    → few ≡ min 256 (count - moved) → k ≡ few → length new ≡ few → at + count ≤ 65536 → Holds cells (at + moved) new
+    → few ≡ min 256 (count - moved) → k ≡ few → length new ≡ few → at + count ≤ 65536 → HoldsBytes cells (at + moved) new
     → IfSome (user_bytes cells at count) (λ bytes. window moved (take count (put_mid moved k into new)) ≡ window moved
     bytes)
 window-read cells at moved count few k into new less room few_is part long fits holds =
@@ -124,7 +124,7 @@ front-of new rest len count there within =
 -- ---- what was read
 
 module _ (io : Io) (p number : ℕ) where
-  pub read-all : (found : Option (List ℕ)) (result : Option ℕ) (buffer : List ℕ) → found ≡ option_map (λ count. take count buffer) result → IsRead io p number found result buffer
+  pub read-all : (found : Option (List ℕ)) (result : Option ℕ) (buffer : List ℕ) → found ≡ option_map (λ count. take count buffer) result → AreWriteBytesRead io p number found result buffer
   read-all None None buffer is = tt
   read-all None (Some count) buffer is = absurd (none-some (take count buffer) is)
   read-all (Some bytes) None buffer is = absurd (none-some bytes (sym is))
@@ -135,7 +135,7 @@ module _ (io : Io) (p number : ℕ) where
   pub read-window : (found : Option (List ℕ)) (count moved : ℕ) (buffer : List ℕ) → is_some found ≡ true
       → ((bytes : List ℕ) → found ≡ Some bytes → length bytes ≡ count) → is_on_pipe (open_path io p number) ≡ true
       → moved ≡ moved_before (pending_at io p) → count ≤ length buffer
-      → IfSome found (λ bytes. window moved (take count buffer) ≡ window moved bytes) → IsRead io p number found
+      → IfSome found (λ bytes. window moved (take count buffer) ≡ window moved bytes) → AreWriteBytesRead io p number found
       (Some count) buffer
   read-window None count moved buffer there all on same room fact = absurd (false≢true there)
   read-window (Some bytes) count moved buffer there all on same room fact = record {
@@ -144,12 +144,12 @@ module _ (io : Io) (p number : ℕ) where
     moving = subst (λ (n : ℕ). window n (take count buffer) ≡ window n bytes) same fact;
   }
 
-  pub read-none : (found : Option (List ℕ)) (buffer : List ℕ) → IsRead io p number found None buffer → found ≡ None
+  pub read-none : (found : Option (List ℕ)) (buffer : List ℕ) → AreWriteBytesRead io p number found None buffer → found ≡ None
   read-none None buffer read = refl
   read-none (Some bytes) buffer read = absurd read
 
-  pub read-some : (found : Option (List ℕ)) (count : ℕ) (buffer : List ℕ) → IsRead io p number found (Some count)
-      buffer → (bytes : List ℕ) × (found ≡ Some bytes) × StandsFor io p number bytes (take count buffer)
+  pub read-some : (found : Option (List ℕ)) (count : ℕ) (buffer : List ℕ) → AreWriteBytesRead io p number found (Some count)
+      buffer → (bytes : List ℕ) × (found ≡ Some bytes) × AreReadForWrite io p number bytes (take count buffer)
   read-some None count buffer read = absurd read
   read-some (Some bytes) count buffer read = (bytes, refl, read)
 
@@ -180,7 +180,7 @@ pipe-same io pipe call alone bytes read regs long same =
     ap (λ (n : ℕ). write_leaves io pipe call alone one regs (write_answer held alone n)) left
     ∙ ap (λ (now : List ℕ). leaves (write_end alone call regs answer) (with_pipe_bytes io pipe now)) (added-same answer held one other (few-moved held alone (length other)) same)
 
-module _ (kind : WriteKind) (caller : Caller) (io : Io) (bytes read : List ℕ) (stands : StandsFor io caller.process.0 (path_number (write_call kind) caller.regs) bytes read) where
+module _ (kind : WriteKind) (caller : Caller) (io : Io) (bytes read : List ℕ) (stands : AreReadForWrite io caller.process.0 (path_number (write_call kind) caller.regs) bytes read) where
   abbrev call_of : OpenPath → ℕ → PendingCall
   call_of opened count = call_now caller io (write_code kind) opened count
 
@@ -235,7 +235,7 @@ module _ (kind : WriteKind) (caller : Caller) (io : Io) (bytes read : List ℕ) 
 
 -- an attempt of what was read is one of the bytes themselves
 pub sends-read : (kind : WriteKind) (process : Pid) (regs : Regs) (cells : Cells) (io new : Io) (end : CallEnd)
-    (before after : List TerminalState) (bytes read : List ℕ) → StandsFor io process.0 (path_number (write_call kind)
+    (before after : List TerminalState) (bytes read : List ℕ) → AreReadForWrite io process.0 (path_number (write_call kind)
     regs) bytes read → Sends (write_named kind (sender process regs cells) io read) (sender process regs cells) io
     (regs_done kind regs (length read)) end new before after → Sends (write_named kind (sender process regs cells) io
     bytes) (sender process regs cells) io (regs_done kind regs (length bytes)) end new before after

@@ -11,7 +11,7 @@ use Rattle.os9_outer.specs.TerminalState.{TerminalState, ChangesOneTerminal}
 use Rattle.proc_model.specs.Processes.{Processes, cells_at, regs_at}
 use Rattle.proc_model.specs.UserBytes.{user_bytes}
 use Rattle.io_model.specs.Path.{desc_of, slot_of}
-use Rattle.io_model.specs.Terminal.{Writes}
+use Rattle.io_model.specs.Terminal.{WriteAttempted}
 use Rattle.io_model.specs.declared.pending.PendingCall.{PendingCall}
 use Rattle.io_model.specs.declared.path.Desc.{Desc}
 use Rattle.io_model.specs.declared.path.SysPath.{SysPath}
@@ -36,14 +36,14 @@ use Rattle.io_state.proofs.HeldLemmas.{slot-held}
 use Rattle.io_state.proofs.WaitLemmas.{some-same}
 use Rattle.io_state.specs.Sound.{IsIo, target_at}
 use Rattle.device_io.specs.Leaving.{IsTold, Settles}
-use Rattle.proc_state.specs.Tie.{Comes}
+use Rattle.proc_state.specs.Tie.{ReturnsCallEnd}
 use Rattle.proc_state.specs.declared.state.ProcState.{ProcState}
 use Rattle.device_io.proofs.LineLemmas.{IsSentLine}
 use Rattle.device_io.proofs.MovingLemmas.{opened-parts}
 use Rattle.device_io.proofs.TryingLemmas.{tries-needs-some, tries-same}
-use Rattle.device_io.specs.Sending.{MayWrite, PutEnds, Sends, Tells, put_of, regs_done, sender, sent, write_call, write_code, write_named, write_on, write_open}
+use Rattle.device_io.specs.Sending.{MayWriteTarget, PutEnds, Sends, Tells, put_of, regs_done, sender, sent, write_call, write_code, write_named, write_on, write_open}
 use Rattle.io_model.specs.Memory.{WantsMemory}
-use Rattle.device_io.specs.Trying.{Tries}
+use Rattle.device_io.specs.Trying.{TriesIoStep}
 use Rattle.device_io.specs.declared.sending.WriteKind.{WriteKind}
 use Rattle.device_io.specs.declared.sending.WriteKind.TheVariants.{Bytes, Line, ErrorLine}
 
@@ -68,7 +68,7 @@ no-way-back e = cc
 
 -- what is known of the call of a write
 pub record IsWriteCall (io : Io) (p : ℕ) (target : Target) (call : PendingCall) (count : ℕ) : Type 0 where
-  pub may : MayWrite io p target call count
+  pub may : MayWriteTarget io p target call count
   pub first : (n : ℕ) → target ≡ Term n → pending_at io p ≡ None
 
 pub write-call : (kind : WriteKind) (regs : Regs) (io : Io) (p : ℕ) (opened : OpenPath) (code : ℕ) (call : PendingCall)
@@ -169,7 +169,7 @@ module _ (caller : Caller) (io new : Io) (n : ℕ) (put : List ℕ) (count : ℕ
 
   abbrev Changes : ℕ → Progress → Type 0
   Changes taken answer =
-      ChangesOneTerminal (Writes caller.process put taken answer (terminal_at io n) (terminal_at new n)) n before after
+      ChangesOneTerminal (WriteAttempted caller.process put taken answer (terminal_at io n) (terminal_at new n)) n before after
 
   put-ends : (answer : Progress) (end : CallEnd) → Changes count answer
       → new ≡ with_call (with_terminal io n (terminal_at new n)) caller.process.0 None → PutEnds answer end
@@ -235,8 +235,8 @@ done-regs ErrorLine caller bytes = refl
 
 module _ (m : Processes) (io : Io) (p : ℕ) (processes : ProcState) (regs : Regs) (new : Io) (before after : List TerminalState) (step : IoStep) where
   pub tries-told : (end : CallEnd) → Sends step (caller_of m p) io regs end new before after
-      → ((it : IoEnd) (between : Io) → IsTold it regs end → Comes m p (result_by it m p (leaves it between)) end
-      processes) → Tries step m io p end processes new before after
+      → ((it : IoEnd) (between : Io) → IsTold it regs end → ReturnsCallEnd m p (result_by it m p (leaves it between)) end
+      processes) → TriesIoStep step m io p end processes new before after
   tries-told End.Done it told = record { effect = leaves it.it it.between; does = it.does; comes = told it.it it.between it.told; state = it.state }
   tries-told (End.Error number) it told = record { effect = leaves it.it it.between; does = it.does; comes = told it.it it.between it.told; state = it.state }
   tries-told End.Wait it told = record { effect = leaves it.it it.between; does = it.does; comes = told it.it it.between it.told; state = it.state }
@@ -249,8 +249,8 @@ pub sends-tries : (m : Processes) (io : Io) (process : Pid) (processes : ProcSta
     → regs ≡ regs_at m process.0 → regs_done kind regs (length bytes) ≡ told
     → Sends (write_named kind (sender process regs (cells_at m process.0)) io bytes)
     (sender process regs (cells_at m process.0)) io (regs_done kind regs (length bytes)) end new before after
-    → ((it : IoEnd) (between : Io) → IsTold it told end → Comes m process.0
-    (result_by it m process.0 (leaves it between)) end processes) → Tries (write_named kind (caller_of m process.0) io
+    → ((it : IoEnd) (between : Io) → IsTold it told end → ReturnsCallEnd m process.0
+    (result_by it m process.0 (leaves it between)) end processes) → TriesIoStep (write_named kind (caller_of m process.0) io
     bytes) m io process.0 end processes new before after
 sends-tries m io process processes new before after kind bytes regs told end same told_is sends tells =
     let by_regs = subst (λ (r : Regs). Sends (write_named kind (sender process r (cells_at m process.0)) io bytes)
@@ -310,10 +310,10 @@ module _ (m : Processes) (io : Io) (process : Pid) (processes : ProcState) (new 
 
   abbrev Told : Regs → Type 0
   Told told =
-      (it : IoEnd) (between : Io) → IsTold it told end → Comes m process.0 (result_by it m process.0 (leaves it between)) end processes
+      (it : IoEnd) (between : Io) → IsTold it told end → ReturnsCallEnd m process.0 (result_by it m process.0 (leaves it between)) end processes
 
   pub bytes-tries : length bytes ≡ regs.y → user_bytes (cells_at m process.0) regs.x regs.y ≡ Some bytes → Sent Bytes
-      → Told regs → Tries (i_write (caller_of m process.0) io) m io process.0 end processes new before after
+      → Told regs → TriesIoStep (i_write (caller_of m process.0) io) m io process.0 end processes new before after
   bytes-tries all there sends told =
       let caller : Caller = caller_of m process.0 in
       let next : List ℕ → IoStep = λ bytes. on_path caller io caller.regs.a can_write (λ (opened : OpenPath). unless_nothing caller io (sends_on (sent_bytes caller bytes) I_WRITE caller io opened)) in
@@ -324,7 +324,7 @@ module _ (m : Processes) (io : Io) (process : Pid) (processes : ProcState) (new 
 
   pub line-tries : (y : ℕ) → length bytes ≡ y → line_bytes (caller_of m process.0) (pending_at io process.0) ≡ Some bytes
       → IsSentLine regs (pending_at io process.0) bytes → Sent Line → Told (record regs { y = y })
-      → Tries (i_writln (caller_of m process.0) io) m io process.0 end processes new before after
+      → TriesIoStep (i_writln (caller_of m process.0) io) m io process.0 end processes new before after
   line-tries y all there line sends told =
       let caller : Caller = caller_of m process.0 in
       let known : IsSentLine caller.regs (pending_at io process.0) bytes = subst (λ (r : Regs). IsSentLine r (pending_at io process.0) bytes) same line in
@@ -343,7 +343,7 @@ module _ (m : Processes) (io : Io) (process : Pid) (processes : ProcState) (new 
       has-none : length bytes ≤ (regs_at m process.0).y → (regs_at m process.0).y ≡ 0 → length bytes ≡ 0
       has-none few none = omega arith
 
-  pub error-tries : bytes ≡ error_line regs.b → Sent ErrorLine → Told regs → Tries (f_perr (caller_of m process.0) io) m io process.0 end processes new before after
+  pub error-tries : bytes ≡ error_line regs.b → Sent ErrorLine → Told regs → TriesIoStep (f_perr (caller_of m process.0) io) m io process.0 end processes new before after
   error-tries is sends told =
       let caller : Caller = caller_of m process.0 in
       tries-same m io process.0 end processes new before after (write_named ErrorLine caller io bytes) (f_perr caller io)

@@ -6,7 +6,7 @@ use Rattle.io_model.specs.Terminal.{Terminal, Arrives}
 use Rattle.io_model.specs.declared.terminal.Arrival.{Arrival}
 use Rattle.io_model.specs.Arrivals.{Desk, Arrivals, ArrivesAt, ArrivesFrom}
 use Rattle.io_model.specs.Io.{Io, terminal_at, with_terminal}
-use Rattle.proc_state.specs.Tie.{Represents}
+use Rattle.proc_state.specs.Tie.{RepresentsProcesses}
 use Rattle.proc_state.specs.declared.state.ProcState.{ProcState}
 
 -- what arriving keys may change
@@ -14,16 +14,16 @@ abbrev pub desk : Processes → Io → List TerminalState → Desk
 desk processes io terms = record { processes = processes; io = io; terms = terms }
 
 -- the keys of all terminals arrived: from each state that the processes represented, to a state that they now represent
-abbrev pub KeysArrive : ProcState → Io → List TerminalState → ProcState → Io → List TerminalState → Type 0
-KeysArrive s io terms new now after =
-    (m : Processes) → Represents s m →
-    (next : Processes) × Arrivals s.tick (desk m io terms) (desk next now after) × Represents new next
+abbrev pub AllKeysArrive : ProcState → Io → List TerminalState → ProcState → Io → List TerminalState → Type 0
+AllKeysArrive s io terms new now after =
+    (m : Processes) → RepresentsProcesses s m →
+    (next : Processes) × Arrivals s.tick (desk m io terms) (desk next now after) × RepresentsProcesses new next
 
 -- the keys of this one terminal arrived
 abbrev pub KeysArriveAt : ProcState → Io → List TerminalState → ProcState → Io → List TerminalState → ℕ → Type 0
 KeysArriveAt s io terms new now after n =
-    (m : Processes) → Represents s m →
-    (next : Processes) × Represents new next × ArrivesAt s.tick n (desk m io terms) (desk next now after)
+    (m : Processes) → RepresentsProcesses s m →
+    (next : Processes) × RepresentsProcesses new next × ArrivesAt s.tick n (desk m io terms) (desk next now after)
 
 -- a bell of this terminal found no memory, which ends its poll before its signal is sent
 pub record PollBreaks (tick n : ℕ) (old : Desk) (new : Io) (after : List TerminalState) : Type 0 where
@@ -37,11 +37,12 @@ pub record PollBreaks (tick n : ℕ) (old : Desk) (new : Io) (after : List Termi
 -- the poll of this one terminal broke off
 abbrev pub KeysBreakAt : ProcState → Io → List TerminalState → ProcState → Io → List TerminalState → ℕ → Type 0
 KeysBreakAt s io terms new now after n =
-    (m : Processes) → Represents s m → Represents new m × PollBreaks s.tick n (desk m io terms) now after
+    (m : Processes) → RepresentsProcesses s m → RepresentsProcesses new m
+    × PollBreaks s.tick n (desk m io terms) now after
 
 -- the keys of some first terminals arrived, and then the poll of the next one broke off
 abbrev pub KeysBreak : ProcState → Io → List TerminalState → ProcState → Io → List TerminalState → Type 0
 KeysBreak s io terms new now after =
-    (m : Processes) → Represents s m →
+    (m : Processes) → RepresentsProcesses s m →
     (polled : ℕ) × (between : Desk) × ArrivesFrom s.tick 0 polled (desk m io terms) between
-    × Represents new between.processes × PollBreaks s.tick polled between now after
+    × RepresentsProcesses new between.processes × PollBreaks s.tick polled between now after

@@ -7,12 +7,13 @@ use Rattle.proc_model.specs.Processes.{Processes}
 use Rattle.io_model.specs.Attempts.{io_after, result_of}
 use Rattle.io_model.specs.Io.{Io}
 use Rattle.io_model.specs.Step.{IoEffect, IoEnd, answers, fails, keeps}
-use Rattle.proc_state.specs.Tie.{Comes}
+use Rattle.proc_state.specs.Tie.{ReturnsCallEnd}
 use Rattle.proc_state.specs.declared.state.ProcState.{ProcState}
 
 -- an attempt of a process with this effect ends in this way, and leaves these processes and this state
-abbrev pub Leaves : IoEffect → Processes → ℕ → CallEnd → ProcState → Io → Type 0
-Leaves effect m p end processes new = Comes m p (result_of m p effect) end processes × (new ≡ io_after p effect)
+abbrev pub LeavesIoState : IoEffect → Processes → ℕ → CallEnd → ProcState → Io → Type 0
+LeavesIoState effect m p end processes new = ReturnsCallEnd m p (result_of m p effect) end processes
+    × (new ≡ io_after p effect)
 
 -- a call with this end returns in this way; if it is done its process has these registers
 abbrev pub IsTold : IoEnd → Regs → CallEnd → Type 0

@@ -58,13 +58,13 @@ read_step kind caller io =
 -- ---- any call on paths
 
 -- if a read of the process is pending, it is not refused
-abbrev pub StaysAllowed : IoCall → Cells → Regs → Io → ℕ → Type 0
-StaysAllowed Call.Read cells regs io p = StaysIfPending cells regs io p
-StaysAllowed Call.ReadLn cells regs io p = StaysIfPending cells regs io p
-StaysAllowed call cells regs io p = ⊤
+abbrev pub PendingReadIsAllowed : IoCall → Cells → Regs → Io → ℕ → Type 0
+PendingReadIsAllowed Call.Read cells regs io p = StaysIfPending cells regs io p
+PendingReadIsAllowed Call.ReadLn cells regs io p = StaysIfPending cells regs io p
+PendingReadIsAllowed call cells regs io p = ⊤
 
 -- a process may attempt this call, on a machine with `terms` terminals
-pub record MayAttempt (call : IoCall) (processes : ProcState) (io : Io) (p terms : ℕ) : Type 0 where
+pub record MayAttemptIo (call : IoCall) (processes : ProcState) (io : Io) (p terms : ℕ) : Type 0 where
   pub again : IsAgain call (record_at processes.table p).regs io p
-  pub stays : StaysAllowed call (cells_of processes.memory p) (record_at processes.table p).regs io p
+  pub stays : PendingReadIsAllowed call (cells_of processes.memory p) (record_at processes.table p).regs io p
   pub terminals : AreTerminals io.paths terms

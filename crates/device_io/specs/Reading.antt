@@ -35,14 +35,14 @@ HasWindow cells at moved count buffer =
 
 -- the bytes `read` were read for the `bytes` of a write on the path of a number: their counts are equal; on a pipe the
 -- bytes that the attempt may move are the same, elsewhere all bytes are
-pub record StandsFor (io : Io) (p number : ℕ) (bytes read : List ℕ) : Type 0 where
+pub record AreReadForWrite (io : Io) (p number : ℕ) (bytes read : List ℕ) : Type 0 where
   pub count : length read ≡ length bytes
   pub all : is_on_pipe (open_path io p number) ≡ false → read ≡ bytes
   pub moving : window (moved_before (pending_at io p)) read ≡ window (moved_before (pending_at io p)) bytes
 
 -- `count` bytes at the front of a buffer were read for a write on the path of a number, if it has bytes
-abbrev pub IsRead : Io → ℕ → ℕ → Option (List ℕ) → Option ℕ → List ℕ → Type 0
-IsRead io p number None None buffer = ⊤
-IsRead io p number None (Some count) buffer = ⊥
-IsRead io p number (Some bytes) None buffer = ⊥
-IsRead io p number (Some bytes) (Some count) buffer = StandsFor io p number bytes (take count buffer)
+abbrev pub AreWriteBytesRead : Io → ℕ → ℕ → Option (List ℕ) → Option ℕ → List ℕ → Type 0
+AreWriteBytesRead io p number None None buffer = ⊤
+AreWriteBytesRead io p number None (Some count) buffer = ⊥
+AreWriteBytesRead io p number (Some bytes) None buffer = ⊥
+AreWriteBytesRead io p number (Some bytes) (Some count) buffer = AreReadForWrite io p number bytes (take count buffer)

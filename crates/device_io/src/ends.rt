@@ -9,7 +9,7 @@ ghost use Rattle.io_state.specs.Sound.{IsIo, MayWait, ReadsNoTerminal};
 ghost use Rattle.proc_model.specs.Records.{IsLiving};
 ghost use Rattle.proc_model.specs.Processes.{Processes, with_regs_of};
 ghost use Rattle.device_io.specs.Leaving.{IsTold};
-ghost use Rattle.proc_state.specs.Tie.{Comes, Represents};
+ghost use Rattle.proc_state.specs.Tie.{ReturnsCallEnd, RepresentsProcesses};
 
 use io_model::path::SysPath;
 use io_model::pending::PendingCall;
@@ -83,8 +83,8 @@ pub(crate) fn answer(s: &mut ProcState, io: &mut IoState, p: Pid, regs: Regs) ->
     requires lives { IsLiving s.old.table p.0 }
     requires no_read { ReadsNoTerminal io.old p.0 }
     ensures end { result ≡ CallEnd.Done }
-    ensures tied { (m : Processes) → Represents s.old m
-        → Represents s.new (with_regs_of m p.0 regs) }
+    ensures tied { (m : Processes) → RepresentsProcesses s.old m
+        → RepresentsProcesses s.new (with_regs_of m p.0 regs) }
     ensures io { io.new ≡ with_call io.old p.0 None }
     ensures lives { IsLiving s.new.table p.0 }
 {
@@ -96,8 +96,8 @@ pub(crate) fn answer(s: &mut ProcState, io: &mut IoState, p: Pid, regs: Regs) ->
 /// call is done.
 pub(crate) fn tell(s: &mut ProcState, p: Pid, end: CallEnd, regs: Regs)
     requires lives { IsLiving s.old.table p.0 }
-    ensures told { (m : Processes) (it : IoEnd) (io : Io) → Represents s.old m → IsTold it regs end
-        → Comes m p.0 (result_by it m p.0 (leaves it io)) end s.new }
+    ensures told { (m : Processes) (it : IoEnd) (io : Io) → RepresentsProcesses s.old m
+        → IsTold it regs end → ReturnsCallEnd m p.0 (result_by it m p.0 (leaves it io)) end s.new }
     ensures lives { IsLiving s.new.table p.0 }
 {
     if end == CallEnd::Done {

@@ -4,8 +4,8 @@ ghost use Rattle.std.specs.Prelude.{◌≡◌, ◌<◌, ◌≤◌, ◌||◌, fal
 ghost use Rattle.device_table.specs.Seen.{terminals_seen};
 ghost use Rattle.proc_model.specs.Processes.{Processes};
 ghost use Rattle.io_model.specs.Arrivals.{after_key_signal, after_signal_to};
-ghost use Rattle.device_io.specs.Keys.{KeysArrive, KeysArriveAt, KeysBreak, KeysBreakAt};
-ghost use Rattle.proc_state.specs.Tie.{Represents};
+ghost use Rattle.device_io.specs.Keys.{AllKeysArrive, KeysArriveAt, KeysBreak, KeysBreakAt};
+ghost use Rattle.proc_state.specs.Tie.{RepresentsProcesses};
 
 use device_table::devices::Devices;
 use io_model::path::Target;
@@ -33,7 +33,7 @@ pub fn arrive_keys(
     devices: &mut Devices,
 ) -> Result<bool, OutOfMemory>
     requires { vec_len devices.old.terms ≤ 4 }
-    ensures arrived { IsOk result → KeysArrive s.old io.old
+    ensures arrived { IsOk result → AllKeysArrive s.old io.old
         (terminals_seen CharDriver-box devices.old) s.new io.new
         (terminals_seen CharDriver-box devices.new) }
     ensures broken { IsErr result → KeysBreak s.old io.old
@@ -99,8 +99,8 @@ fn has_changed(signal: Option<u8>, before: u16, now: u16) -> bool
 
 /// Sends the signal of a terminal to its last user, if it has both.
 fn send_to_user(s: &mut ProcState, user: Option<Pid>, signal: Option<u8>)
-    ensures sent { (m : Processes) → Represents s.old m
-        → Represents s.new (after_key_signal m user signal) }
+    ensures sent { (m : Processes) → RepresentsProcesses s.old m
+        → RepresentsProcesses s.new (after_key_signal m user signal) }
     ensures unsent { signal ≡ None → s.new ≡ s.old }
     ensures tick { s.new.tick ≡ s.old.tick }
 {
@@ -112,8 +112,8 @@ fn send_to_user(s: &mut ProcState, user: Option<Pid>, signal: Option<u8>)
 
 /// Sends a signal to a process. It is dropped if the process has a pending signal.
 fn send_signal(s: &mut ProcState, to: Pid, signal: u8)
-    ensures sent { (m : Processes) → Represents s.old m
-        → Represents s.new (after_signal_to m to signal) }
+    ensures sent { (m : Processes) → RepresentsProcesses s.old m
+        → RepresentsProcesses s.new (after_signal_to m to signal) }
     ensures tick { s.new.tick ≡ s.old.tick }
 {
     let _sent = s.table.send(SUPERUSER, to, signal);

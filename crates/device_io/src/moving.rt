@@ -4,11 +4,11 @@ ghost use Rattle.std.specs.Prelude.{◌≡◌, ◌<◌, ◌≤◌, IfSome, lengt
 ghost use Rattle.os9_base.specs.Cells.{FitsIn};
 ghost use Rattle.proc_model.specs.Processes.{Processes, cells_at};
 ghost use Rattle.proc_model.specs.UserBytes.{user_bytes};
-ghost use Rattle.guest_memory.specs.Tie.{IsSame as IsSameMemory, cells_of};
+ghost use Rattle.guest_memory.specs.Tie.{IsMemorySame as IsSameMemory, cells_of};
 ghost use Rattle.io_model.specs.Io.{pending_at, open_path};
-ghost use Rattle.proc_state.specs.Tie.{IsSame, Represents};
+ghost use Rattle.proc_state.specs.Tie.{AreProcessesSame, RepresentsProcesses};
 ghost use Rattle.device_io.specs.Reading as model;
-ghost use Rattle.device_io.specs.Reading.{HasWindow, IsRead};
+ghost use Rattle.device_io.specs.Reading.{HasWindow, AreWriteBytesRead};
 
 use guest_memory::memory::Memory;
 use io_model::path::Target;
@@ -24,10 +24,11 @@ use proc_state::state::ProcState;
 pub(crate) fn read_moving(s: &mut ProcState, io: &IoState, by: Requester, count: u16) -> Option<u16>
     requires process { by.p.0 < 33 }
     requires left { IfSome (pending_at io.now by.p.0) (λ pending. pending.moved < count) }
-    ensures read { (m : Processes) → Represents s.old m → IsRead io.now by.p.0 by.regs.a
-        (user_bytes (cells_at m by.p.0) by.regs.x count) result s.new.buffer.items }
+    ensures read { (m : Processes) → RepresentsProcesses s.old m
+        → AreWriteBytesRead io.now by.p.0 by.regs.a (user_bytes (cells_at m by.p.0) by.regs.x count)
+        result s.new.buffer.items }
     ensures count { IfSome result (λ all. all ≡ count) }
-    ensures same { IsSame s.old s.new }
+    ensures same { AreProcessesSame s.old s.new }
 {
     if count == 0 || !is_on_pipe(io, by.p, by.regs.a) {
         return read_all(s, by.p, by.regs.x, count);
@@ -63,10 +64,11 @@ fn moved_before(io: &IoState, p: Pid) -> u16
 /// Reads all `count` bytes into the front of the buffer.
 fn read_all(s: &mut ProcState, p: Pid, at: u16, count: u16) -> Option<u16>
     requires { p.0 < 33 }
-    ensures read { (m : Processes) → Represents s.old m → user_bytes (cells_at m p.0) at count
-        ≡ option_map (λ count. take count s.new.buffer.items) result }
+    ensures read { (m : Processes) → RepresentsProcesses s.old m
+        → user_bytes (cells_at m p.0) at count ≡ option_map (λ count. take count s.new.buffer.items)
+        result }
     ensures count { IfSome result (λ all. all ≡ count) }
-    ensures same { IsSame s.old s.new }
+    ensures same { AreProcessesSame s.old s.new }
 {
     if s.read_bytes(p, at, count) {
         Some(count)
@@ -81,9 +83,9 @@ fn read_window(s: &mut ProcState, by: Requester, moved: u16, count: u16)
     requires process { by.p.0 < 33 }
     requires fits { FitsIn (cells_of s.old.memory by.p.0) by.regs.x count }
     requires left { moved < count }
-    ensures window { (m : Processes) → Represents s.old m
+    ensures window { (m : Processes) → RepresentsProcesses s.old m
         → HasWindow (cells_at m by.p.0) by.regs.x moved count s.new.buffer.items }
-    ensures same { IsSame s.old s.new }
+    ensures same { AreProcessesSame s.old s.new }
 {
     load_window(&mut s.memory, by, moved, count, &mut s.buffer);
 }

@@ -14,9 +14,9 @@ ghost use Rattle.io_model.specs.Read.{pipe_read};
 ghost use Rattle.io_model.specs.Step.{stores};
 ghost use Rattle.io_state.specs.Sound.{MayWait, ReadsNoTerminal};
 ghost use Rattle.io_model.specs.declared.terminal.ReadKind.TheVariants as Kind;
-ghost use Rattle.proc_state.specs.Tie.{Represents};
+ghost use Rattle.proc_state.specs.Tie.{RepresentsProcesses};
 ghost use Rattle.io_state.specs.Context.{InCall};
-ghost use Rattle.device_io.specs.Leaving.{Leaves};
+ghost use Rattle.device_io.specs.Leaving.{LeavesIoState};
 
 use crate::ends::{answer, keep, moved_on, refuse};
 use crate::lines::has_return;
@@ -48,8 +48,8 @@ pub(crate) fn read_pipe(
     requires pipe { IsPipe io.old.pipes pipe }
     requires may { MayWait io.old.paths by.p.0 call }
     requires no_read { ReadsNoTerminal io.old by.p.0 }
-    ensures call { (m : Processes) → Represents s.old m
-        → Leaves (pipe_read Kind.Bytes (caller_of m by.p.0) io.old pipe call) m by.p.0
+    ensures call { (m : Processes) → RepresentsProcesses s.old m
+        → LeavesIoState (pipe_read Kind.Bytes (caller_of m by.p.0) io.old pipe call) m by.p.0
         result s.new io.new }
     ensures lives { IsLiving s.new.table by.p.0 }
 {
@@ -96,8 +96,8 @@ pub(crate) fn read_pipe_line(
     requires pipe { IsPipe io.old.pipes pipe }
     requires may { MayWait io.old.paths by.p.0 call }
     requires no_read { ReadsNoTerminal io.old by.p.0 }
-    ensures call { (m : Processes) → Represents s.old m
-        → Leaves (pipe_read Kind.WholeLine (caller_of m by.p.0) io.old pipe call) m by.p.0
+    ensures call { (m : Processes) → RepresentsProcesses s.old m
+        → LeavesIoState (pipe_read Kind.WholeLine (caller_of m by.p.0) io.old pipe call) m by.p.0
         result s.new io.new }
     ensures lives { IsLiving s.new.table by.p.0 }
 {
@@ -134,8 +134,8 @@ fn is_over(taken: &[u8], alone: bool, call: PendingCall) -> bool
 fn end_of_file(s: &mut ProcState, io: &mut IoState, by: Requester, call: PendingCall) -> CallEnd
     requires calls { InCall by s.old }
     requires no_read { ReadsNoTerminal io.old by.p.0 }
-    ensures call { (m : Processes) (at : ℕ) → Represents s.old m
-        → Leaves (stores at [] (line_ended (caller_of m by.p.0) call) io.old)
+    ensures call { (m : Processes) (at : ℕ) → RepresentsProcesses s.old m
+        → LeavesIoState (stores at [] (line_ended (caller_of m by.p.0) call) io.old)
         m by.p.0 result s.new io.new }
     ensures lives { IsLiving s.new.table by.p.0 }
 {

@@ -5,9 +5,9 @@ ghost use Rattle.io_model.specs.Read.{read_call};
 ghost use Rattle.std.specs.Prelude.{◌≡◌, ℕ, vec_len};
 ghost use Rattle.io_model.specs.declared.io_call.IoCall.TheVariants as Call;
 ghost use Rattle.io_state.specs.Context.{InCall, SameDrives};
-ghost use Rattle.device_io.specs.Moving.{MayAttempt, read_step};
+ghost use Rattle.device_io.specs.Moving.{MayAttemptIo, read_step};
 ghost use Rattle.device_io.specs.Streams.{streams};
-ghost use Rattle.device_io.specs.Trying.{AttemptsFrom, TriesFrom, WantsMemoryFrom};
+ghost use Rattle.device_io.specs.Trying.{IoAttemptedFrom, TriesIoStepFrom, WantsMemoryFrom};
 
 use crate::ends::{answer, call_now, refuse};
 use crate::modes::can_read;
@@ -37,8 +37,8 @@ use proc_state::state::ProcState;
 /// E$EOF at the end of the file, and E$Write if a terminal failed.
 pub fn i_read(s: &mut ProcState, io: &mut IoState, devices: &mut Devices, by: Requester) -> CallEnd
     requires calls { InCall by s.old }
-    requires may { MayAttempt Call.Read s.old io.old by.p.0 (vec_len devices.old.terms) }
-    ensures call { (drives : ℕ) → AttemptsFrom Call.Read drives by.p.0 result s.old s.new
+    requires may { MayAttemptIo Call.Read s.old io.old by.p.0 (vec_len devices.old.terms) }
+    ensures call { (drives : ℕ) → IoAttemptedFrom Call.Read drives by.p.0 result s.old s.new
         (streams CharDriver-box io.old devices.old) (streams CharDriver-box io.new devices.new) }
     ensures memory { (drives : ℕ) → WantsMemoryFrom Call.Read drives by.p.0 result s.old
         (streams CharDriver-box io.old devices.old) (streams CharDriver-box io.new devices.new) }
@@ -64,8 +64,8 @@ pub fn i_readln(
     by: Requester,
 ) -> CallEnd
     requires calls { InCall by s.old }
-    requires may { MayAttempt Call.ReadLn s.old io.old by.p.0 (vec_len devices.old.terms) }
-    ensures call { (drives : ℕ) → AttemptsFrom Call.ReadLn drives by.p.0 result s.old s.new
+    requires may { MayAttemptIo Call.ReadLn s.old io.old by.p.0 (vec_len devices.old.terms) }
+    ensures call { (drives : ℕ) → IoAttemptedFrom Call.ReadLn drives by.p.0 result s.old s.new
         (streams CharDriver-box io.old devices.old) (streams CharDriver-box io.new devices.new) }
     ensures memory { (drives : ℕ) → WantsMemoryFrom Call.ReadLn drives by.p.0 result s.old
         (streams CharDriver-box io.old devices.old) (streams CharDriver-box io.new devices.new) }
@@ -83,8 +83,8 @@ fn read(
     kind: ReadKind,
 ) -> CallEnd
     requires calls { InCall by s.old }
-    requires may { MayAttempt (read_call kind) s.old io.old by.p.0 (vec_len devices.old.terms) }
-    ensures call { TriesFrom (read_step kind) by result s.old s.new
+    requires may { MayAttemptIo (read_call kind) s.old io.old by.p.0 (vec_len devices.old.terms) }
+    ensures call { TriesIoStepFrom (read_step kind) by result s.old s.new
         (streams CharDriver-box io.old devices.old) (streams CharDriver-box io.new devices.new) }
     ensures kept { SameDrives by s.new devices.old devices.new }
 {

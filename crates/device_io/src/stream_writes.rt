@@ -7,12 +7,12 @@ ghost use Rattle.io_model.specs.Io.{pending_at};
 ghost use Rattle.io_model.specs.Write as model;
 ghost use Rattle.io_model.specs.Write.{line_bytes};
 ghost use Rattle.io_model.specs.declared.io_call.IoCall.TheVariants as Call;
-ghost use Rattle.proc_state.specs.Tie.{IsSame, Represents};
+ghost use Rattle.proc_state.specs.Tie.{AreProcessesSame, RepresentsProcesses};
 ghost use Rattle.io_state.specs.Context.{InCall, SameDrives};
-ghost use Rattle.device_io.specs.Moving.{MayAttempt};
-ghost use Rattle.device_io.specs.Reading.{IsRead};
+ghost use Rattle.device_io.specs.Moving.{MayAttemptIo};
+ghost use Rattle.device_io.specs.Reading.{AreWriteBytesRead};
 ghost use Rattle.device_io.specs.Streams.{streams};
-ghost use Rattle.device_io.specs.Trying.{AttemptsFrom, WantsMemoryFrom};
+ghost use Rattle.device_io.specs.Trying.{IoAttemptedFrom, WantsMemoryFrom};
 
 use crate::ends::{refuse, tell};
 use crate::moving::read_moving;
@@ -38,8 +38,8 @@ use proc_state::state::ProcState;
 /// path. Bytes that are out stay out, and the registers do not change.
 pub fn i_write(s: &mut ProcState, io: &mut IoState, devices: &mut Devices, by: Requester) -> CallEnd
     requires calls { InCall by s.old }
-    requires may { MayAttempt Call.Write s.old io.old by.p.0 (vec_len devices.old.terms) }
-    ensures call { (drives : ℕ) → AttemptsFrom Call.Write drives by.p.0 result s.old s.new
+    requires may { MayAttemptIo Call.Write s.old io.old by.p.0 (vec_len devices.old.terms) }
+    ensures call { (drives : ℕ) → IoAttemptedFrom Call.Write drives by.p.0 result s.old s.new
         (streams CharDriver-box io.old devices.old) (streams CharDriver-box io.new devices.new) }
     ensures memory { (drives : ℕ) → WantsMemoryFrom Call.Write drives by.p.0 result s.old
         (streams CharDriver-box io.old devices.old) (streams CharDriver-box io.new devices.new) }
@@ -75,8 +75,8 @@ pub fn i_writln(
     by: Requester,
 ) -> CallEnd
     requires calls { InCall by s.old }
-    requires may { MayAttempt Call.WritLn s.old io.old by.p.0 (vec_len devices.old.terms) }
-    ensures call { (drives : ℕ) → AttemptsFrom Call.WritLn drives by.p.0 result s.old s.new
+    requires may { MayAttemptIo Call.WritLn s.old io.old by.p.0 (vec_len devices.old.terms) }
+    ensures call { (drives : ℕ) → IoAttemptedFrom Call.WritLn drives by.p.0 result s.old s.new
         (streams CharDriver-box io.old devices.old) (streams CharDriver-box io.new devices.new) }
     ensures memory { (drives : ℕ) → WantsMemoryFrom Call.WritLn drives by.p.0 result s.old
         (streams CharDriver-box io.old devices.old) (streams CharDriver-box io.new devices.new) }
@@ -104,8 +104,8 @@ pub fn i_writln(
 /// wait holds its path. Bytes that are out stay out.
 pub fn f_perr(s: &mut ProcState, io: &mut IoState, devices: &mut Devices, by: Requester) -> CallEnd
     requires calls { InCall by s.old }
-    requires may { MayAttempt Call.PErr s.old io.old by.p.0 (vec_len devices.old.terms) }
-    ensures call { (drives : ℕ) → AttemptsFrom Call.PErr drives by.p.0 result s.old s.new
+    requires may { MayAttemptIo Call.PErr s.old io.old by.p.0 (vec_len devices.old.terms) }
+    ensures call { (drives : ℕ) → IoAttemptedFrom Call.PErr drives by.p.0 result s.old s.new
         (streams CharDriver-box io.old devices.old) (streams CharDriver-box io.new devices.new) }
     ensures memory { (drives : ℕ) → WantsMemoryFrom Call.PErr drives by.p.0 result s.old
         (streams CharDriver-box io.old devices.old) (streams CharDriver-box io.new devices.new) }
@@ -123,14 +123,15 @@ pub fn f_perr(s: &mut ProcState, io: &mut IoState, devices: &mut Devices, by: Re
 /// bytes that it may move. None if one of them is in no named slot or past `FFFF`.
 fn read_line_now(s: &mut ProcState, io: &IoState, by: Requester) -> Option<u16>
     requires { InCall by s.old }
-    ensures line { (m : Processes) → Represents s.old m → IsRead io.now by.p.0 by.regs.a
+    ensures line { (m : Processes) → RepresentsProcesses s.old m
+        → AreWriteBytesRead io.now by.p.0 by.regs.a
         (line_bytes (caller_of m by.p.0) (pending_at io.now by.p.0)) result s.new.buffer.items }
-    ensures first { (m : Processes) → Represents s.old m → pending_at io.now by.p.0 ≡ None
+    ensures first { (m : Processes) → RepresentsProcesses s.old m → pending_at io.now by.p.0 ≡ None
         → line_bytes (caller_of m by.p.0) None
         ≡ option_map (λ count. take count s.new.buffer.items) result }
     ensures kept { IfSome result
         (λ count. IfSome (pending_at io.now by.p.0) (λ pending. pending.count ≡ count)) }
-    ensures same { IsSame s.old s.new }
+    ensures same { AreProcessesSame s.old s.new }
 {
     match io.pending(by.p) {
         None => match s.read_line(by.p, by.regs.x, by.regs.y) {

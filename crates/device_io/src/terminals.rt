@@ -8,12 +8,12 @@ ghost use Rattle.guest_memory.specs.Tie.{cells_of};
 ghost use Rattle.io_model.specs.Attempts.{caller_of};
 ghost use Rattle.io_model.specs.Step.{TerminalRead};
 ghost use Rattle.io_model.specs.Terminals.{read_ends};
-ghost use Rattle.io_state.specs.Terminals.{MayRead, count_of};
-ghost use Rattle.proc_state.specs.Tie.{Represents};
+ghost use Rattle.io_state.specs.Terminals.{MayReadTerminal, count_of};
+ghost use Rattle.proc_state.specs.Tie.{RepresentsProcesses};
 ghost use Rattle.io_state.specs.Context.{InCall, SameDrives};
 ghost use Rattle.device_io.specs.Moving.{read_terminal as read_terminal_model};
 ghost use Rattle.device_io.specs.Streams.{streams};
-ghost use Rattle.device_io.specs.Trying.{EndsBy, TriesFrom};
+ghost use Rattle.device_io.specs.Trying.{EndsBy, TriesIoStepFrom};
 
 use device_table::devices::Devices;
 use io_model::terminal::{Progress, TYPE_AHEAD};
@@ -42,9 +42,9 @@ pub(crate) fn read_terminal(
 ) -> CallEnd
     requires calls { InCall by s.old }
     requires named { FitsIn (cells_of s.old.memory by.p.0) by.regs.x read.call.count }
-    requires may { MayRead io.old by.p.0 read.terminal read.kind read.call }
+    requires may { MayReadTerminal io.old by.p.0 read.terminal read.kind read.call }
     requires there { read.terminal < vec_len devices.old.terms }
-    ensures call { TriesFrom (read_terminal_model read.kind read.terminal read.call) by
+    ensures call { TriesIoStepFrom (read_terminal_model read.kind read.terminal read.call) by
         result s.old s.new
         (streams CharDriver-box io.old devices.old) (streams CharDriver-box io.new devices.new) }
     ensures kept { SameDrives by s.new devices.old devices.new }
@@ -60,7 +60,7 @@ fn end_read(s: &mut ProcState, by: Requester, answer: Progress, bytes: &[u8; TYP
     requires calls { InCall by s.old }
     requires named { FitsIn (cells_of s.old.memory by.p.0) by.regs.x (count_of answer) }
     requires room { count_of answer ≤ 256 }
-    ensures ends { (m : Processes) (read : TerminalRead) → Represents s.old m
+    ensures ends { (m : Processes) (read : TerminalRead) → RepresentsProcesses s.old m
         → EndsBy (read_ends (caller_of m by.p.0) read answer) by.regs.x
         (take (count_of answer) bytes.now) m by.p.0 result s.new }
     ensures lives { IsLiving s.new.table by.p.0 }

@@ -9,7 +9,7 @@ use Rattle.os9_base.specs.UserNames.{user_cell, name_at}
 use Rattle.os9_base.specs.declared.name_fault.NameFault.{NameFault}
 use Rattle.os9_base.specs.declared.name_fault.NameFault.TheVariants.{Unreadable}
 use Rattle.io_model.specs.PathList.{Names, Behind, another, a_slash, nothing, unreadable, behind, behind_name, behind_slash, is_dots, is_marked, name_before, names_with, names_behind, names_at, names_from, device_list, relative_list, list_with, path_list}
-use Rattle.guest_memory.specs.Tie.{IsSame}
+use Rattle.guest_memory.specs.Tie.{IsMemorySame}
 use Rattle.guest_memory.specs.declared.memory.Memory.{Memory}
 use Rattle.device_paths.specs.declared.names.Step.{Step}
 use Rattle.device_paths.specs.declared.names.Tail.{Tail}
@@ -110,14 +110,14 @@ pub names-end : (cells : Cells) (end last : Result Tail NameFault) (at : ℕ) �
 names-end cells end last at so within step = end-by cells end last at so.left so.enough so.tail within step
 
 -- memory is the same as it was before another time when it was the same
-pub same-still : (before between after : Memory) → IsSame before between → IsSame between after → IsSame before after
+pub same-still : (before between after : Memory) → IsMemorySame before between → IsMemorySame between after → IsMemorySame before after
 same-still before between after first second = record {
   modules = second.modules ∙ first.modules;
   cells = λ process. second.cells process ∙ first.cells process;
   represents = λ m stands. second.represents m (first.represents m stands);
 }
 
-pub same-memory : (memory : Memory) → IsSame memory memory
+pub same-memory : (memory : Memory) → IsMemorySame memory memory
 same-memory memory = record { modules = refl; cells = λ process. refl; represents = λ m stands. stands }
 
 -- there is one name at least

@@ -1,4 +1,4 @@
--- Attempts that reach no device: which calls make none, and what such an attempt is.
+-- IoAttempted that reach no device: which calls make none, and what such an attempt is.
 use Rattle.io_model.specs.Rows.{effect_of}
 use Rattle.std.proofs.Common.{◌≡◌, ℕ, Bool, true, false, Option, Some, None, List, refl, sym, subst, is_none, min, ◌==◌, if◌then◌else◌}
 use Rattle.os9_base.specs.declared.call.CallEnd.{CallEnd}
@@ -6,7 +6,7 @@ use Rattle.os9_base.specs.declared.registers.Regs.{Regs}
 use Rattle.proc_model.specs.MemoryChanges.{stored}
 use Rattle.os9_outer.specs.TerminalState.{TerminalState}
 use Rattle.proc_model.specs.Processes.{Processes, regs_at, cells_at, with_memory, with_regs_of}
-use Rattle.io_model.specs.Attempts.{Does, step_of, caller_of, result_of}
+use Rattle.io_model.specs.Attempts.{IoDoes, step_of, caller_of, result_of}
 use Rattle.os9_base.specs.declared.errors.TheConstants.{E_BPNUM, E_PTHFUL, E_UNKSVC, E_BPADDR, E_NOTRDY}
 use Rattle.proc_model.specs.UserBytes.{user_bytes}
 use Rattle.io_model.specs.Path.{slot_of, free_number, paths_after_dup}
@@ -19,9 +19,9 @@ use Rattle.io_model.specs.Status.{i_getstt, i_setstt, gets_status, gets_options,
 use Rattle.io_model.specs.declared.status.TheConstants.{SS_OPT, SS_READY, SS_EOF, OPTION_BYTES}
 use Rattle.io_model.specs.Step.{Caller, IoStep, refused, comes, reads, writes, needs, refuses, done, stores, answers}
 use Rattle.io_model.specs.declared.io_call.IoCall.{IoCall}
-use Rattle.io_state.specs.Attempt.{Attempts}
-use Rattle.device_paths.specs.Quiet.{Ends}
-use Rattle.proc_state.specs.Tie.{Represents}
+use Rattle.io_state.specs.Attempt.{IoAttempted}
+use Rattle.device_paths.specs.Quiet.{EndsIoAttempt}
+use Rattle.proc_state.specs.Tie.{RepresentsProcesses}
 use Rattle.proc_state.specs.declared.state.ProcState.{ProcState}
 use Rattle.std.specs.Prelude.{⊤}
 
@@ -33,7 +33,7 @@ IsQuiet (reads read) = ⊥
 IsQuiet (writes write) = ⊥
 
 -- what such an attempt does
-does-quiet : (step : IoStep) (caller : Caller) (io : Io) (terms : List TerminalState) → IsQuiet step → Does step caller io (effect_of step io) terms terms
+does-quiet : (step : IoStep) (caller : Caller) (io : Io) (terms : List TerminalState) → IsQuiet step → IoDoes step caller io (effect_of step io) terms terms
 does-quiet (refused number) caller io terms quiet = (refl, refl)
 does-quiet (comes effect) caller io terms quiet = (refl, refl)
 does-quiet (reads read) caller io terms quiet = absurd quiet
@@ -42,7 +42,7 @@ does-quiet (writes write) caller io terms quiet = absurd quiet
 -- such an attempt of a call, by how it ends
 pub attempts : (call : IoCall) (m : Processes) (io new : Io) (drives p : ℕ) (end : CallEnd) (processes : ProcState)
     (terms : List TerminalState) → IsQuiet (step_of call m p io drives terms)
-    → Ends (step_of call m p io drives terms) m io p end processes new → Attempts call m io drives p end processes new
+    → EndsIoAttempt (step_of call m p io drives terms) m io p end processes new → IoAttempted call m io drives p end processes new
     terms terms
 attempts call m io new drives p end processes terms quiet ends = record {
   result = result_of m p (effect_of (step_of call m p io drives terms) io);
@@ -113,17 +113,17 @@ getstt-quiet caller io = by (open_path io caller.process.0 caller.regs.a)
 
 -- a number that names a path was closed
 pub close-ends : (m : Processes) (io new : Io) (p : ℕ) (end : CallEnd) (processes : ProcState) (regs : Regs)
-    → regs ≡ regs_at m p → is_none (slot_of io.paths p regs.a) ≡ false → end ≡ CallEnd.Done → Represents processes
-    (with_regs_of m p regs) → new ≡ with_call (after_close io p regs.a) p None → Ends (i_close (caller_of m p) io) m
+    → regs ≡ regs_at m p → is_none (slot_of io.paths p regs.a) ≡ false → end ≡ CallEnd.Done → RepresentsProcesses processes
+    (with_regs_of m p regs) → new ≡ with_call (after_close io p regs.a) p None → EndsIoAttempt (i_close (caller_of m p) io) m
     io p end processes new
 close-ends m io new p end processes regs same named is tied state =
     by (slot_of io.paths p (regs_at m p).a) (subst (λ (r : Regs). is_none (slot_of io.paths p r.a) ≡ false) same
-    named) (subst (λ (r : Regs). Represents processes (with_regs_of m p r)) same tied)
+    named) (subst (λ (r : Regs). RepresentsProcesses processes (with_regs_of m p r)) same tied)
     (subst (λ (r : Regs). new ≡ with_call (after_close io p r.a) p None) same state)
   where
-    by : (path : Option SysPath) → is_none path ≡ false → Represents processes (with_regs_of m p (regs_at m p))
+    by : (path : Option SysPath) → is_none path ≡ false → RepresentsProcesses processes (with_regs_of m p (regs_at m p))
         → new ≡ with_call (after_close io p (regs_at m p).a) p None
-        → Ends (needs path E_BPNUM (λ path. done (regs_at m p) (after_close io p (regs_at m p).a))) m io p end
+        → EndsIoAttempt (needs path E_BPNUM (λ path. done (regs_at m p) (after_close io p (regs_at m p).a))) m io p end
         processes new
     by None named tied state = absurd (let e : true ≡ false = named in cc)
     by (Some path) named tied state = ((is, tied), state)
@@ -131,26 +131,26 @@ close-ends m io new p end processes regs same named is tied state =
 -- the bytes for the options of a path are not there
 pub options-refused : (m : Processes) (io new : Io) (p : ℕ) (target : Target) (end : CallEnd) (processes : ProcState)
     → user_bytes (cells_at m p) (regs_at m p).x OPTION_BYTES ≡ None → end ≡ CallEnd.Error E_BPADDR
-    → Represents processes m → new ≡ with_call io p None → Ends (gets_options (caller_of m p) io target) m io p end
+    → RepresentsProcesses processes m → new ≡ with_call io p None → EndsIoAttempt (gets_options (caller_of m p) io target) m io p end
     processes new
 options-refused m io new p target end processes none is tied state =
-    subst (λ (bytes : Option (List ℕ)). Ends (refuses (is_none bytes) E_BPADDR
+    subst (λ (bytes : Option (List ℕ)). EndsIoAttempt (refuses (is_none bytes) E_BPADDR
     (comes (stores (regs_at m p).x (options target) (answers (regs_at m p)) io))) m io p end processes new)
     (sym none) ((is, tied), state)
 
 -- the options of a path were stored
 pub options-stored : (m : Processes) (io new : Io) (p : ℕ) (target : Target) (end : CallEnd) (processes : ProcState)
     (bytes : List ℕ) (regs : Regs) → regs ≡ regs_at m p → user_bytes (cells_at m p) regs.x OPTION_BYTES ≡ Some bytes
-    → end ≡ CallEnd.Done → Represents processes
+    → end ≡ CallEnd.Done → RepresentsProcesses processes
     (with_regs_of (with_memory m (stored m.memory p regs.x (options target))) p regs) → new ≡ with_call io p None
-    → Ends (gets_options (caller_of m p) io target) m io p end processes new
+    → EndsIoAttempt (gets_options (caller_of m p) io target) m io p end processes new
 options-stored m io new p target end processes bytes regs same there is tied state =
-    subst (λ (bytes : Option (List ℕ)). Ends (refuses (is_none bytes) E_BPADDR
+    subst (λ (bytes : Option (List ℕ)). EndsIoAttempt (refuses (is_none bytes) E_BPADDR
     (comes (stores (regs_at m p).x (options target) (answers (regs_at m p)) io))) m io p end processes new)
     (sym (subst (λ (r : Regs). user_bytes (cells_at m p) r.x OPTION_BYTES ≡ Some bytes) same there)) (
       (
         is,
-        subst (λ (r : Regs). Represents processes
+        subst (λ (r : Regs). RepresentsProcesses processes
             (with_regs_of (with_memory m (stored m.memory p r.x (options target))) p r)) same tied,
       ),
       state,

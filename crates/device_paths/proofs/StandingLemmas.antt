@@ -8,7 +8,7 @@ use Rattle.os9_base.specs.declared.name_fault.NameFault.{NameFault}
 use Rattle.os9_base.specs.declared.name_fault.NameFault.TheVariants.{Unreadable, NoName}
 use Rattle.io_model.specs.PathList.{Names, PathList, Behind, another, a_slash, nothing, unreadable, behind, name_before, names_with, names_behind, names_at, names_from, from_device, device_list, relative_list, list_with, path_list}
 use Rattle.device_paths.specs.Standing.{IsFirstOf, IsFirstRead, NamesFrom, NamesStand, NextIsBehind, name_first, name_list, named_by, names_after, names_on}
-use Rattle.device_paths.specs.Tail.{GoesUp, step_by}
+use Rattle.device_paths.specs.Tail.{HasLaterName, step_by}
 use Rattle.device_paths.specs.declared.named.Named.{Named}
 use Rattle.device_paths.specs.declared.names.Step.{Step}
 use Rattle.device_paths.specs.declared.names.Step.TheVariants.{Another, Last}
@@ -29,7 +29,7 @@ names-by rest name next nothing = refl
 names-by rest name next unreadable = refl
 
 -- another one begins behind it
-pub next-behind : (at : ℕ) (name : List ℕ) (step : Result Step NameFault) → GoesUp at step → NextIsBehind at (named_by name step)
+pub next-behind : (at : ℕ) (name : List ℕ) (step : Result Step NameFault) → HasLaterName at step → NextIsBehind at (named_by name step)
 next-behind at name (Ok (Another next)) up = up
 next-behind at name (Ok (Last tail)) up = tt
 next-behind at name (Err fault) up = tt

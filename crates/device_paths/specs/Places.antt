@@ -27,11 +27,11 @@ lead_to (Ok Pipe) = to_pipe
 lead_to (Err number) = nowhere number
 
 -- a terminal, as a device or as a place, is one of four
-abbrev pub IsDevice : Dev → Type 0
-IsDevice (Dev.Drive drive) = ⊤
-IsDevice (Dev.Term terminal) = terminal < 4
-IsDevice Dev.Pipe = ⊤
+abbrev pub IsTerminalInRange : Dev → Type 0
+IsTerminalInRange (Dev.Drive drive) = ⊤
+IsTerminalInRange (Dev.Term terminal) = terminal < 4
+IsTerminalInRange Dev.Pipe = ⊤
 
-abbrev pub IsPlace : Place → Type 0
-IsPlace (Terminal terminal) = terminal < 4
-IsPlace Pipe = ⊤
+abbrev pub IsPlaceInRange : Place → Type 0
+IsPlaceInRange (Terminal terminal) = terminal < 4
+IsPlaceInRange Pipe = ⊤

@@ -33,10 +33,10 @@ tail_after rest (Ok (Last tail)) = Ok tail
 tail_after rest (Err fault) = Err fault
 
 -- the next name, if one follows, begins after this address
-abbrev pub GoesUp : ℕ → Result Step NameFault → Type 0
-GoesUp at (Ok (Another next)) = (at < next) × (next < 65536)
-GoesUp at (Ok (Last tail)) = ⊤
-GoesUp at (Err fault) = ⊤
+abbrev pub HasLaterName : ℕ → Result Step NameFault → Type 0
+HasLaterName at (Ok (Another next)) = (at < next) × (next < 65536)
+HasLaterName at (Ok (Last tail)) = ⊤
+HasLaterName at (Err fault) = ⊤
 
 -- a last name that ends before this address
 abbrev pub last_step : List ℕ → Bool → ℕ → Step

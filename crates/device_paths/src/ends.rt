@@ -4,7 +4,7 @@ ghost use Rattle.std.specs.Prelude.{◌≡◌, ◌<◌, None};
 ghost use Rattle.io_model.specs.Io.{pending_at, with_call};
 ghost use Rattle.proc_model.specs.Records.{IsLiving};
 ghost use Rattle.proc_model.specs.Processes.{Processes, with_regs_of};
-ghost use Rattle.proc_state.specs.Tie.{Represents};
+ghost use Rattle.proc_state.specs.Tie.{RepresentsProcesses};
 
 use io_state::state::IoState;
 use os9_base::call::CallEnd;
@@ -27,8 +27,8 @@ pub fn answer(s: &mut ProcState, io: &mut IoState, p: Pid, regs: Regs) -> CallEn
     requires lives { IsLiving s.old.table p.0 }
     requires first { pending_at io.old p.0 ≡ None }
     ensures end { result ≡ CallEnd.Done }
-    ensures tied { (m : Processes) → Represents s.old m
-        → Represents s.new (with_regs_of m p.0 regs) }
+    ensures tied { (m : Processes) → RepresentsProcesses s.old m
+        → RepresentsProcesses s.new (with_regs_of m p.0 regs) }
     ensures io { io.new ≡ with_call io.old p.0 None }
     ensures lives { IsLiving s.new.table p.0 }
 {

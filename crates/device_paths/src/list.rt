@@ -2,7 +2,7 @@
 
 ghost use Rattle.std.specs.Prelude.{◌≡◌, ◌+◌, ◌<◌, ◌≤◌, Ok, MatchOption, length};
 ghost use Rattle.os9_base.specs.Cells.{Cells};
-ghost use Rattle.guest_memory.specs.Tie.{IsSame, cells_of};
+ghost use Rattle.guest_memory.specs.Tie.{IsMemorySame, cells_of};
 ghost use Rattle.io_model.specs.PathList.{PathList, path_list, device_list, relative_list, names_from, behind};
 ghost use Rattle.device_paths.specs.Listed.{listed, listed_of, listed_by, listed_with, tails};
 ghost use Rattle.device_paths.specs.Standing.{NamesFrom};
@@ -64,7 +64,7 @@ fn behind_device(at: u16, len: u8) -> Option<u16>
 pub fn read_path_list(memory: &mut Memory, p: Pid, at: u16) -> Result<Listed, NameFault>
     requires { p.0 < 33 }
     ensures list { result ≡ listed_of (path_list (cells_of memory.old p.0) at) }
-    ensures same { IsSame memory.old memory.new }
+    ensures same { IsMemorySame memory.old memory.new }
 {
     match memory.byte(p, at, 0) {
         None => Err(NameFault::Unreadable),
@@ -78,7 +78,7 @@ fn read_behind_slash(memory: &mut Memory, p: Pid, at: u16) -> Result<Listed, Nam
     requires { p.0 < 33 }
     ensures list { result
         ≡ listed_of (device_list (names_from (cells_of memory.old p.0) (at + 1))) }
-    ensures same { IsSame memory.old memory.new }
+    ensures same { IsMemorySame memory.old memory.new }
 {
     if at == u16::MAX {
         return Err(NameFault::Unreadable);
@@ -90,7 +90,7 @@ fn read_behind_slash(memory: &mut Memory, p: Pid, at: u16) -> Result<Listed, Nam
 fn read_from_device(memory: &mut Memory, p: Pid, at: u16) -> Result<Listed, NameFault>
     requires { p.0 < 33 }
     ensures list { result ≡ listed_of (device_list (names_from (cells_of memory.old p.0) at)) }
-    ensures same { IsSame memory.old memory.new }
+    ensures same { IsMemorySame memory.old memory.new }
 {
     match memory.name(p, at) {
         Err(fault) => Err(fault),
@@ -109,7 +109,7 @@ fn read_behind_device(
     ensures list { result ≡ listed_by device (tails (cells_of memory.old p.0))
         (step_by device (at + length device)
         (behind (cells_of memory.old p.0) (at + length device))) }
-    ensures same { IsSame memory.old memory.new }
+    ensures same { IsMemorySame memory.old memory.new }
 {
     match step_over(memory, p, at, &device)? {
         Step::Another(next) => with_names(Some(device), read_tail(memory, p, next)),
@@ -127,7 +127,7 @@ fn read_behind_device(
 fn read_relative(memory: &mut Memory, p: Pid, at: u16) -> Result<Listed, NameFault>
     requires { p.0 < 33 }
     ensures list { result ≡ listed_of (relative_list (names_from (cells_of memory.old p.0) at)) }
-    ensures same { IsSame memory.old memory.new }
+    ensures same { IsMemorySame memory.old memory.new }
 {
     with_names(None, read_tail(memory, p, at))
 }

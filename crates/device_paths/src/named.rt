@@ -1,7 +1,7 @@
 //! The names of a path list, one by one.
 
 ghost use Rattle.std.specs.Prelude.{◌≡◌, ◌<◌, ℕ, suc, List};
-ghost use Rattle.guest_memory.specs.Tie.{IsSame, cells_of};
+ghost use Rattle.guest_memory.specs.Tie.{IsMemorySame, cells_of};
 ghost use Rattle.io_model.specs.PathList.{names_at};
 ghost use Rattle.device_paths.specs.Standing.{IsFirstRead, NamesStand, NextIsBehind, name_list, named_by, names_after};
 
@@ -32,7 +32,7 @@ pub fn read_name(memory: &mut Memory, p: Pid, at: u16) -> Result<Named, NameFaul
     ensures first { (names : List (List ℕ)) → NamesStand (cells_of memory.old p.0) at names
         → IsFirstRead (cells_of memory.old p.0) names result }
     ensures up { NextIsBehind at result }
-    ensures same { IsSame memory.old memory.new }
+    ensures same { IsMemorySame memory.old memory.new }
 {
     let name = memory.name(p, at)?;
     let step = step_over(memory, p, at, &name);

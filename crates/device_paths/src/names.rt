@@ -1,10 +1,10 @@
 //! The names of a path list.
 
 ghost use Rattle.std.specs.Prelude.{◌≡◌, ◌+◌, ◌<◌, ◌≤◌, ℕ, suc, Ok, length};
-ghost use Rattle.guest_memory.specs.Tie.{IsSame, cells_of};
+ghost use Rattle.guest_memory.specs.Tie.{IsMemorySame, cells_of};
 ghost use Rattle.io_model.specs.PathList.{behind as behind_model, behind_slash as behind_slash_model, names_behind, is_dots as is_dots_model, is_marked as is_marked_model, names_at};
 ghost use Rattle.os9_base.specs.Name.{is_name_character as is_name_character_model, low_bits};
-ghost use Rattle.device_paths.specs.Tail.{behind_of, tail_of, tail_after, GoesUp, step_by};
+ghost use Rattle.device_paths.specs.Tail.{behind_of, tail_of, tail_after, HasLaterName, step_by};
 
 use guest_memory::memory::Memory;
 use os9_base::name::Name;
@@ -54,7 +54,7 @@ pub fn read_tail(memory: &mut Memory, p: Pid, start: u16) -> Result<Tail, NameFa
     requires { p.0 < 33 }
     ensures tail { (left : ℕ) → 65536 ≤ left + start
         → result ≡ tail_of (names_at (cells_of memory.old p.0) start left) }
-    ensures same { IsSame memory.old memory.new }
+    ensures same { IsMemorySame memory.old memory.new }
 {
     let mut at = start;
     'names: loop {
@@ -71,8 +71,8 @@ fn read_step(memory: &mut Memory, p: Pid, at: u16) -> Result<Step, NameFault>
     requires { p.0 < 33 }
     ensures step { (left : ℕ) → tail_of (names_at (cells_of memory.old p.0) at (suc left))
         ≡ tail_after (λ next. tail_of (names_at (cells_of memory.old p.0) next left)) result }
-    ensures up { GoesUp at result }
-    ensures same { IsSame memory.old memory.new }
+    ensures up { HasLaterName at result }
+    ensures same { IsMemorySame memory.old memory.new }
 {
     let name = memory.name(p, at)?;
     step_over(memory, p, at, &name)
@@ -87,7 +87,7 @@ pub(crate) fn step_over(memory: &Memory, p: Pid, at: u16, name: &Name) -> Result
         (λ next. names_at (cells_of memory.now p.0) next left)
         (cells_of memory.now p.0) at (Ok name.now))
         ≡ tail_after (λ next. tail_of (names_at (cells_of memory.now p.0) next left)) result }
-    ensures up { GoesUp at result }
+    ensures up { HasLaterName at result }
 {
     let len = name.len();
     let dots = is_dots(name);

@@ -9,9 +9,9 @@ ghost use Rattle.io_model.specs.Close.{i_close as i_close_model};
 ghost use Rattle.io_model.specs.Dup.{i_dup as i_dup_model};
 ghost use Rattle.io_model.specs.Io.{pending_at};
 ghost use Rattle.io_model.specs.declared.io_call.IoCall.TheVariants as Call;
-ghost use Rattle.io_state.specs.Attempt.{Attempts};
-ghost use Rattle.device_paths.specs.Quiet.{Ends};
-ghost use Rattle.proc_state.specs.Tie.{Represents};
+ghost use Rattle.io_state.specs.Attempt.{IoAttempted};
+ghost use Rattle.device_paths.specs.Quiet.{EndsIoAttempt};
+ghost use Rattle.proc_state.specs.Tie.{RepresentsProcesses};
 
 use crate::ends::{answer, refuse};
 use io_model::path::PathsFull;
@@ -31,8 +31,9 @@ use proc_state::state::ProcState;
 pub fn i_dup(s: &mut ProcState, io: &mut IoState, p: Pid) -> CallEnd
     requires lives { IsLiving s.old.table p.0 }
     requires first { pending_at io.old p.0 ≡ None }
-    ensures call { (m : Processes) (drives : ℕ) (terms : List TerminalState) → Represents s.old m
-        → Attempts Call.Dup m io.old drives p.0 result s.new io.new terms terms }
+    ensures call { (m : Processes) (drives : ℕ) (terms : List TerminalState)
+        → RepresentsProcesses s.old m → IoAttempted Call.Dup m io.old drives p.0 result s.new io.new
+        terms terms }
     ensures lives { IsLiving s.new.table p.0 }
 {
     double(s, io, p)
@@ -42,8 +43,8 @@ pub fn i_dup(s: &mut ProcState, io: &mut IoState, p: Pid) -> CallEnd
 fn double(s: &mut ProcState, io: &mut IoState, p: Pid) -> CallEnd
     requires lives { IsLiving s.old.table p.0 }
     requires first { pending_at io.old p.0 ≡ None }
-    ensures call { (m : Processes) → Represents s.old m
-        → Ends (i_dup_model (caller_of m p.0) io.old) m io.old p.0 result s.new io.new }
+    ensures call { (m : Processes) → RepresentsProcesses s.old m
+        → EndsIoAttempt (i_dup_model (caller_of m p.0) io.old) m io.old p.0 result s.new io.new }
     ensures lives { IsLiving s.new.table p.0 }
 {
     let regs = s.regs(p);
@@ -65,8 +66,9 @@ fn double(s: &mut ProcState, io: &mut IoState, p: Pid) -> CallEnd
 pub fn i_close(s: &mut ProcState, io: &mut IoState, p: Pid) -> CallEnd
     requires lives { IsLiving s.old.table p.0 }
     requires first { pending_at io.old p.0 ≡ None }
-    ensures call { (m : Processes) (drives : ℕ) (terms : List TerminalState) → Represents s.old m
-        → Attempts Call.Close m io.old drives p.0 result s.new io.new terms terms }
+    ensures call { (m : Processes) (drives : ℕ) (terms : List TerminalState)
+        → RepresentsProcesses s.old m → IoAttempted Call.Close m io.old drives p.0 result s.new
+        io.new terms terms }
     ensures lives { IsLiving s.new.table p.0 }
 {
     close(s, io, p)
@@ -76,8 +78,8 @@ pub fn i_close(s: &mut ProcState, io: &mut IoState, p: Pid) -> CallEnd
 fn close(s: &mut ProcState, io: &mut IoState, p: Pid) -> CallEnd
     requires lives { IsLiving s.old.table p.0 }
     requires first { pending_at io.old p.0 ≡ None }
-    ensures call { (m : Processes) → Represents s.old m
-        → Ends (i_close_model (caller_of m p.0) io.old) m io.old p.0 result s.new io.new }
+    ensures call { (m : Processes) → RepresentsProcesses s.old m
+        → EndsIoAttempt (i_close_model (caller_of m p.0) io.old) m io.old p.0 result s.new io.new }
     ensures lives { IsLiving s.new.table p.0 }
 {
     let regs = s.regs(p);

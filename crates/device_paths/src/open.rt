@@ -11,12 +11,12 @@ ghost use Rattle.io_model.specs.Open.{opens, opens_lead};
 ghost use Rattle.io_model.specs.PathList.{PathList};
 ghost use Rattle.io_model.specs.Step.{Caller, refuses};
 ghost use Rattle.io_model.specs.declared.io_call.IoCall.TheVariants as Call;
-ghost use Rattle.io_state.specs.Attempt.{Attempts};
+ghost use Rattle.io_state.specs.Attempt.{IoAttempted};
 ghost use Rattle.device_paths.specs.Openings.{begun, opens_found, opens_at};
-ghost use Rattle.device_paths.specs.Places.{search_of, lead_to, allows, IsPlace};
-ghost use Rattle.device_paths.specs.Quiet.{Ends};
+ghost use Rattle.device_paths.specs.Places.{search_of, lead_to, allows, IsPlaceInRange};
+ghost use Rattle.device_paths.specs.Quiet.{EndsIoAttempt};
 ghost use Rattle.device_paths.specs.Listed.{listed};
-ghost use Rattle.proc_state.specs.Tie.{Represents, IsSame};
+ghost use Rattle.proc_state.specs.Tie.{RepresentsProcesses, AreProcessesSame};
 
 use crate::ends::{answer, refuse};
 use crate::list::Listed;
@@ -55,9 +55,9 @@ pub struct Found {
 pub fn i_open(s: &mut ProcState, io: &mut IoState, p: Pid, devices: &Devices) -> CallEnd
     requires lives { IsLiving s.old.table p.0 }
     requires first { pending_at io.old p.0 ≡ None }
-    ensures call { (m : Processes) (terms : List TerminalState) → Represents s.old m
+    ensures call { (m : Processes) (terms : List TerminalState) → RepresentsProcesses s.old m
         → length terms ≡ vec_len devices.now.terms
-        → Attempts Call.Open m io.old (vec_len devices.now.drives) p.0 result s.new io.new
+        → IoAttempted Call.Open m io.old (vec_len devices.now.drives) p.0 result s.new io.new
         terms terms }
     ensures lives { IsLiving s.new.table p.0 }
 {
@@ -74,9 +74,9 @@ pub fn i_open(s: &mut ProcState, io: &mut IoState, p: Pid, devices: &Devices) ->
 pub fn i_create(s: &mut ProcState, io: &mut IoState, p: Pid, devices: &Devices) -> CallEnd
     requires lives { IsLiving s.old.table p.0 }
     requires first { pending_at io.old p.0 ≡ None }
-    ensures call { (m : Processes) (terms : List TerminalState) → Represents s.old m
+    ensures call { (m : Processes) (terms : List TerminalState) → RepresentsProcesses s.old m
         → length terms ≡ vec_len devices.now.terms
-        → Attempts Call.Create m io.old (vec_len devices.now.drives) p.0 result s.new io.new
+        → IoAttempted Call.Create m io.old (vec_len devices.now.drives) p.0 result s.new io.new
         terms terms }
     ensures lives { IsLiving s.new.table p.0 }
 {
@@ -87,8 +87,8 @@ pub fn i_create(s: &mut ProcState, io: &mut IoState, p: Pid, devices: &Devices) 
 fn open(s: &mut ProcState, io: &mut IoState, p: Pid, devices: &Devices, search: Search) -> CallEnd
     requires lives { IsLiving s.old.table p.0 }
     requires first { pending_at io.old p.0 ≡ None }
-    ensures call { (m : Processes) → Represents s.old m
-        → Ends (opens (search_of search) (allows search (caller_of m p.0).regs.a)
+    ensures call { (m : Processes) → RepresentsProcesses s.old m
+        → EndsIoAttempt (opens (search_of search) (allows search (caller_of m p.0).regs.a)
         (caller_of m p.0) io.old (vec_len devices.now.drives) (vec_len devices.now.terms))
         m io.old p.0 result s.new io.new }
     ensures lives { IsLiving s.new.table p.0 }
@@ -106,12 +106,12 @@ fn open(s: &mut ProcState, io: &mut IoState, p: Pid, devices: &Devices, search: 
 /// The number of the refusal.
 fn find(s: &mut ProcState, p: Pid, devices: &Devices, search: Search) -> Result<Found, u8>
     requires lives { IsLiving s.old.table p.0 }
-    ensures found { (m : Processes) (io : Io) → Represents s.old m
+    ensures found { (m : Processes) (io : Io) → RepresentsProcesses s.old m
         → opens (search_of search) (allows search (caller_of m p.0).regs.a)
         (caller_of m p.0) io (vec_len devices.now.drives) (vec_len devices.now.terms)
         ≡ opens_found (caller_of m p.0) io result }
-    ensures there { IfOk result (λ found. IsPlace found.place) }
-    ensures same { IsSame s.old s.new }
+    ensures there { IfOk result (λ found. IsPlaceInRange found.place) }
+    ensures same { AreProcessesSame s.old s.new }
 {
     let regs = s.regs(p);
     match read_list(s, p, regs.x) {
@@ -129,7 +129,8 @@ fn find(s: &mut ProcState, p: Pid, devices: &Devices, search: Search) -> Result<
 fn if_allowed(search: Search, mode: u8, found: Result<Found, u8>) -> Result<Found, u8>
     ensures found { (caller : Caller) (io : Io) → opens_found caller io result
         ≡ refuses (not (allows search mode)) E_BMODE (opens_found caller io found) }
-    ensures there { IfOk found (λ it. IsPlace it.place) → IfOk result (λ it. IsPlace it.place) }
+    ensures there { IfOk found (λ it. IsPlaceInRange it.place)
+        → IfOk result (λ it. IsPlaceInRange it.place) }
 {
     if search.allows(mode) {
         found
@@ -147,7 +148,7 @@ fn find_by(devices: &Devices, search: Search, list: &Listed) -> Result<Found, u8
     ensures found { (named : PathList) (caller : Caller) (io : Io) → list.now ≡ listed named
         → opens_lead caller io named (lead_of (search_of search) (vec_len devices.now.drives)
         (vec_len devices.now.terms) named) ≡ opens_found caller io result }
-    ensures there { IfOk result (λ found. IsPlace found.place) }
+    ensures there { IfOk result (λ found. IsPlaceInRange found.place) }
 {
     match place_of(search, devices, list) {
         Err(number) => Err(number),
@@ -162,9 +163,9 @@ fn find_by(devices: &Devices, search: Search, list: &Listed) -> Result<Found, u8
 fn open_at(s: &mut ProcState, io: &mut IoState, p: Pid, found: Found) -> CallEnd
     requires lives { IsLiving s.old.table p.0 }
     requires first { pending_at io.old p.0 ≡ None }
-    requires there { IsPlace found.place }
-    ensures call { (m : Processes) → Represents s.old m
-        → Ends (opens_at (caller_of m p.0) io.old found) m io.old p.0 result s.new io.new }
+    requires there { IsPlaceInRange found.place }
+    ensures call { (m : Processes) → RepresentsProcesses s.old m
+        → EndsIoAttempt (opens_at (caller_of m p.0) io.old found) m io.old p.0 result s.new io.new }
     ensures lives { IsLiving s.new.table p.0 }
 {
     let regs = s.regs(p);
@@ -184,7 +185,7 @@ fn open_at(s: &mut ProcState, io: &mut IoState, p: Pid, found: Found) -> CallEnd
 /// `PathsFull` if no number, no path or no pipe is free. Nothing changes then.
 fn begin(io: &mut IoState, p: Pid, place: Place, mode: u8) -> Result<u8, PathsFull>
     requires process { p.0 < 33 }
-    requires there { IsPlace place }
+    requires there { IsPlaceInRange place }
     ensures begun { (caller : Caller) (list : PathList) → caller.process.0 ≡ p.0
         → caller.regs.a ≡ mode
         → opens_lead caller io.old list (lead_to (Ok place)) ≡ begun result caller list io.new }

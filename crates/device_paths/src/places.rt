@@ -3,7 +3,7 @@
 ghost use Rattle.std.specs.Prelude.{◌≡◌, Some, Ok, IfOk, vec_len};
 ghost use Rattle.io_model.specs.Lead.{lead_of, nowhere, on_device, on_drive, makes_dots as makes_dots_model, unless_slash as unless_slash_model};
 ghost use Rattle.io_model.specs.PathList.{PathList};
-ghost use Rattle.device_paths.specs.Places.{search_of, lead_to, allows as allows_model, IsDevice, IsPlace};
+ghost use Rattle.device_paths.specs.Places.{search_of, lead_to, allows as allows_model, IsTerminalInRange, IsPlaceInRange};
 ghost use Rattle.device_paths.specs.Listed.{listed};
 
 use crate::list::Listed;
@@ -55,7 +55,7 @@ pub fn place_of(search: Search, devices: &Devices, list: &Listed) -> Result<Plac
     ensures lead { (named : PathList) → list.now ≡ listed named
         → lead_to result ≡ lead_of (search_of search) (vec_len devices.now.drives)
         (vec_len devices.now.terms) named }
-    ensures there { IfOk result IsPlace }
+    ensures there { IfOk result IsPlaceInRange }
 {
     if makes_dots(search, list) {
         return Err(E_BPNAM);
@@ -84,7 +84,7 @@ fn makes_dots(search: Search, list: &Listed) -> bool
 fn place_on(search: Search, device: Dev, list: &Listed) -> Result<Place, u8>
     ensures lead { (named : PathList) → list.now ≡ listed named
         → lead_to result ≡ on_device (search_of search) named (Some device) }
-    ensures there { IsDevice device → IfOk result IsPlace }
+    ensures there { IsTerminalInRange device → IfOk result IsPlaceInRange }
 {
     match device {
         Dev::Drive(_) => Err(refusal_on_drive(search, list)),
@@ -109,7 +109,7 @@ fn refusal_on_drive(search: Search, list: &Listed) -> u8
 fn unless_slash(list: &Listed, place: Place) -> Result<Place, u8>
     ensures lead { (named : PathList) → list.now ≡ listed named
         → lead_to result ≡ unless_slash_model named (lead_to (Ok place)) }
-    ensures there { IsPlace place → IfOk result IsPlace }
+    ensures there { IsPlaceInRange place → IfOk result IsPlaceInRange }
 {
     if list.slash || list.has_names {
         Err(E_BPNAM)

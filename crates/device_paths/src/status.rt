@@ -8,10 +8,10 @@ ghost use Rattle.io_model.specs.Attempts.{caller_of};
 ghost use Rattle.io_model.specs.Status as model;
 ghost use Rattle.io_model.specs.Io.{pending_at};
 ghost use Rattle.io_model.specs.declared.io_call.IoCall.TheVariants as Call;
-ghost use Rattle.io_state.specs.Attempt.{Attempts};
+ghost use Rattle.io_state.specs.Attempt.{IoAttempted};
 ghost use Rattle.io_state.specs.Sound.{IsThere};
-ghost use Rattle.device_paths.specs.Quiet.{Ends};
-ghost use Rattle.proc_state.specs.Tie.{Represents};
+ghost use Rattle.device_paths.specs.Quiet.{EndsIoAttempt};
+ghost use Rattle.proc_state.specs.Tie.{RepresentsProcesses};
 
 use crate::ends::{answer, refuse};
 use io_model::path::Target;
@@ -32,8 +32,9 @@ use proc_state::state::ProcState;
 pub fn i_setstt(s: &mut ProcState, io: &mut IoState, p: Pid) -> CallEnd
     requires lives { IsLiving s.old.table p.0 }
     requires first { pending_at io.old p.0 ≡ None }
-    ensures call { (m : Processes) (drives : ℕ) (terms : List TerminalState) → Represents s.old m
-        → Attempts Call.SetStt m io.old drives p.0 result s.new io.new terms terms }
+    ensures call { (m : Processes) (drives : ℕ) (terms : List TerminalState)
+        → RepresentsProcesses s.old m → IoAttempted Call.SetStt m io.old drives p.0 result s.new
+        io.new terms terms }
     ensures lives { IsLiving s.new.table p.0 }
 {
     set_status(s, io, p)
@@ -43,8 +44,8 @@ pub fn i_setstt(s: &mut ProcState, io: &mut IoState, p: Pid) -> CallEnd
 fn set_status(s: &mut ProcState, io: &mut IoState, p: Pid) -> CallEnd
     requires lives { IsLiving s.old.table p.0 }
     requires first { pending_at io.old p.0 ≡ None }
-    ensures call { (m : Processes) → Represents s.old m
-        → Ends (model.i_setstt (caller_of m p.0) io.old) m io.old p.0 result s.new io.new }
+    ensures call { (m : Processes) → RepresentsProcesses s.old m
+        → EndsIoAttempt (model.i_setstt (caller_of m p.0) io.old) m io.old p.0 result s.new io.new }
     ensures lives { IsLiving s.new.table p.0 }
 {
     let regs = s.regs(p);
@@ -66,8 +67,9 @@ fn set_status(s: &mut ProcState, io: &mut IoState, p: Pid) -> CallEnd
 pub fn i_getstt(s: &mut ProcState, io: &mut IoState, p: Pid) -> CallEnd
     requires lives { IsLiving s.old.table p.0 }
     requires first { pending_at io.old p.0 ≡ None }
-    ensures call { (m : Processes) (drives : ℕ) (terms : List TerminalState) → Represents s.old m
-        → Attempts Call.GetStt m io.old drives p.0 result s.new io.new terms terms }
+    ensures call { (m : Processes) (drives : ℕ) (terms : List TerminalState)
+        → RepresentsProcesses s.old m → IoAttempted Call.GetStt m io.old drives p.0 result s.new
+        io.new terms terms }
     ensures lives { IsLiving s.new.table p.0 }
 {
     get_status(s, io, p)
@@ -77,8 +79,8 @@ pub fn i_getstt(s: &mut ProcState, io: &mut IoState, p: Pid) -> CallEnd
 fn get_status(s: &mut ProcState, io: &mut IoState, p: Pid) -> CallEnd
     requires lives { IsLiving s.old.table p.0 }
     requires first { pending_at io.old p.0 ≡ None }
-    ensures call { (m : Processes) → Represents s.old m
-        → Ends (model.i_getstt (caller_of m p.0) io.old) m io.old p.0 result s.new io.new }
+    ensures call { (m : Processes) → RepresentsProcesses s.old m
+        → EndsIoAttempt (model.i_getstt (caller_of m p.0) io.old) m io.old p.0 result s.new io.new }
     ensures lives { IsLiving s.new.table p.0 }
 {
     let regs = s.regs(p);
@@ -93,10 +95,10 @@ fn get_status_of(s: &mut ProcState, io: &mut IoState, p: Pid, target: Target) ->
     requires lives { IsLiving s.old.table p.0 }
     requires first { pending_at io.old p.0 ≡ None }
     requires there { IsThere io.old target }
-    ensures call { (m : Processes) → Represents s.old m
-        → (code : ℕ) → code ≡ (caller_of m p.0).regs.b
-        → Ends (model.gets_status (caller_of m p.0) io.old target code) m io.old p.0 result s.new
-        io.new }
+    ensures call { (m : Processes) → RepresentsProcesses s.old m → (code : ℕ) → code
+        ≡ (caller_of m p.0).regs.b
+        → EndsIoAttempt (model.gets_status (caller_of m p.0) io.old target code) m io.old p.0 result
+        s.new io.new }
     ensures lives { IsLiving s.new.table p.0 }
 {
     let regs = s.regs(p);
@@ -112,8 +114,8 @@ fn get_status_of(s: &mut ProcState, io: &mut IoState, p: Pid, target: Target) ->
 fn get_options(s: &mut ProcState, io: &mut IoState, p: Pid, target: Target) -> CallEnd
     requires lives { IsLiving s.old.table p.0 }
     requires first { pending_at io.old p.0 ≡ None }
-    ensures call { (m : Processes) → Represents s.old m
-        → Ends (model.gets_options
+    ensures call { (m : Processes) → RepresentsProcesses s.old m
+        → EndsIoAttempt (model.gets_options
         (caller_of m p.0) io.old target) m io.old p.0 result s.new io.new }
     ensures lives { IsLiving s.new.table p.0 }
 {
@@ -143,8 +145,9 @@ fn get_ready(s: &mut ProcState, io: &mut IoState, p: Pid, target: Target) -> Cal
     requires lives { IsLiving s.old.table p.0 }
     requires first { pending_at io.old p.0 ≡ None }
     requires there { IsThere io.old target }
-    ensures call { (m : Processes) → Represents s.old m
-        → Ends (model.gets_ready (caller_of m p.0) io.old target) m io.old p.0 result s.new io.new }
+    ensures call { (m : Processes) → RepresentsProcesses s.old m
+        → EndsIoAttempt (model.gets_ready (caller_of m p.0) io.old target) m io.old p.0 result s.new
+        io.new }
     ensures lives { IsLiving s.new.table p.0 }
 {
     let regs = s.regs(p);

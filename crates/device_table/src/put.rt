@@ -2,7 +2,7 @@ ghost use Rattle.std.specs.Prelude.{◌≡◌, ℕ, ◌≤◌, Option, OnOk, OnE
 ghost use Rattle.os9_base.specs.Count.{Rose};
 ghost use Rattle.os9_outer.specs.Stream.{stream_with, GainsPart};
 ghost use Rattle.os9_outer.specs.Terminal.{OnFault, UnlessFault};
-ghost use Rattle.os9_outer.specs.TerminalState.{ChangesOneTerminal, Puts};
+ghost use Rattle.os9_outer.specs.TerminalState.{ChangesOneTerminal, PutsOnTerminal};
 ghost use Rattle.device_table.specs.Seen.{terminals_seen};
 
 use crate::devices::Devices;
@@ -21,7 +21,7 @@ fn put_byte(term: &mut dyn CharDriver, byte: u8) -> Result<(), PutFault>
     term.put(byte)
 }
 
-/// Puts the bytes on a terminal, one after another, until one is refused.
+/// PutsOnTerminal the bytes on a terminal, one after another, until one is refused.
 ///
 /// # Errors
 ///
@@ -61,7 +61,7 @@ fn put_in_box(term: &mut Box<dyn CharDriver>, bytes: &[u8]) -> Result<(), PutFau
     put_bytes(&mut **term, bytes)
 }
 
-/// Puts the bytes on the terminal of this number, one after another, until one is refused.
+/// PutsOnTerminal the bytes on the terminal of this number, one after another, until one is refused.
 ///
 /// # Errors
 ///
@@ -69,7 +69,7 @@ fn put_in_box(term: &mut Box<dyn CharDriver>, bytes: &[u8]) -> Result<(), PutFau
 /// terminal's count of faults has risen after `Fault`, and is unchanged after `OutOfMemory`.
 pub fn put_on(devices: &mut Devices, n: u8, bytes: &[u8]) -> Result<(), PutFault>
     requires { n < vec_len devices.old.terms }
-    ensures terminal { ChangesOneTerminal (Puts result bytes.now) n
+    ensures terminal { ChangesOneTerminal (PutsOnTerminal result bytes.now) n
         (terminals_seen CharDriver-box devices.old) (terminals_seen CharDriver-box devices.new) }
     ensures drives_kept { devices.new.drives ≡ devices.old.drives }
     ensures some { OnErr result (0 < length bytes.now) }

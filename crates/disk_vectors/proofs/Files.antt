@@ -8,12 +8,12 @@ use Rattle.rbf_check.specs.declared.tree.Tree.{Tree}
 use Rattle.rbf_check.specs.Tree.{IsTreeOf}
 use Rattle.rbf_change.specs.Calls.{shape}
 use Rattle.rbf_change.proofs.LawfulWrites.{shape-image}
-use Rattle.rbf_access.specs.Mounted.{Represents, IsMounted, HasFile}
+use Rattle.rbf_access.specs.Mounted.{RepresentsVolume, IsMounted, HasFile}
 use Rattle.rbf_access.specs.Reading.{IsFdOf, OnFile}
 use Rattle.rbf_access.specs.declared.volume.Volume.{Volume}
 use Rattle.rbf_write.specs.Files.{HasDataFile}
 
-pub on_image : (media : Option (List ℕ)) (image : List ℕ) (tree : Tree) → media ≡ Some image → (known : IsTreeOf image tree) → Represents media known.volume
+pub on_image : (media : Option (List ℕ)) (image : List ℕ) (tree : Tree) → media ≡ Some image → (known : IsTreeOf image tree) → RepresentsVolume media known.volume
 on_image media image tree is known = record { image = image; is = is; vol = known.represents }
 
 -- a mounted volume has a root

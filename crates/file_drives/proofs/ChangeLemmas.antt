@@ -19,7 +19,7 @@ use Rattle.rbf_access.proofs.ReadFile.{room_for}
 use Rattle.rbf_access.specs.Drive.{DriveCounts, MovesCounts}
 use Rattle.rbf_access.specs.Faults.{file_fault}
 use Rattle.rbf_access.specs.MapMarks.{marking_sectors}
-use Rattle.rbf_access.specs.Mounted.{IsMounted, Represents}
+use Rattle.rbf_access.specs.Mounted.{IsMounted, RepresentsVolume}
 use Rattle.rbf_access.specs.declared.faults.FileFault.{FileFault}
 use Rattle.rbf_access.specs.declared.faults.FileFault.TheVariants.{Device, NoCluster, TooManyRuns}
 use Rattle.rbf_access.specs.declared.volume.Volume.{Volume}
@@ -40,7 +40,8 @@ use Rattle.file_drives.specs.Drives.{DriveView}
 use Rattle.file_drives.specs.Mounted.{IsMountedAs}
 
 -- a file of a volume is as its media shows it
-pub shown-once : (media : Option (List ℕ)) (v w : DiskVolume) (n : ℕ) (file new : DiskFile) → Represents media v → Represents media w → v.files n ≡ Some file → w.files n ≡ Some new → file ≡ new
+pub shown-once : (media : Option (List ℕ)) (v w : DiskVolume) (n : ℕ) (file new : DiskFile) → RepresentsVolume media v
+    → RepresentsVolume media w → v.files n ≡ Some file → w.files n ≡ Some new → file ≡ new
 shown-once media v w n file new on other is there =
     let both : Some on.image ≡ Some other.image = sym on.is ∙ other.is in
     let image_same : on.image ≡ other.image = cc in
@@ -72,7 +73,7 @@ only_full false h = h
 
 -- a file has room for its size, so that it needs no cluster for a smaller one
 none-for-shorter : (media : Option (List ℕ)) (v : DiskVolume) (n : ℕ) (file : DiskFile) (size : ℕ)
-    → Represents media v → v.files n ≡ Some file → size < length file.contents → clusters_needed (cluster_size v)
+    → RepresentsVolume media v → v.files n ≡ Some file → size < length file.contents → clusters_needed (cluster_size v)
     file.segments size ≤ free_total v
 none-for-shorter media v n file size on there shorter =
     let k = cluster_size v in
@@ -112,7 +113,7 @@ module _ (new : Volume) (before after : DriveView) (n at : ℕ) (bytes : List �
   abbrev asks : ℕ → Asked
   asks user = record { change = writes n at bytes; user = user; now = now }
 
-  stayed_on : (v : DiskVolume) → after.media ≡ before.media → Represents before.media v → IsMountedAs new after.media v
+  stayed_on : (v : DiskVolume) → after.media ≡ before.media → RepresentsVolume before.media v → IsMountedAs new after.media v
   stayed_on v same on = mounted-left new after.media v mounted (record { image = on.image; is = same ∙ on.is; vol = on.vol })
 
   pub write-leaves : (user : ℕ) (result : Result (Unit {0}) FileFault) → OnVolumeFile before.media n
@@ -120,7 +121,7 @@ module _ (new : Volume) (before after : DriveView) (n at : ℕ) (bytes : List �
       after.media result) → OnErr result (IsRefusal result → after.counts.calls ≤ before.counts.calls + 1)
       → OnMarked before.media after.media n result (λ v file marks. MovesCounts (file_fault result)
       (write_calls v file marks at (length bytes)) before.counts after.counts) → (v : DiskVolume) (file : DiskFile)
-      → Represents before.media v → v.files n ≡ Some file → LeavesMounted (asks user) (file_answer result)
+      → RepresentsVolume before.media v → v.files n ≡ Some file → LeavesMounted (asks user) (file_answer result)
       (writing_calls n at (length bytes) result v file) v file before new after
   write-leaves user (Ok done) answer few counts v file on there =
       let it = answer v file on there in
@@ -218,11 +219,11 @@ module _ (new : Volume) (before after : DriveView) (n size : ℕ) (now : TimePac
   abbrev asks_size : ℕ → Asked
   asks_size user = record { change = sizes n size; user = user; now = now }
 
-  size_stayed : (v : DiskVolume) → after.media ≡ before.media → Represents before.media v → IsMountedAs new after.media v
+  size_stayed : (v : DiskVolume) → after.media ≡ before.media → RepresentsVolume before.media v → IsMountedAs new after.media v
   size_stayed v same on = mounted-left new after.media v mounted (record { image = on.image; is = same ∙ on.is; vol = on.vol })
 
   -- a fault after which the size was to be refused has changed nothing
-  ends-refused : (v w : DiskVolume) (file : DiskFile) (image : List ℕ) → Represents before.media v
+  ends-refused : (v w : DiskVolume) (file : DiskFile) (image : List ℕ) → RepresentsVolume before.media v
       → v.files n ≡ Some file → nat_lt (free_total v) (clusters_needed (cluster_size v) file.segments size) ≡ true
       → (it : SizeEnds image v w n size now) → IsTidyEnd image v w sizing (giving_up v file sizing) before.media
       after.media it → (w ≡ v) × (after.media ≡ before.media)
@@ -242,7 +243,7 @@ module _ (new : Volume) (before after : DriveView) (n size : ℕ) (now : TimePac
       (λ v file. AnswersSize v file sizing before.media after.media result) → OnErr result (IsNone (file_fault result)
       → after.counts.calls ≤ before.counts.calls + 1) → OnMarked before.media after.media n result
       (λ v file marks. MovesCounts (file_fault result) (size_calls v file marks sizing) before.counts after.counts)
-      → (v : DiskVolume) (file : DiskFile) → Represents before.media v → v.files n ≡ Some file
+      → (v : DiskVolume) (file : DiskFile) → RepresentsVolume before.media v → v.files n ≡ Some file
       → LeavesMounted (asks_size user) (file_answer result) (sizing_calls sizing result v file) v file before
       new after
   size-leaves user (Ok done) answer few counts v file on there =

@@ -8,7 +8,7 @@ use Rattle.rbf_change.specs.Calls.{free_total}
 use Rattle.rbf_change.specs.Faults as ends
 use Rattle.rbf_access.specs.Drive.{MovesCounts}
 use Rattle.rbf_access.specs.Faults.{file_fault}
-use Rattle.rbf_access.specs.Mounted.{IsMounted, Represents}
+use Rattle.rbf_access.specs.Mounted.{IsMounted, RepresentsVolume}
 use Rattle.rbf_access.specs.Reading.{OnVolumeFile}
 use Rattle.rbf_access.specs.declared.faults.FileFault.{FileFault}
 use Rattle.rbf_access.specs.declared.faults.FileFault.TheVariants.{Device, NoCluster, TooManyRuns}
@@ -33,7 +33,7 @@ module _ (new : Volume) (before after : DriveView) (found : Deletable) (mounted 
   deletion n name user now = record { change = deletes n found.descriptor name; user = user; now = now }
 
   deletion_leaves : (n : ℕ) (name : List ℕ) (user : ℕ) (now : TimePacket) (result : Result (Unit {0}) FileFault)
-      (v : DiskVolume) (dir : DiskFile) → Represents before.media v → AnswersDeletionOf v n found.descriptor name
+      (v : DiskVolume) (dir : DiskFile) → RepresentsVolume before.media v → AnswersDeletionOf v n found.descriptor name
       before.media after.media result → MovesCounts (file_fault result) (deleting_calls found.descriptor v dir v)
       before.counts after.counts → LeavesMounted (deletion n name user now) (file_answer result)
       (deleting_calls found.descriptor v dir) v dir before new after
@@ -81,11 +81,11 @@ module _ (new : Volume) (before after : DriveView) (found : Deletable) (mounted 
 
   -- the deletion by its name in a directory
   pub deletes-at : (result : Result (Unit {0}) FileFault) → ((dir : ℕ) (name : List ℕ) (v : DiskVolume)
-      → IsDeletable before.media dir name found → Represents before.media v → AnswersDeletionOf v dir found.descriptor
+      → IsDeletable before.media dir name found → RepresentsVolume before.media v → AnswersDeletionOf v dir found.descriptor
       name before.media after.media result) → OnVolumeFile before.media found.descriptor
       (λ v file. MovesCounts (file_fault result) (file_deletion_calls v found.descriptor file) before.counts
       after.counts) → (n : ℕ) (name : List ℕ) (asked : Asked) → IsDeletable before.media n name found
-      → asked.change ≡ deletes n found.descriptor name → (v : DiskVolume) (dir : DiskFile) → Represents before.media v
+      → asked.change ≡ deletes n found.descriptor name → (v : DiskVolume) (dir : DiskFile) → RepresentsVolume before.media v
       → LeavesMounted asked (file_answer result) (deleting_calls found.descriptor v dir) v dir before new after
   deletes-at result answer counts n name asked is change_is v dir on =
       let gone = file_found before.media n name found is v on in

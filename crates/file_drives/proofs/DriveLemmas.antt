@@ -7,7 +7,7 @@ use Rattle.std.specs.declared.alloc.Global.{Global}
 use Rattle.std.specs.declared.dyn_box.DynBox.{DynBox}
 use Rattle.os9_base.specs.Count.{Rose}
 use Rattle.os9_outer.specs.Drive.{drive_error}
-use Rattle.file_rules.specs.Files.{NoneFailed, OneFailed, drive_at, new_drive}
+use Rattle.file_rules.specs.Files.{KeepsDriveFaults, OneFailed, drive_at, new_drive}
 use Rattle.rbf_access.specs.Drive.{MovesCounts}
 use Rattle.file_drives.specs.Drives.{DriveView, ChangesOneDrive, OneDriveMoves, drive_state, drive_states, media_at, media_of, unused_drive}
 
@@ -85,7 +85,7 @@ same-state : (old new : DriveView) → new.counts.faults ≡ old.counts.faults �
 same-state old new faults last = λ i. record { faults = faults i; last = last i }
 
 -- no fault: no drive has changed its state
-pub none-failed : (most n : ℕ) (before after : List DriveView) → OneDriveMoves None most n before after → NoneFailed (drive_states before) (drive_states after)
+pub none-failed : (most n : ℕ) (before after : List DriveView) → OneDriveMoves None most n before after → KeepsDriveFaults (drive_states before) (drive_states after)
 none-failed most n before after (old, new, is, after_is, moved) =
     ap drive_states after_is
     ∙ map-set drive_state before n new

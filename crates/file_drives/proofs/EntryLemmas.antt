@@ -10,12 +10,12 @@ use Rattle.rbf_model.specs.Writes.{put_file}
 use Rattle.rbf_change.specs.Calls.{cluster_size, free_total, replaced, shape}
 use Rattle.rbf_change.specs.Faults as ends
 use Rattle.rbf_change.specs.Names.{is_dots, may_change}
-use Rattle.rbf_change.specs.NewFiles.{Refusal, bad_path, not_allowed, exists, no_cluster, too_many_runs, file_clusters}
+use Rattle.rbf_change.specs.NewFiles.{NewEntryRefusal, bad_path, not_allowed, exists, no_cluster, too_many_runs, file_clusters}
 use Rattle.os9_outer.specs.Drive.{sector_at}
 use Rattle.rbf_access.specs.Drive.{MovesCounts}
 use Rattle.rbf_access.specs.Faults.{file_fault}
 use Rattle.rbf_access.specs.MapMarks.{marking_sectors}
-use Rattle.rbf_access.specs.Mounted.{IsMounted, Represents}
+use Rattle.rbf_access.specs.Mounted.{IsMounted, RepresentsVolume}
 use Rattle.rbf_access.specs.Reading.{OnVolumeFile}
 use Rattle.rbf_access.specs.declared.faults.FileFault.{FileFault}
 use Rattle.rbf_access.specs.declared.faults.FileFault.TheVariants.{Device, NoCluster, TooManyRuns}
@@ -38,7 +38,7 @@ use Rattle.file_drives.specs.Mounted.{IsMountedAs}
 
 -- ---- why a new entry is refused
 
-abbrev pub first_cause : Bool → Bool → Bool → Bool → Bool → Option Refusal
+abbrev pub first_cause : Bool → Bool → Bool → Bool → Bool → Option NewEntryRefusal
 first_cause dots closed there full long =
     if dots then Some bad_path
     else (if closed then Some not_allowed
@@ -95,10 +95,10 @@ not-refused false false a b h = absurd (cc h)
 
 module _ (new : Volume) (before after : DriveView) (found : NewPlace) (name : List ℕ)
     (attributes : ℕ) (now : TimePacket) (mounted : IsMounted new after.media) where
-  on-left : (w : DiskVolume) → Represents after.media w → IsMountedAs new after.media w
+  on-left : (w : DiskVolume) → RepresentsVolume after.media w → IsMountedAs new after.media w
   on-left w on = mounted-left new after.media w mounted on
 
-  stayed-on : (v : DiskVolume) → after.media ≡ before.media → Represents before.media v → IsMountedAs new after.media v
+  stayed-on : (v : DiskVolume) → after.media ≡ before.media → RepresentsVolume before.media v → IsMountedAs new after.media v
   stayed-on v same on = on-left v (record { image = on.image; is = same ∙ on.is; vol = on.vol })
 
   -- ---- a file
@@ -109,7 +109,7 @@ module _ (new : Volume) (before after : DriveView) (found : NewPlace) (name : Li
   abbrev file_asked : Entering
   file_asked = request found.dir.number name attributes found.by.user found.by.execute now
 
-  create_leaves : (result : Result ℕ FileFault) (v : DiskVolume) (dir : DiskFile) → Represents before.media v
+  create_leaves : (result : Result ℕ FileFault) (v : DiskVolume) (dir : DiskFile) → RepresentsVolume before.media v
       → AnswersEntering v dir file_asked before.media after.media (widened result) → MovesCounts (file_fault result)
       (entering_calls v dir 2 (widened result)) before.counts after.counts → LeavesMounted creation (widened result)
       (λ left. entering_calls v dir 2 (widened result)) v dir before new after
@@ -175,7 +175,7 @@ module _ (new : Volume) (before after : DriveView) (found : NewPlace) (name : Li
       found.dir.number (λ v dir. AnswersEntering v dir file_asked before.media after.media (widened result))
       → OnVolumeFile before.media found.dir.number (λ v dir. MovesCounts (file_fault result)
       (entering_calls v dir 2 (widened result)) before.counts after.counts) → (v : DiskVolume) (dir : DiskFile)
-      → Represents before.media v → v.files n ≡ Some dir → LeavesMounted
+      → RepresentsVolume before.media v → v.files n ≡ Some dir → LeavesMounted
       (record { change = creates n name attributes; user = found.by.user; now = now }) (widened result)
       (λ left. entering_calls v dir 2 (widened result)) v dir before new after
   creates-at n at result answer counts v dir on there =
@@ -197,20 +197,20 @@ module _ (new : Volume) (before after : DriveView) (found : NewPlace) (name : Li
 
   -- the clusters of the new directory are those that its descriptor shows
   same_calls : (v left : DiskVolume) (n : ℕ) (file : DiskFile) (image : List ℕ) → after.media ≡ Some image
-      → Represents after.media left → left.files n ≡ Some file → let answer : Result ℕ FileFault = Ok n in
+      → RepresentsVolume after.media left → left.files n ≡ Some file → let answer : Result ℕ FileFault = Ok n in
       folder_calls v after.media answer ≡ directory_calls (Ok n) v left
   same_calls v left n file image is_image on there =
       let shown : file ≡ file_at (sector_at after.media) n = on.vol.sound.shows.shown n file there ∙ ap (λ m. file_at (sector_at m) n) (sym on.is) in
       ap (λ (f : DiskFile). min (file_clusters (cluster_size v) 64) (marking_sectors (shape v) (has_cluster (shape v) n f)) + 2) (sym shown)
       ∙ ap (λ o. min (file_clusters (cluster_size v) 64) (marking_sectors (shape v) (in_file (shape v) n o)) + 2) (sym there)
 
-  make_leaves : (result : Result ℕ FileFault) (v : DiskVolume) (dir : DiskFile) → Represents before.media v
+  make_leaves : (result : Result ℕ FileFault) (v : DiskVolume) (dir : DiskFile) → RepresentsVolume before.media v
       → AnswersEntering v dir folder_asked before.media after.media (widened result) → MovesCounts (file_fault result)
       (entering_calls v dir (folder_calls v after.media result) (widened result)) before.counts after.counts
       → LeavesMounted making (widened result) (making_calls (widened result) v dir) v dir before new after
   make_leaves (Ok n) v dir on it counts =
       let room = has_room v dir folder_asked new_directory_size folder_size it.allowed in
-      let here : Represents after.media it.after = record { image = it.now; is = it.is; vol = it.vol } in
+      let here : RepresentsVolume after.media it.after = record { image = it.now; is = it.is; vol = it.vol } in
       let there : it.after.files n ≡ Some it.enters.both.file = ap (λ (u : DiskVolume). u.files n) it.enters.volume ∙
       put-there (replaced v found.dir.number (Some it.enters.both.new)).files n (Some it.enters.both.file) in
       let made : ChangeIsMade making v dir it.after n = record { allowed = refl; enough = room.0; list = room.1; makes = it.enters } in
@@ -273,7 +273,7 @@ module _ (new : Volume) (before after : DriveView) (found : NewPlace) (name : Li
       found.dir.number (λ v dir. AnswersEntering v dir folder_asked before.media after.media (widened result))
       → OnVolumeFile before.media found.dir.number (λ v dir. MovesCounts (file_fault result)
       (entering_calls v dir (folder_calls v after.media result) (widened result)) before.counts after.counts)
-      → (v : DiskVolume) (dir : DiskFile) → Represents before.media v → v.files n ≡ Some dir → LeavesMounted
+      → (v : DiskVolume) (dir : DiskFile) → RepresentsVolume before.media v → v.files n ≡ Some dir → LeavesMounted
       (record { change = makes_directory n name attributes; user = found.by.user; now = now }) (widened result)
       (making_calls (widened result) v dir) v dir before new after
   makes-at n at result answer counts v dir on there =

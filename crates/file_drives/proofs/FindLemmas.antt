@@ -2,12 +2,12 @@
 use Rattle.std.proofs.Common.{◌≡◌, ℕ, Bool, Option, Some, IfOk, List, Result, Ok, Err, slice_get, sym, subst}
 use Rattle.rbf_access.specs.Mounted.{HasFile}
 use Rattle.rbf_access.specs.Reading.{OnFile}
-use Rattle.rbf_entries.specs.Places.{AnswersPlace, IsFoundFor, IsNewPlace, IsPlaceFor, place_found}
+use Rattle.rbf_entries.specs.Places.{AnswersPlace, IsFoundFor, IsNewPlace, IsPlaceForName, place_found}
 use Rattle.rbf_entries.specs.declared.place.NewPlace.{NewPlace}
 use Rattle.rbf_entries.specs.Deletions.{IsDeletable}
 use Rattle.rbf_entries.specs.declared.deletion.Deletable.{Deletable}
 use Rattle.rbf_walk.specs.declared.error.DirError.{DirError}
-use Rattle.rbf_write.specs.Files.{IsLoaded}
+use Rattle.rbf_write.specs.Files.{IsDescriptorLoaded}
 use Rattle.lock_model.specs.declared.place.FilePlace.{FilePlace}
 use Rattle.file_drives.specs.Drives.{DriveView}
 use Rattle.file_drives.specs.Entries.{IsDeletableOn, IsPlaceOn}
@@ -16,12 +16,12 @@ use Rattle.file_drives.specs.Entries.{IsDeletableOn, IsPlaceOn}
 place-for : (media : Option (List ℕ)) (n user : ℕ) (execute : Bool) (name : List ℕ)
     (result : Result NewPlace DirError) → HasFile media n → OnFile media n (λ file. AnswersPlace file name user
     execute (place_found result)) → IfOk result (IsFoundFor media n user execute)
-    → IfOk result (IsPlaceFor media name)
+    → IfOk result (IsPlaceForName media name)
 place-for media n user execute name (Ok found) has answer read =
     let same : found.dir.number ≡ n = read.read.number_is in
     record {
       file = subst (λ m. HasFile media m) (sym same) has;
-      read = subst (λ m. IsLoaded media m found.dir) (sym same) read.read;
+      read = subst (λ m. IsDescriptorLoaded media m found.dir) (sym same) read.read;
       new = λ v file on is.
           subst (λ u. IsNewPlace file name u found.by.execute found.place) (sym read.user_is)
           (subst (λ e. IsNewPlace file name user e found.place) (sym read.execute_is)
@@ -40,10 +40,10 @@ pub place-found : (views : List DriveView) (before : Option (List ℕ)) (after :
     (IsFoundFor before dir.number user execute) → IfOk result (IsPlaceOn views dir name user execute)
 place-found views before after dir name user execute result is has same answer read =
     found-on result (on-media before after.media result (λ media found. IsFoundFor media dir.number user execute found) same read)
-    (on-media before after.media result (λ media found. IsPlaceFor media name found) same (place-for before dir.number user execute name result has answer read))
+    (on-media before after.media result (λ media found. IsPlaceForName media name found) same (place-for before dir.number user execute name result has answer read))
   where
     found-on : (result : Result NewPlace DirError) → IfOk result (IsFoundFor after.media dir.number user execute)
-        → IfOk result (IsPlaceFor after.media name) → IfOk result (IsPlaceOn views dir name user execute)
+        → IfOk result (IsPlaceForName after.media name) → IfOk result (IsPlaceOn views dir name user execute)
     found-on (Ok found) read place = record {
       at = record { view = after; is = is; place = place; directory_is = read.read.number_is };
       user_is = read.user_is;

@@ -13,7 +13,7 @@ use Rattle.rbf_model.proofs.Owners.{cluster_positive}
 use Rattle.rbf_change.specs.Calls.{shape, cluster_size, is_free_in, free_total}
 use Rattle.rbf_change.specs.Growth.{Gains, IsChoice, clusters_needed, free_beside, uses}
 use Rattle.rbf_change.proofs.LawfulWrites.{shape-image}
-use Rattle.rbf_access.specs.Mounted.{Represents}
+use Rattle.rbf_access.specs.Mounted.{RepresentsVolume}
 use Rattle.rbf_alloc.proofs.Chosen.{uses_more}
 
 -- how many of a range pass two tests, of which the first is stricter
@@ -76,11 +76,11 @@ module _ (k : ℕ) (positive : 1 ≤ k) (free : ℕ → Bool) (count : ℕ) (bel
       out = ap (λ u. free c && not u) (uses_more k segments c c positive) ∙ itself (free c) (uses k segments c) (c == c) (eq-eqb c c refl)
 
 -- a cluster has a sector
-pub some-cluster : (media : Option (List ℕ)) (v : DiskVolume) → Represents media v → 1 ≤ cluster_size v
+pub some-cluster : (media : Option (List ℕ)) (v : DiskVolume) → RepresentsVolume media v → 1 ≤ cluster_size v
 some-cluster media v on =
     subst (λ (s : Geometry). 1 ≤ s.cluster) (sym (shape-image on.image v on.vol)) (cluster_positive (image_geometry on.image).cluster on.vol.sound.shape.header.clusters)
 
-pub chosen-free : (media : Option (List ℕ)) (v : DiskVolume) → Represents media v → (segments : List (ℕ × ℕ))
+pub chosen-free : (media : Option (List ℕ)) (v : DiskVolume) → RepresentsVolume media v → (segments : List (ℕ × ℕ))
     (size : ℕ) (taken : List ℕ) → IsChoice (cluster_size v) (is_free_in v) segments size taken
     → clusters_needed (cluster_size v) segments size ≤ free_total v
 chosen-free media v on segments size taken choice =

@@ -11,12 +11,12 @@ use Rattle.rbf_change.specs.Calls.{replaced}
 use Rattle.rbf_change.specs.Faults as ends
 use Rattle.rbf_change.specs.Faults.{DeletionEnds, MayLose, NewFileEnds, SizeEnds, with_front}
 use Rattle.rbf_change.specs.NewFiles.{Plan, directory_plan, file_plan}
-use Rattle.rbf_access.specs.Mounted.{Represents}
+use Rattle.rbf_access.specs.Mounted.{RepresentsVolume}
 use Rattle.rbf_access.specs.declared.faults.FileFault.TheVariants.{Device, NoCluster, TooManyRuns}
 use Rattle.rbf_walk.specs.declared.error.DirError.{DirError}
 use Rattle.rbf_walk.specs.declared.error.DirError.TheVariants.{NotAllowed, BadPath, NotFound, Exists, File}
-use Rattle.file_rules.specs.Change.{Change, writes, sizes, sets_attributes, creates, makes_directory, deletes, Makes, MayLeave}
-use Rattle.file_drives.specs.Changed.{AnswersChange, Asked, ChangeIsMade, IsRefused, has_full_list, is_allowed, is_full_for, is_refused}
+use Rattle.file_rules.specs.Change.{Change, writes, sizes, sets_attributes, creates, makes_directory, deletes, AppliesChange, ChangeMayLeave}
+use Rattle.file_drives.specs.Changed.{AnswersChange, Asked, ChangeIsMade, IsRefusedChange, has_full_list, is_allowed, is_full_for, is_refused}
 use Rattle.file_drives.specs.Drives.{KeepsIdent}
 
 -- ---- what a change leaves of a volume's first sector and of the bytes behind it
@@ -31,7 +31,7 @@ of-lost : (v u left : DiskVolume) (clusters : ℕ → Bool) → SameEnds v u →
 of-lost v u left clusters same lose =
     (ap (λ (w : DiskVolume). w.ident) lose.same ∙ same.0, ap (λ (w : DiskVolume). w.rest) lose.same ∙ same.1)
 
-of-made : (change : Change) (user : ℕ) (now : TimePacket) (v left : DiskVolume) (new : ℕ) → Makes change user now v left new → SameEnds v left
+of-made : (change : Change) (user : ℕ) (now : TimePacket) (v left : DiskVolume) (new : ℕ) → AppliesChange change user now v left new → SameEnds v left
 of-made (writes n at bytes) user now v left new it = of-same v _ left it.volume (refl, refl)
 of-made (sizes n size) user now v left new it = of-same v _ left it.volume (refl, refl)
 of-made (sets_attributes n attributes) user now v left new it = of-same v _ left it.volume (refl, refl)
@@ -53,7 +53,7 @@ of-deletion image v left d n name (ends.before same) = of-same v v left same (re
 of-deletion image v left d n name (ends.gone deleted there lose marked) =
     of-lost v _ left _ (of-same v _ _ deleted.drops.volume (refl, refl)) lose
 
-of-fault : (change : Change) (user : ℕ) (now : TimePacket) (v left : DiskVolume) → MayLeave change user now v left → SameEnds v left
+of-fault : (change : Change) (user : ℕ) (now : TimePacket) (v left : DiskVolume) → ChangeMayLeave change user now v left → SameEnds v left
 of-fault (writes n at bytes) user now v left it =
     of-lost v (replaced v n (Some (with_front it.old at bytes it.count))) left _ (refl, refl) it.volume
 of-fault (sizes n size) user now v left (image, vol, it) = of-size image v left n size now it
@@ -90,7 +90,7 @@ as-long v left image now was is same =
     ∙ ap (λ (rest : List ℕ). 256 * (geometry v.ident).total + length rest) same.1
     ∙ sym (whole image v was)
 
-ident-kept : (v left : DiskVolume) (before after : Option (List ℕ)) → Represents before v → Represents after left → SameEnds v left → KeepsIdent before after
+ident-kept : (v left : DiskVolume) (before after : Option (List ℕ)) → RepresentsVolume before v → RepresentsVolume after left → SameEnds v left → KeepsIdent before after
 ident-kept v left before after was is same = record {
   as_long =
       ap (option_map length) is.is
@@ -105,7 +105,7 @@ ident-kept v left before after was is same = record {
 }
 
 pub ident-left : (asked : Asked) (v : DiskVolume) (file : DiskFile) (left : DiskVolume) (answer : Result ℕ DirError)
-    (before after : Option (List ℕ)) → Represents before v → Represents after left
+    (before after : Option (List ℕ)) → RepresentsVolume before v → RepresentsVolume after left
     → AnswersChange asked v file left answer → KeepsIdent before after
 ident-left asked v file left answer before after was is it =
     ident-kept v left before after was is (of-answer asked v file left answer it)
@@ -118,7 +118,7 @@ not-refused-at true true long a b c h = absurd (cc b)
 not-refused-at true false true a b c h = absurd (cc c)
 not-refused-at true false false a b c h = absurd (cc h)
 
-pub made-anyway : (asked : Asked) (v : DiskVolume) (file : DiskFile) (left : DiskVolume) (n : ℕ) → ChangeIsMade asked v file left n → IsRefused (Ok n) ⊎ (is_refused asked v file ≡ true) → ⊥
+pub made-anyway : (asked : Asked) (v : DiskVolume) (file : DiskFile) (left : DiskVolume) (n : ℕ) → ChangeIsMade asked v file left n → IsRefusedChange (Ok n) ⊎ (is_refused asked v file ≡ true) → ⊥
 made-anyway asked v file left n it (inl never) = absurd never
 made-anyway asked v file left n it (inr refused) =
     not-refused-at (is_allowed asked.change asked.user file) (is_full_for asked.change v file) (has_full_list asked.change v file) it.allowed it.enough it.list refused

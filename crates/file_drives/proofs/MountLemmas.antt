@@ -9,7 +9,7 @@ use Rattle.rbf_model.specs.Volume.{DiskVolume}
 use Rattle.rbf_access.specs.Cached.{IsCacheOf}
 use Rattle.rbf_access.specs.Drive.{MovesCounts}
 use Rattle.rbf_access.specs.Faults.{volume_fault}
-use Rattle.rbf_access.specs.Mounted.{HoldsVolume, IsVolumeOf, Represents, media_calls}
+use Rattle.rbf_access.specs.Mounted.{HoldsVolume, IsVolumeOf, RepresentsVolume, media_calls}
 use Rattle.rbf_access.specs.declared.faults.VolFault.{VolFault}
 use Rattle.rbf_access.specs.declared.faults.VolFault.TheVariants.{Device, NotRbf, OutOfMemory}
 use Rattle.rbf_access.specs.declared.volume.Volume.{Volume}
@@ -18,7 +18,7 @@ use Rattle.file_drives.proofs.DriveLemmas.{changes-one, drive-here, lent-is, wit
 use Rattle.file_drives.proofs.MountedLemmas.{mounted-set}
 use Rattle.file_drives.proofs.SlotLemmas.{mounted-still, mounts-as}
 use Rattle.file_drives.specs.Drives.{ChangesOneDrive, DriveView, boxed_seen}
-use Rattle.file_drives.specs.Mounted.{AgreesOnDrive, AreMounted, Mounts, ReadsToMount, StayMounted, kept_at, mounted_at}
+use Rattle.file_drives.specs.Mounted.{AgreesOnDrive, AreMounted, Mounts, ReadsToMount, StayMounted, disk_at, mounted_at}
 
 -- what agrees with a drive agrees where its media stayed
 agrees-still : (kept : Option Volume) (before after : DriveView) (o : Option DiskVolume) → after.media ≡ before.media → AgreesOnDrive kept before o → AgreesOnDrive kept after o
@@ -75,16 +75,16 @@ module _ {Table : Type 0} {Driver : Table → Type 0} (members : (drive : (table
       subst (λ d. AreMounted (set d n (Some volume)) (map view (slice_set drivers n after)) (set volumes n (Some v))) (sym same)
       (mounted-then after (Some volume) volumes (Some v)
       (mounts-as volume (view driver).media (view after).media v media_same found
-      (subst (λ (w : DriveView). Represents w.media v) view_same holds.on)) mounted)
+      (subst (λ (w : DriveView). RepresentsVolume w.media v) view_same holds.on)) mounted)
 
   -- the volumes that were mounted stay so
   pub stays : (after : DynBox Table Global Driver) → (view after).media ≡ (view driver).media → StayMounted disks
       (map view drivers) disks (map view (slice_set drivers n after))
   stays after media_same volumes mounted =
       subst (λ d. AreMounted d (map view (slice_set drivers n after)) volumes) (set-get_or disks n None)
-      (subst (λ vs. AreMounted (set disks n (kept_at disks n)) (map view (slice_set drivers n after)) vs) (set-get_or volumes n None)
-      (mounted-then after (kept_at disks n) volumes (mounted_at volumes n)
-      (agrees-still (kept_at disks n) (view driver) (view after) (mounted_at volumes n) media_same (mounted.each n (view driver) here)) mounted))
+      (subst (λ vs. AreMounted (set disks n (disk_at disks n)) (map view (slice_set drivers n after)) vs) (set-get_or volumes n None)
+      (mounted-then after (disk_at disks n) volumes (mounted_at volumes n)
+      (agrees-still (disk_at disks n) (view driver) (view after) (mounted_at volumes n) media_same (mounted.each n (view driver) here)) mounted))
 
   -- the drive was read
   pub reads-to-mount : (after : DynBox Table Global Driver) (change : DriveView → DriveView → Type 0)

@@ -6,7 +6,7 @@ use Rattle.std.proofs.lemmas.Option.{slice_get_read, slice_get_within, get_or_fr
 use Rattle.rbf_model.specs.Volume.{DiskVolume}
 use Rattle.rbf_access.specs.declared.volume.Volume.{Volume}
 use Rattle.file_drives.specs.Drives.{DriveView}
-use Rattle.file_drives.specs.Mounted.{AgreesOnDrive, AreMounted, StayMounted, kept_at, mounted_at}
+use Rattle.file_drives.specs.Mounted.{AgreesOnDrive, AreMounted, StayMounted, disk_at, mounted_at}
 
 -- a volume is mounted on a drive that is there
 pub mounted-below : (volumes : List (Option DiskVolume)) (n : ℕ) (v : DiskVolume) → mounted_at volumes n ≡ Some v → n < length volumes
@@ -45,22 +45,22 @@ mounted-set disks views volumes n new after left there inside agrees mounted = r
     within : n < length volumes
     within = omega (arith, inside, mounted.as_many)
 
-    at_n : (view : DriveView) → slice_get (set views n after) n ≡ Some view → AgreesOnDrive (kept_at (set disks n new) n) view (mounted_at (set volumes n left) n)
+    at_n : (view : DriveView) → slice_get (set views n after) n ≡ Some view → AgreesOnDrive (disk_at (set disks n new) n) view (mounted_at (set volumes n left) n)
     at_n view is =
         subst (λ k. AgreesOnDrive k view (mounted_at (set volumes n left) n)) (sym (get_or-set_same disks n new None there))
         (subst (λ o. AgreesOnDrive new view o) (sym (get_or-set_same volumes n left None within))
         (subst (λ w. AgreesOnDrive new w left) (sym (read-same views n after view is)) agrees))
 
-    elsewhere : (m : ℕ) (view : DriveView) → m ≢ n → slice_get (set views n after) m ≡ Some view → AgreesOnDrive (kept_at (set disks n new) m) view (mounted_at (set volumes n left) m)
+    elsewhere : (m : ℕ) (view : DriveView) → m ≢ n → slice_get (set views n after) m ≡ Some view → AgreesOnDrive (disk_at (set disks n new) m) view (mounted_at (set volumes n left) m)
     elsewhere m view apart is =
         subst (λ k. AgreesOnDrive k view (mounted_at (set volumes n left) m)) (sym (get_or-set_other disks n m new None apart))
-        (subst (λ o. AgreesOnDrive (kept_at disks m) view o) (sym (get_or-set_other volumes n m left None apart))
+        (subst (λ o. AgreesOnDrive (disk_at disks m) view o) (sym (get_or-set_other volumes n m left None apart))
         (mounted.each m view (read-other views n m after view apart is)))
 
-    each : (m : ℕ) (view : DriveView) → slice_get (set views n after) m ≡ Some view → AgreesOnDrive (kept_at (set disks n new) m) view (mounted_at (set volumes n left) m)
+    each : (m : ℕ) (view : DriveView) → slice_get (set views n after) m ≡ Some view → AgreesOnDrive (disk_at (set disks n new) m) view (mounted_at (set volumes n left) m)
     each m view is =
         ⊎_elim
-        (λ same. subst (λ k. AgreesOnDrive (kept_at (set disks n new) k) view (mounted_at (set volumes n left) k))
+        (λ same. subst (λ k. AgreesOnDrive (disk_at (set disks n new) k) view (mounted_at (set volumes n left) k))
         (sym same) (at_n view (subst (λ k. slice_get (set views n after) k ≡ Some view) same is)))
         (λ apart. elsewhere m view apart is)
         (cases_eq m n)
@@ -73,12 +73,12 @@ same_kind (Some volume) view v none some = none
 -- what was mounted on a drive is mounted still, and so on all
 pub stay-set : (disks : List (Option Volume)) (views : List DriveView) (n : ℕ) (new : Option Volume)
     (before after : DriveView) (v : DiskVolume) → n < length disks → slice_get views n ≡ Some before
-    → AgreesOnDrive (kept_at disks n) before (Some v) → ((w : DiskVolume) → AgreesOnDrive (kept_at disks n) before
+    → AgreesOnDrive (disk_at disks n) before (Some v) → ((w : DiskVolume) → AgreesOnDrive (disk_at disks n) before
     (Some w) → AgreesOnDrive new after (Some w)) → StayMounted disks views (set disks n new) (set views n after)
 stay-set disks views n new before after v there is on stays volumes mounted =
     subst (λ vs. AreMounted (set disks n new) (set views n after) vs) (set-get_or volumes n None)
     (mounted-set disks views volumes n new after (mounted_at volumes n) there (slice_get_within views n before is) (still (mounted_at volumes n) (mounted.each n before is)) mounted)
   where
-    still : (o : Option DiskVolume) → AgreesOnDrive (kept_at disks n) before o → AgreesOnDrive new after o
-    still None agrees = absurd (same_kind (kept_at disks n) before v agrees on)
+    still : (o : Option DiskVolume) → AgreesOnDrive (disk_at disks n) before o → AgreesOnDrive new after o
+    still None agrees = absurd (same_kind (disk_at disks n) before v agrees on)
     still (Some w) agrees = stays w agrees

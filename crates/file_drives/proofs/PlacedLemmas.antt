@@ -23,8 +23,8 @@ use Rattle.file_drives.proofs.IdentLemmas.{ident-left}
 use Rattle.file_drives.proofs.SlotLemmas.{LeavesMounted, mounted-left, mounted-still}
 use Rattle.file_drives.proofs.MountedLemmas.{mounted-below, mounted-set, stay-set}
 use Rattle.file_drives.specs.Changed.{AnswersOnDisk, Asked, ChangesVolume}
-use Rattle.file_drives.specs.Drives.{DriveView, KeepsIdent, Reads, boxed_seen, drive_views, media_at, unused_drive}
-use Rattle.file_drives.specs.Mounted.{AgreesOnDrive, AreMounted, ArrivesOn, HasFileAt, IsMountedAs, OnDisks, ReadsFile, kept_at, mounted_at, number_arrived}
+use Rattle.file_drives.specs.Drives.{DriveView, KeepsIdent, OnlyReadsDrive, boxed_seen, drive_views, media_at, unused_drive}
+use Rattle.file_drives.specs.Mounted.{AgreesOnDrive, AreMounted, ArrivesOn, HasFileAt, IsMountedAs, OnDisks, ReadsFile, disk_at, mounted_at, number_arrived}
 
 -- the drive of a file is there, and a place where something is kept for it
 drive-there : {Driver : Type 0} (view : Driver → DriveView) (disks : List (Option Volume)) (drivers : List Driver)
@@ -77,10 +77,10 @@ pub none-kept : {items disks : List (Option Volume)} {views : List DriveView} {p
     → kept ≡ None → ⊥
 none-kept {items} {disks} {views} {place} {kept} same four kept_is has none =
     let there : place.drive < length items = subst (λ k. place.drive < k) (sym four) (drive-below disks views place has) in
-    let is_none : kept_at disks place.drive ≡ None = ap (λ d. kept_at d place.drive) (sym same) ∙ sym (get_or_read items place.drive kept there kept_is None) ∙ none in
+    let is_none : disk_at disks place.drive ≡ None = ap (λ d. disk_at d place.drive) (sym same) ∙ sym (get_or_read items place.drive kept there kept_is None) ∙ none in
     let below : place.drive < length views = let within = mounted-below has.volumes place.drive has.volume has.is in let many = has.mounted.as_many in omega (arith, within, many) in
     subst (λ k. AgreesOnDrive k (get_or views place.drive unused_drive) (Some has.volume)) is_none
-    (subst (λ o. AgreesOnDrive (kept_at disks place.drive) (get_or views place.drive unused_drive) o) has.is
+    (subst (λ o. AgreesOnDrive (disk_at disks place.drive) (get_or views place.drive unused_drive) o) has.is
     (has.mounted.each place.drive (get_or views place.drive unused_drive) (slice_get-get_or views place.drive unused_drive below)))
 
 -- a call of the driver that the box of the file's drive lends, on the volume that is kept for the drive
@@ -109,14 +109,14 @@ module _ {Table : Type 0} {Driver : Table → Type 0} (members : (drive : (table
   here : slice_get (map view drivers) place.drive ≡ Some (view driver)
   here = drive-here view drivers place.drive driver inside driver_is
 
-  is_kept : kept_at disks place.drive ≡ Some volume
-  is_kept = ap (λ d. kept_at d place.drive) (sym same) ∙ sym (get_or_read items place.drive kept there kept_is None) ∙ is
+  is_kept : disk_at disks place.drive ≡ Some volume
+  is_kept = ap (λ d. disk_at d place.drive) (sym same) ∙ sym (get_or_read items place.drive kept there kept_is None) ∙ is
 
   mounted-at : (volumes : List (Option DiskVolume)) (v : DiskVolume) → AreMounted disks (map view drivers) volumes
       → mounted_at volumes place.drive ≡ Some v → IsMountedAs volume (view driver).media v
   mounted-at volumes v mounted v_is =
       subst (λ k. AgreesOnDrive k (view driver) (Some v)) is_kept
-      (subst (λ o. AgreesOnDrive (kept_at disks place.drive) (view driver) o) v_is (mounted.each place.drive (view driver) here))
+      (subst (λ o. AgreesOnDrive (disk_at disks place.drive) (view driver) o) v_is (mounted.each place.drive (view driver) here))
 
   was : IsMountedAs volume (view driver).media has.volume
   was = mounted-at has.volumes has.volume has.mounted has.is
@@ -167,7 +167,7 @@ module _ {Table : Type 0} {Driver : Table → Type 0} (members : (drive : (table
       → ReadsFile place fault most disks (map view drivers) (slice_set items place.drive (Some new))
       (map view (slice_set drivers place.drive after))
   only-reads {new} after fault most media_same kept_same mounted counts = record {
-    drive = λ volumes v file are v_is file_is. changes-one view (Reads fault (most v file)) drivers place.drive driver
+    drive = λ volumes v file are v_is file_is. changes-one view (OnlyReadsDrive fault (most v file)) drivers place.drive driver
         after inside driver_is (record {
           media_kept = media_same;
           counts = counts v file (mounted-at volumes v are v_is).on file_is;

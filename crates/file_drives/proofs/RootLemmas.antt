@@ -10,17 +10,17 @@ use Rattle.rbf_model.proofs.Owners.{root_file}
 use Rattle.rbf_change.specs.Calls.{shape}
 use Rattle.rbf_change.proofs.LawfulWrites.{shape-image}
 use Rattle.rbf_change.specs.Agrees.{Agrees}
-use Rattle.rbf_access.specs.Mounted.{Represents, kept}
+use Rattle.rbf_access.specs.Mounted.{RepresentsVolume, mounted_part}
 use Rattle.rbf_access.specs.declared.volume.Volume.{Volume}
 use Rattle.file_rules.specs.Route.{root_of}
 use Rattle.lock_model.specs.declared.place.FilePlace.{FilePlace}
 use Rattle.file_drives.proofs.MountedLemmas.{mounted-below}
 use Rattle.file_drives.specs.Drives.{DriveView}
-use Rattle.file_drives.specs.Mounted.{AgreesOnDrive, AreMounted, HasFileAt, kept_at, mounted_at}
+use Rattle.file_drives.specs.Mounted.{AgreesOnDrive, AreMounted, HasFileAt, disk_at, mounted_at}
 
 -- the root that is kept is that of the volume
 pub root-kept : (volume : Volume) (view : DriveView) (n number : ℕ) (o : Option DiskVolume)
-    → ((image : List ℕ) (v : DiskVolume) → Agrees (kept volume) image → Vol image v → number ≡ (shape v).root)
+    → ((image : List ℕ) (v : DiskVolume) → Agrees (mounted_part volume) image → Vol image v → number ≡ (shape v).root)
     → AgreesOnDrive (Some volume) view o → ◌≡◌ {A = Option FilePlace} (Some (record { drive = n; number = number }))
     (option_map (root_of n) o)
 root-kept volume view n number None is agrees = absurd agrees
@@ -49,7 +49,7 @@ root-at disks views volumes n slot result there slot_is root mounted =
     no_view : DriveView
     no_view = record { media = None; counts = record { faults = 0; last = None; calls = 0 } }
 
-    is_kept : kept_at disks n ≡ slot
+    is_kept : disk_at disks n ≡ slot
     is_kept = sym (get_or_read disks n slot there slot_is None)
 
 -- there is a file
@@ -59,11 +59,11 @@ pub root-there : (disks : List (Option Volume)) (views : List DriveView) (volume
 root-there disks views volumes n result mounted is =
     subst (λ r. IfSome r (HasFileAt disks views)) (sym is) (by (mounted_at volumes n) refl)
   where
-    has : (v : DiskVolume) (media : Option (List ℕ)) → Represents media v → (file : DiskFile) × (v.files (shape v).root ≡ Some file)
+    has : (v : DiskVolume) (media : Option (List ℕ)) → RepresentsVolume media v → (file : DiskFile) × (v.files (shape v).root ≡ Some file)
     has v media on =
         subst (λ (g : Geometry). (file : DiskFile) × (v.files g.root ≡ Some file)) (sym (shape-image on.image v on.vol)) (root_file (image_geometry on.image) (sector on.image) v on.vol.sound)
 
-    agrees-there : (slot : Option Volume) (view : DriveView) (v : DiskVolume) → AgreesOnDrive slot view (Some v) → Represents view.media v
+    agrees-there : (slot : Option Volume) (view : DriveView) (v : DiskVolume) → AgreesOnDrive slot view (Some v) → RepresentsVolume view.media v
     agrees-there None view v agrees = absurd agrees
     agrees-there (Some volume) view v agrees = agrees.on
 
@@ -71,7 +71,9 @@ root-there disks views volumes n result mounted is =
     at v here =
         let below : n < length views = let within = mounted-below volumes n v here in let same = mounted.as_many in omega (arith, within, same) in
         let view : DriveView = get_or views n (record { media = None; counts = record { faults = 0; last = None; calls = 0 } }) in
-        let on : Represents view.media v = agrees-there (kept_at disks n) view v (subst (λ o. AgreesOnDrive (kept_at disks n) view o) here (mounted.each n view (slice_get-get_or views n _ below))) in
+        let on : RepresentsVolume view.media v = agrees-there (disk_at disks n) view v
+        (subst (λ o. AgreesOnDrive (disk_at disks n) view o) here
+        (mounted.each n view (slice_get-get_or views n _ below))) in
         let found = has v view.media on in
         record { volumes = volumes; mounted = mounted; volume = v; is = here; file = found.0; there = found.1 }
 

@@ -21,7 +21,7 @@ use Rattle.rbf_walk.specs.declared.error.DirError.{DirError}
 use Rattle.rbf_walk.specs.declared.error.DirError.TheVariants.{NotAllowed, BadPath, NotFound, Exists, File}
 use Rattle.rbf_write.specs.Outcomes.{AnswersWrite}
 use Rattle.rbf_write.specs.Sizes.{AnswersSize}
-use Rattle.file_rules.specs.Change.{Change, writes, sizes, sets_attributes, creates, makes_directory, deletes, Makes, MayLeave, MayBeTooLong}
+use Rattle.file_rules.specs.Change.{Change, writes, sizes, sets_attributes, creates, makes_directory, deletes, AppliesChange, ChangeMayLeave, MayBeTooLong}
 use Rattle.file_rules.specs.MakDir.{new_directory_size}
 use Rattle.lock_model.specs.declared.place.FilePlace.{FilePlace}
 use Rattle.file_drives.specs.Drives.{DriveView, KeepsIdent, OneDriveMoves, media_at, media_of}
@@ -91,11 +91,11 @@ pub record ChangeIsMade (asked : Asked) (v : DiskVolume) (file : DiskFile) (left
   pub allowed : is_allowed asked.change asked.user file ≡ true
   pub enough : is_full_for asked.change v file ≡ false
   pub list : has_full_list asked.change v file ≡ false
-  pub makes : Makes asked.change asked.user asked.now v left n
+  pub makes : AppliesChange asked.change asked.user asked.now v left n
 
 -- the drive failed. If the change had to be refused, nothing has changed
 pub record ChangeIsBroken (asked : Asked) (v : DiskVolume) (file : DiskFile) (left : DiskVolume) : Type 0 where
-  pub may_be : MayLeave asked.change asked.user asked.now v left
+  pub may_be : ChangeMayLeave asked.change asked.user asked.now v left
   pub refused : is_refused asked v file ≡ true → left ≡ v
 
 -- E$FNA
@@ -127,15 +127,15 @@ AnswersChange asked v file left (Err (File NoCluster)) = ChangeIsFull asked v fi
 AnswersChange asked v file left (Err (File TooManyRuns)) = ChangeIsTooLong asked v file left
 
 -- it is refused, and no drive fault ended it
-abbrev pub IsRefused : Result ℕ DirError → Type 0
-IsRefused (Ok n) = ⊥
-IsRefused (Err NotAllowed) = Unit {0}
-IsRefused (Err BadPath) = Unit {0}
-IsRefused (Err NotFound) = Unit {0}
-IsRefused (Err Exists) = Unit {0}
-IsRefused (Err (File (Device number))) = ⊥
-IsRefused (Err (File NoCluster)) = Unit {0}
-IsRefused (Err (File TooManyRuns)) = Unit {0}
+abbrev pub IsRefusedChange : Result ℕ DirError → Type 0
+IsRefusedChange (Ok n) = ⊥
+IsRefusedChange (Err NotAllowed) = Unit {0}
+IsRefusedChange (Err BadPath) = Unit {0}
+IsRefusedChange (Err NotFound) = Unit {0}
+IsRefusedChange (Err Exists) = Unit {0}
+IsRefusedChange (Err (File (Device number))) = ⊥
+IsRefusedChange (Err (File NoCluster)) = Unit {0}
+IsRefusedChange (Err (File TooManyRuns)) = Unit {0}
 
 -- a result without a number; no file has the number 0
 abbrev pub numbered : Result (Unit {0}) DirError → Result ℕ DirError
@@ -182,7 +182,7 @@ pub record LeavesVolume (asked : Asked) (answer : Result ℕ DirError) (most : D
   pub mounted : AreMounted new after (slice_set volumes drive (Some left))
   pub moves : OneDriveMoves (directory_fault answer) (most left) drive before after
   -- a call that is refused, or had to be when the drive failed, writes nothing
-  pub refused : IsRefused answer ⊎ (is_refused asked v file ≡ true) → media_of after ≡ media_of before
+  pub refused : IsRefusedChange answer ⊎ (is_refused asked v file ≡ true) → media_of after ≡ media_of before
   -- the media of the drive
   pub disk : AnswersOnDisk asked.change asked.user asked.now v file answer (media_at before drive)
       (media_at after drive)

@@ -76,9 +76,9 @@ OneDriveMoves fault most n before after =
     ChangesOneDrive (λ old new. MovesCounts fault most old.counts new.counts) n before after
 
 -- such calls that only read the drive
-pub record Reads (fault : Option ℕ) (most : ℕ) (old new : DriveView) : Type 0 where
+pub record OnlyReadsDrive (fault : Option ℕ) (most : ℕ) (old new : DriveView) : Type 0 where
   pub media_kept : new.media ≡ old.media
   pub counts : MovesCounts fault most old.counts new.counts
 
 abbrev pub ReadsDrive : Option ℕ → ℕ → ℕ → List DriveView → List DriveView → Type 0
-ReadsDrive fault most n before after = ChangesOneDrive (Reads fault most) n before after
+ReadsDrive fault most n before after = ChangesOneDrive (OnlyReadsDrive fault most) n before after

@@ -1,6 +1,6 @@
 -- What is found in a directory of a mounted volume before one of its entries changes.
 use Rattle.std.specs.Prelude.{◌≡◌, ℕ, Bool, Some, List, slice_get}
-use Rattle.rbf_entries.specs.Places.{IsPlaceFor}
+use Rattle.rbf_entries.specs.Places.{IsPlaceForName}
 use Rattle.rbf_entries.specs.declared.place.NewPlace.{NewPlace}
 use Rattle.rbf_entries.specs.Deletions.{IsDeletable}
 use Rattle.rbf_entries.specs.declared.deletion.Deletable.{Deletable}
@@ -13,7 +13,7 @@ use Rattle.file_drives.specs.Drives.{DriveView}
 pub record IsPlaceAt (views : List DriveView) (dir : FilePlace) (name : List ℕ) (found : NewPlace) : Type 0 where
   pub view : DriveView
   pub is : slice_get views dir.drive ≡ Some view
-  pub place : IsPlaceFor view.media name found
+  pub place : IsPlaceForName view.media name found
   pub directory_is : found.dir.number ≡ dir.number
 
 -- the same place, found for this user

@@ -8,20 +8,21 @@ use Rattle.rbf_access.specs.declared.faults.FileFault.TheVariants.{Device, NoClu
 use Rattle.rbf_walk.specs.declared.error.DirError.{DirError}
 use Rattle.rbf_walk.specs.declared.error.DirError.TheVariants.{NotAllowed, BadPath, NotFound, Exists, File}
 use Rattle.rbf_entries.specs.Becomes.{RepresentsOne}
-use Rattle.file_rules.specs.Change.{Change, Makes, MayLeave}
+use Rattle.file_rules.specs.Change.{Change, AppliesChange, ChangeMayLeave}
 
 -- by its answer, if the old media represented the volume v: on success the changed volume, with a new file of the
 -- answered number; after a fault of the drive what that may leave; and after a refusal the old media
-abbrev pub Leaves : Change → ℕ → TimePacket → DiskVolume → Option (List ℕ) → Option (List ℕ)
+abbrev pub LeavesMedia : Change → ℕ → TimePacket → DiskVolume → Option (List ℕ) → Option (List ℕ)
     → Result ℕ DirError → Type 0
-Leaves change user now v old new (Ok n) = RepresentsOne new (λ w. Makes change user now v w n)
-Leaves change user now v old new (Err NotAllowed) = new ≡ old
-Leaves change user now v old new (Err BadPath) = new ≡ old
-Leaves change user now v old new (Err NotFound) = new ≡ old
-Leaves change user now v old new (Err Exists) = new ≡ old
-Leaves change user now v old new (Err (File (Device number))) = RepresentsOne new (λ w. MayLeave change user now v w)
-Leaves change user now v old new (Err (File NoCluster)) = new ≡ old
-Leaves change user now v old new (Err (File TooManyRuns)) = new ≡ old
+LeavesMedia change user now v old new (Ok n) = RepresentsOne new (λ w. AppliesChange change user now v w n)
+LeavesMedia change user now v old new (Err NotAllowed) = new ≡ old
+LeavesMedia change user now v old new (Err BadPath) = new ≡ old
+LeavesMedia change user now v old new (Err NotFound) = new ≡ old
+LeavesMedia change user now v old new (Err Exists) = new ≡ old
+LeavesMedia change user now v old new (Err (File (Device number))) = RepresentsOne new
+    (λ w. ChangeMayLeave change user now v w)
+LeavesMedia change user now v old new (Err (File NoCluster)) = new ≡ old
+LeavesMedia change user now v old new (Err (File TooManyRuns)) = new ≡ old
 
 -- the answer of a call that makes no file, and so has no number: it is 0, which no such change asks for
 abbrev pub numbered : Result (Unit {0}) FileFault → Result ℕ FileFault

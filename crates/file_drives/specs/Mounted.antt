@@ -6,18 +6,18 @@ use Rattle.rbf_model.specs.Volume.{DiskVolume}
 use Rattle.rbf_change.specs.Agrees.{Agrees}
 use Rattle.rbf_access.specs.Cached.{IsCacheOf}
 use Rattle.rbf_access.specs.Faults.{volume_fault}
-use Rattle.rbf_access.specs.Mounted.{HoldsVolume, Represents, kept, media_calls}
+use Rattle.rbf_access.specs.Mounted.{HoldsVolume, RepresentsVolume, mounted_part, media_calls}
 use Rattle.rbf_access.specs.declared.faults.VolFault.{VolFault}
 use Rattle.rbf_access.specs.declared.faults.VolFault.TheVariants.{Device, NotRbf, OutOfMemory}
 use Rattle.rbf_access.specs.declared.volume.Volume.{Volume}
 use Rattle.rbf_walk.specs.declared.error.DirError.{DirError}
 use Rattle.lock_model.specs.declared.place.FilePlace.{FilePlace}
-use Rattle.file_drives.specs.Drives.{DriveView, Reads, ReadsDrive}
+use Rattle.file_drives.specs.Drives.{DriveView, OnlyReadsDrive, ReadsDrive}
 
 -- the media represents this volume, and the kept state and the cache agree with the media
 pub record IsMountedAs (volume : Volume) (media : Option (List ℕ)) (v : DiskVolume) : Type 0 where
-  pub on : Represents media v
-  pub agrees : Agrees (kept volume) on.image
+  pub on : RepresentsVolume media v
+  pub agrees : Agrees (mounted_part volume) on.image
   pub cached : IsCacheOf media volume.cache
 
 -- the state kept for a drive agrees with the volume mounted there, or neither exists
@@ -28,8 +28,8 @@ AgreesOnDrive (Some volume) view None = ⊥
 AgreesOnDrive (Some volume) view (Some v) = IsMountedAs volume view.media v
 
 -- the state kept for the drive of this number
-abbrev pub kept_at : List (Option Volume) → ℕ → Option Volume
-kept_at disks n = slice_index_or disks n None
+abbrev pub disk_at : List (Option Volume) → ℕ → Option Volume
+disk_at disks n = slice_index_or disks n None
 
 -- the volume that is mounted on it
 abbrev pub mounted_at : List (Option DiskVolume) → ℕ → Option DiskVolume
@@ -41,9 +41,9 @@ pub record AreMounted (disks : List (Option Volume)) (views : List DriveView) (v
   pub few : length views ≤ 4
   pub as_many : length volumes ≡ length views
   pub each : (n : ℕ) (view : DriveView) → slice_get views n ≡ Some view
-      → AgreesOnDrive (kept_at disks n) view (mounted_at volumes n)
+      → AgreesOnDrive (disk_at disks n) view (mounted_at volumes n)
   -- nothing is kept for a drive that does not exist
-  pub none_behind : (n : ℕ) → length views ≤ n → kept_at disks n ≡ None
+  pub none_behind : (n : ℕ) → length views ≤ n → disk_at disks n ≡ None
 
 -- each mounted volume is still mounted
 abbrev pub StayMounted : List (Option Volume) → List DriveView → List (Option Volume) → List DriveView → Type 0
@@ -97,7 +97,7 @@ number_arrived (Err error) = Err error
 pub record DriveHolds (views : List DriveView) (n : ℕ) (v : DiskVolume) : Type 0 where
   pub view : DriveView
   pub is : slice_get views n ≡ Some view
-  pub on : Represents view.media v
+  pub on : RepresentsVolume view.media v
 
 -- the volume that the media represents is mounted there, and the others are unchanged
 abbrev pub Mounts : ℕ → List (Option Volume) → List DriveView → List (Option Volume) → List DriveView → Type 0
@@ -120,7 +120,7 @@ mounting_calls (Err OutOfMemory) media = media_calls media
 
 -- the drive is read for an attempt to mount it, with this result
 pub record ReadsToMount (result : Result (Unit {0}) VolFault) (old new : DriveView) : Type 0 where
-  pub reads : Reads (volume_fault result) (mounting_calls result old.media) old new
+  pub reads : OnlyReadsDrive (volume_fault result) (mounting_calls result old.media) old new
   -- it holds a volume
   pub holds : OnOk result (HoldsVolume old.media)
   -- it holds no volume

@@ -5,7 +5,7 @@ ghost use Rattle.rbf_model.specs.Volume.{DiskVolume};
 ghost use Rattle.rbf_model.specs.Walk.{step};
 ghost use Rattle.rbf_change.specs.Names.{deletion_end};
 ghost use Rattle.rbf_access.specs.Faults.{file_fault};
-ghost use Rattle.rbf_access.specs.Reading.{IsFdOf, IsRead, read_calls};
+ghost use Rattle.rbf_access.specs.Reading.{IsFdOf, IsReadInto, read_calls};
 ghost use Rattle.rbf_walk.specs.Walk.{AnswersWalk, directory_fault, step_calls};
 ghost use Rattle.rbf_entries.specs.Places.{AnswersPlace, place_calls, place_found};
 ghost use Rattle.rbf_entries.specs.Entering.{entering_calls, widened};
@@ -17,7 +17,7 @@ ghost use Rattle.file_drives.specs.Calls.{deleting_calls, making_calls, sizing_c
 ghost use Rattle.file_drives.specs.Changed.{Asked, ChangesVolume, asking, file_answer, numbered};
 ghost use Rattle.file_drives.specs.Drives.{DriveView, drives_seen, ChangesOneDrive};
 ghost use Rattle.file_drives.specs.Entries.{IsDeletableOn, IsDeletionOn, IsPlaceAt, IsPlaceOn, MayBeDeletedOn};
-ghost use Rattle.file_drives.specs.Mounted.{AgreesOnDrive, AreMounted, ArrivesOn, HasDataFileAt, HasFileAt, MountsAs, OnDisks, ReadsFile, ReadsToMount, kept_at, mounted_at, number_arrived};
+ghost use Rattle.file_drives.specs.Mounted.{AgreesOnDrive, AreMounted, ArrivesOn, HasDataFileAt, HasFileAt, MountsAs, OnDisks, ReadsFile, ReadsToMount, disk_at, mounted_at, number_arrived};
 
 use device_table::devices::Devices;
 use lock_model::place::FilePlace;
@@ -84,7 +84,7 @@ impl Disks {
         ensures mounted { MountsAs result n
             self.old (drives_seen BlockDriver-box devices.old)
             self.new (drives_seen BlockDriver-box devices.new) }
-        ensures others { (m : ℕ) → m ≢ n → kept_at self.new m ≡ kept_at self.old m }
+        ensures others { (m : ℕ) → m ≢ n → disk_at self.new m ≡ disk_at self.old m }
         ensures drive { ChangesOneDrive (ReadsToMount result) n
             (drives_seen BlockDriver-box devices.old)
             (drives_seen BlockDriver-box devices.new) }
@@ -170,7 +170,7 @@ impl Disks {
     ) -> Result<u32, FileFault>
         requires file { HasFileAt self.old (drives_seen BlockDriver-box devices.old) place }
         ensures ok { OnDisks self.old (drives_seen BlockDriver-box devices.old) place
-            (λ v file. IfOk result (IsRead file at into.old into.new)) }
+            (λ v file. IfOk result (IsReadInto file at into.old into.new)) }
         ensures device { OnErr result (IsSome (file_fault result)) }
         ensures drive { ReadsFile place (file_fault result)
             (λ v file. read_calls file at (length into.old))

@@ -10,11 +10,11 @@ use Rattle.lock_model.specs.declared.lock.Request.{Request}
 use Rattle.file_state.proofs.AskingLemmas.{may-ask as may-ask-on, no-read-again}
 use Rattle.file_drives.specs.Drives.{DriveView}
 use Rattle.file_state.specs.Asking.{IsPendingRequest, KeepsRequest, MayAsk, TriesAgain}
-use Rattle.file_state.specs.Tie.{IsSound}
+use Rattle.file_state.specs.Tie.{AreSoundFiles}
 use Rattle.file_state.specs.declared.state.FileState.{FileState}
 use Rattle.file_state.specs.declared.state.OpenFile.{OpenFile}
 use Rattle.file_io.proofs.OpenedLemmas.{IsNamed, is-named}
-use Rattle.file_io.specs.Opened.{IsOpened}
+use Rattle.file_io.specs.Opened.{IsOpenedPath}
 use Rattle.io_state.specs.Sound.{ReadsNoTerminal}
 
 pub again-no_read : (io : Io) (p n : ℕ) (opened : OpenFile) (call : IoCall) (regs : Regs) → IsAgain call regs io p → path_number call regs ≡ n → IsNamed io p n opened → ReadsNoTerminal io p
@@ -23,8 +23,8 @@ again-no_read io p n opened call regs again number named = no-read-again io p n 
 -- ---- records
 
 -- a process may ask for records on a file that it has opened
-pub may-ask : (state : FileState) (views : List DriveView) (p n : ℕ) (opened : OpenFile) → IsSound state views
-    → IsOpened state p n opened → KeepsRequest state.io state.records.locks p → MayAsk state.io state.records.locks p
+pub may-ask : (state : FileState) (views : List DriveView) (p n : ℕ) (opened : OpenFile) → AreSoundFiles state views
+    → IsOpenedPath state p n opened → KeepsRequest state.io state.records.locks p → MayAsk state.io state.records.locks p
     opened
 may-ask state views p n opened sound is kept =
     let named = is-named state views sound p n opened is in

@@ -13,7 +13,7 @@ use Rattle.io_model.specs.declared.modes.TheConstants.{STANDARD_ERROR}
 use Rattle.os9_base.specs.declared.registers.Regs.{Regs}
 use Rattle.proc_model.specs.Records.{record_at}
 use Rattle.proc_state.proofs.Entered.{represented}
-use Rattle.proc_state.specs.Tie.{Represents, processes_of}
+use Rattle.proc_state.specs.Tie.{RepresentsProcesses, processes_of}
 use Rattle.proc_state.specs.declared.state.ProcState.{ProcState}
 use Rattle.rbf_model.specs.File.{DiskFile}
 use Rattle.rbf_model.specs.Volume.{DiskVolume}
@@ -28,12 +28,12 @@ use Rattle.file_rules.specs.Step.{done, needs, refuses}
 use Rattle.file_rules.specs.Write.{i_write, i_writln, f_perr, line_moved, sends_bytes, writes_bytes}
 use Rattle.lock_model.specs.declared.lock.Request.{Request}
 use Rattle.file_state.proofs.ReachedLemmas.{on-volume}
-use Rattle.file_state.specs.Tie.{StandsFor}
+use Rattle.file_state.specs.Tie.{RepresentsFiles}
 use Rattle.file_state.specs.declared.state.FileState.{FileState}
 use Rattle.file_state.specs.declared.state.OpenFile as kernel
 use Rattle.file_io.proofs.OpenedLemmas.{named-of, open-file}
 use Rattle.file_io.proofs.TryingLemmas.{regs-tied}
-use Rattle.file_io.specs.Opened.{IsOpened, found_on}
+use Rattle.file_io.specs.Opened.{IsOpenedPath, found_on}
 use Rattle.file_io.specs.Reading.{read_file, read_named, read_opened}
 use Rattle.file_io.specs.Writing.{line_of, write_file}
 
@@ -47,8 +47,8 @@ pub record IsKnown (files : Files) (p n : ℕ) (opened : kernel.OpenFile) : Type
   pub there : volume.files opened.place.number ≡ Some file
   pub found : open_file files p n ≡ Some (found_on opened volume file)
 
-module _ (state : FileState) (views : List DriveView) (files : Files) (p : ℕ) (opened : kernel.OpenFile) (stands : StandsFor state views files) (kinds : AreKinds files) where
-  pub known : (n : ℕ) → IsOpened state p n opened → IsKnown files p n opened
+module _ (state : FileState) (views : List DriveView) (files : Files) (p : ℕ) (opened : kernel.OpenFile) (stands : RepresentsFiles state views files) (kinds : AreKinds files) where
+  pub known : (n : ℕ) → IsOpenedPath state p n opened → IsKnown files p n opened
   known n is =
       let it = is.file views files stands kinds in
       let named = named-of state views files p n opened stands it in
@@ -62,8 +62,9 @@ module _ (state : FileState) (views : List DriveView) (files : Files) (p : ℕ) 
       }
 
   -- where the number is in A
-  pub known-a : (s : ProcState) (m : Processes) (regs : Regs) → regs ≡ (record_at s.table p).regs → Represents s m → IsOpened state p regs.a opened → IsKnown files p (regs_at m p).a opened
-  known-a s m regs same tied is = known (regs_at m p).a (subst (λ (r : Regs). IsOpened state p r.a opened) (same ∙ regs-tied s m p tied) is)
+  pub known-a : (s : ProcState) (m : Processes) (regs : Regs) → regs ≡ (record_at s.table p).regs
+      → RepresentsProcesses s m → IsOpenedPath state p regs.a opened → IsKnown files p (regs_at m p).a opened
+  known-a s m regs same tied is = known (regs_at m p).a (subst (λ (r : Regs). IsOpenedPath state p r.a opened) (same ∙ regs-tied s m p tied) is)
 
 -- ---- registers
 
@@ -75,7 +76,7 @@ pub with-own-y : (regs own : Regs) → regs ≡ own → regs ≡ record own { y 
 with-own-y regs own same = subst (λ (r : Regs). regs ≡ record r { y = regs.y }) same refl
 
 -- processes are those of some machine
-pub some-machine : (s : ProcState) → (m : Processes) × Represents s m
+pub some-machine : (s : ProcState) → (m : Processes) × RepresentsProcesses s m
 some-machine s = (processes_of s _, record { memory = represented s.memory; is = refl })
 
 -- ---- the steps of the calls

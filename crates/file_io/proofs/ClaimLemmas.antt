@@ -10,7 +10,7 @@ use Rattle.lock_model.specs.Locks.{Locks}
 use Rattle.lock_model.specs.declared.lock.Held.{Held}
 use Rattle.file_rules.specs.Read.{lock_by}
 use Rattle.file_state.proofs.AskingLemmas.{granted-holds}
-use Rattle.file_state.specs.Asking.{IsGranted}
+use Rattle.file_state.specs.Asking.{MayBeGranted}
 use Rattle.os9_base.specs.declared.call.CallEnd.{CallEnd}
 use Rattle.os9_base.specs.declared.call.CallEnd.TheVariants.{Error}
 use Rattle.os9_base.specs.declared.errors.TheConstants.{E_DEADLK, E_LOCK}
@@ -51,7 +51,7 @@ as-fault place found number most disks new views now is it =
 
 -- ---- the lock of a read may be held if it was granted: all of it, or the line alone
 
-module _ (locks : Locks) (lock : Held) (bytes : List ℕ) (granted : IsGranted locks lock) (covers : Covers lock.range (length bytes)) where
+module _ (locks : Locks) (lock : Held) (bytes : List ℕ) (granted : MayBeGranted locks lock) (covers : Covers lock.range (length bytes)) where
   line-held : (ended : Bool) → MayHold locks (record lock {
     range = if ended then record lock.range { end = Some (lock.range.start + length bytes) } else lock.range;
   })

@@ -9,7 +9,7 @@ use Rattle.io_model.specs.declared.path.Desc.{Desc}
 use Rattle.io_model.specs.Io.{Io, with_call, with_paths}
 use Rattle.proc_state.specs.declared.state.ProcState.{ProcState}
 use Rattle.file_state.specs.declared.state.OpenFile.{OpenFile}
-use Rattle.file_io.specs.Ending.{IsDone, with_bytes}
+use Rattle.file_io.specs.Ending.{IsCallDone, with_bytes}
 use Rattle.file_io.specs.Opened.{IsPathOf, moved_to}
 
 module _ (io between : Io) (p : ℕ) (opened : OpenFile) (same : between ≡ with_call io p None) (path : IsPathOf io opened) where
@@ -29,12 +29,12 @@ module _ (io between : Io) (p : ℕ) (opened : OpenFile) (same : between ≡ wit
 -- a process is given these bytes, which are so many, and the position of its path is behind them
 pub gives-of : (bytes given : List ℕ) (n start : ℕ) (regs : Regs) (opened : OpenFile) (m : Processes) (p : ℕ) (io : Io) (end : CallEnd)
     (processes : ProcState) (new : Io) → bytes ≡ given → length given ≡ n
-    → IsDone (with_bytes m p regs.x bytes) p (record regs { y = n }) (moved_to io opened (start + n)) end processes new
-    → IsDone (with_bytes m p regs.x given) p (record regs { y = length given })
+    → IsCallDone (with_bytes m p regs.x bytes) p (record regs { y = n }) (moved_to io opened (start + n)) end processes new
+    → IsCallDone (with_bytes m p regs.x given) p (record regs { y = length given })
     (moved_to io opened (start + length given)) end processes new
 gives-of bytes given n start regs opened m p io end processes new same long it =
-    subst (λ (b : List ℕ). IsDone (with_bytes m p regs.x b) p (record regs { y = length given }) (moved_to io opened (start + length given)) end processes new) same
-    (subst (λ (k : ℕ). IsDone (with_bytes m p regs.x bytes) p (record regs { y = k }) (moved_to io opened (start + k)) end processes new) (sym long) it)
+    subst (λ (b : List ℕ). IsCallDone (with_bytes m p regs.x b) p (record regs { y = length given }) (moved_to io opened (start + length given)) end processes new) same
+    (subst (λ (k : ℕ). IsCallDone (with_bytes m p regs.x bytes) p (record regs { y = k }) (moved_to io opened (start + k)) end processes new) (sym long) it)
 
 -- what holds of a result that is no error
 pub on-ok : {T E : Type 0} {P : Type 0} (r : Result T E) → is_err r ≡ false → OnOk r P → P

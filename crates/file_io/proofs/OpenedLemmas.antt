@@ -3,23 +3,23 @@ use Rattle.std.proofs.Common.{◌≡◌, ◌∙◌, ℕ, ◌<◌, ◌^◌, Bool,
 use Rattle.std.proofs.lemmas.Bool.{false≢true}
 use Rattle.std.proofs.lemmas.List.{get_or_default}
 use Rattle.std.proofs.lemmas.Option.{none-some, same_Some, slice_get_read}
-use Rattle.rbf_access.specs.Mounted.{Represents}
+use Rattle.rbf_access.specs.Mounted.{RepresentsVolume}
 use Rattle.rbf_access.specs.declared.volume.Volume.{Volume}
 use Rattle.rbf_model.specs.File.{DiskFile}
 use Rattle.rbf_model.specs.Volume.{DiskVolume}
 use Rattle.io_model.specs.Io.{Io, OpenPath, open_path}
 use Rattle.file_drives.proofs.MountedLemmas.{mounted-below}
 use Rattle.file_drives.specs.Drives.{DriveView}
-use Rattle.file_drives.specs.Mounted.{AgreesOnDrive, AreMounted, HasDataFileAt, HasFileAt, kept_at, mounted_at}
+use Rattle.file_drives.specs.Mounted.{AgreesOnDrive, AreMounted, HasDataFileAt, HasFileAt, disk_at, mounted_at}
 use Rattle.file_rules.specs.Files as rules
 use Rattle.file_rules.specs.Files.{Files, open_file, open_file_at, place_of_target, volume_at}
 use Rattle.lock_model.specs.declared.place.FilePlace.{FilePlace}
-use Rattle.file_state.specs.Opened.{IsFileOf, path_of}
-use Rattle.file_state.specs.Tie.{IsSound, StandsFor}
+use Rattle.file_state.specs.Opened.{IsOpenFileOf, path_of}
+use Rattle.file_state.specs.Tie.{AreSoundFiles, RepresentsFiles}
 use Rattle.file_state.specs.declared.state.FileState.{FileState}
 use Rattle.file_state.specs.declared.state.OpenFile.{OpenFile}
 use Rattle.file_io.proofs.SizeLemmas.{size-low}
-use Rattle.file_io.specs.Opened.{IsOpened, MayBeWritten, found_on}
+use Rattle.file_io.specs.Opened.{IsOpenedPath, MayBeWritten, found_on}
 
 -- ---- a path that a number names
 
@@ -63,7 +63,7 @@ module _ (files : Files) (p n : ℕ) (found : rules.OpenFile) where
   found-parts e = by_path (open_path files.io p n) e
 
 pub named-of : (state : FileState) (views : List DriveView) (files : Files) (p n : ℕ) (opened : OpenFile)
-    → StandsFor state views files → IsFileOf state views files p n opened → IsNamed state.io p n opened
+    → RepresentsFiles state views files → IsOpenFileOf state views files p n opened → IsNamed state.io p n opened
 named-of state views files p n opened stands it =
     let parts = found-parts files p n it.found it.is in
     record {
@@ -90,8 +90,8 @@ open-file files p n opened v file path place is there =
 
 -- ---- in a sound state
 
-module _ (state : FileState) (views : List DriveView) (sound : IsSound state views) (p n : ℕ) (opened : OpenFile) (is : IsOpened state p n opened) where
-  file : IsFileOf state views sound.files p n opened
+module _ (state : FileState) (views : List DriveView) (sound : AreSoundFiles state views) (p n : ℕ) (opened : OpenFile) (is : IsOpenedPath state p n opened) where
+  file : IsOpenFileOf state views sound.files p n opened
   file = is.file views sound.files sound.stands sound.kinds
 
   pub is-named : IsNamed state.io p n opened
@@ -112,15 +112,15 @@ module _ (state : FileState) (views : List DriveView) (sound : IsSound state vie
 -- a volume that is mounted is that of some media
 pub mounted-on : (disks : List (Option Volume)) (views : List DriveView) (volumes : List (Option DiskVolume)) (n : ℕ)
     (v : DiskVolume) → AreMounted disks views volumes → mounted_at volumes n ≡ Some v → (media : Option (List ℕ)) ×
-    Represents media v
+    RepresentsVolume media v
 mounted-on disks views volumes n v mounted is =
     let none : DriveView = record { media = None; counts = record { faults = 0; last = None; calls = 0 } } in
     let view : DriveView = get_or views n none in
     let inside : n < length views = omega (arith, mounted-below volumes n v is, mounted.as_many) in
     let there : slice_get views n ≡ Some view = slice_get_read views (length views) n view refl inside (get_or_default views n none view inside) in
-    by (kept_at disks n) view (subst (λ (o : Option DiskVolume). AgreesOnDrive (kept_at disks n) view o) is (mounted.each n view there))
+    by (disk_at disks n) view (subst (λ (o : Option DiskVolume). AgreesOnDrive (disk_at disks n) view o) is (mounted.each n view there))
   where
-    by : (kept : Option Volume) (view : DriveView) → AgreesOnDrive kept view (Some v) → (media : Option (List ℕ)) × Represents media v
+    by : (kept : Option Volume) (view : DriveView) → AgreesOnDrive kept view (Some v) → (media : Option (List ℕ)) × RepresentsVolume media v
     by None view agrees = absurd agrees
     by (Some volume) view agrees = (view.media, agrees.on)
 

@@ -19,7 +19,7 @@ use Rattle.rbf_access.specs.Faults.{file_error, file_fault}
 use Rattle.rbf_access.specs.declared.faults.FileFault.{FileFault}
 use Rattle.rbf_access.specs.declared.volume.Volume.{Volume}
 use Rattle.rbf_access.specs.declared.faults.FileFault.TheVariants.{Device, NoCluster, TooManyRuns}
-use Rattle.rbf_access.specs.Reading.{IsRead, filled_buffer, read_calls}
+use Rattle.rbf_access.specs.Reading.{IsReadInto, filled_buffer, read_calls}
 use Rattle.rbf_change.specs.Contents.{bytes_from}
 use Rattle.rbf_model.specs.File.{DiskFile}
 use Rattle.rbf_model.specs.Volume.{DiskVolume}
@@ -41,17 +41,17 @@ use Rattle.file_state.proofs.ReachedLemmas.{file-there, has-read, same-volume}
 use Rattle.file_state.proofs.RequestLemmas.{forgotten-again, lacks-none, reached-fails, stands-beside}
 use Rattle.file_state.proofs.StateLemmas.{stands-with_io}
 use Rattle.file_state.specs.Counted.{CalledAtMost}
-use Rattle.file_state.specs.Ends.{Ends, EndsOrLacks}
+use Rattle.file_state.specs.Ends.{EndsFileAttempt, EndsOrLacks}
 use Rattle.file_state.specs.Media.{KeepsDrives}
-use Rattle.file_state.specs.Reached.{HasRead}
-use Rattle.file_state.specs.Tie.{StandsFor}
+use Rattle.file_state.specs.Reached.{HasReadDrive}
+use Rattle.file_state.specs.Tie.{RepresentsFiles}
 use Rattle.file_state.specs.declared.state.FileState.{FileState}
 use Rattle.file_state.specs.declared.state.OpenFile.{OpenFile}
 use Rattle.file_io.proofs.TryingLemmas.{deed-goes, deed-refused, ends-if-false, ends-refuses-false, ends-refuses-true, ends-same, none-of, some-of}
-use Rattle.file_io.specs.Ending.{EndsFound, GivesBytes, GivesLocked, IsRefused}
+use Rattle.file_io.specs.Ending.{EndsFound, GivesBytes, GivesLocked, IsCallRefused}
 use Rattle.file_io.specs.Opened.{found_on, moved_to}
 use Rattle.file_io.specs.Calls.{reading_attempt_calls}
-use Rattle.file_io.specs.Reading.{HasRoom, IsLoaded, holds_bytes, part_of, read_file, read_granted, read_named, read_opened}
+use Rattle.file_io.specs.Reading.{HasBufferForLock, IsFilledFrom, holds_bytes, part_of, read_file, read_granted, read_named, read_opened}
 
 pub not-le : (a b : ℕ) → b < a → nat_le a b ≡ false
 not-le a b less = by (nat_le a b) refl
@@ -65,16 +65,16 @@ pub count-from : (contents : List ℕ) (at most : ℕ) → length (bytes_from co
 count-from contents at most = length-take most (drop at contents) ∙ ap (λ n. min most n) (length-drop at contents)
 
 -- a buffer is there for the bytes of a lock, if the cells and the registers are the same
-pub room-stays : (cells other : Cells) (regs later : Regs) (lock : Held) → other ≡ cells → later ≡ regs → HasRoom cells regs lock → HasRoom other later lock
+pub room-stays : (cells other : Cells) (regs later : Regs) (lock : Held) → other ≡ cells → later ≡ regs → HasBufferForLock cells regs lock → HasBufferForLock other later lock
 room-stays cells other regs later lock cells_are regs_are room =
-    subst (λ (c : Cells). HasRoom c later lock) (sym cells_are) (subst (λ (r : Regs). HasRoom cells r lock) (sym regs_are) room)
+    subst (λ (c : Cells). HasBufferForLock c later lock) (sym cells_are) (subst (λ (r : Regs). HasBufferForLock cells r lock) (sym regs_are) room)
 
 -- what was loaded is no more than was asked for
-pub loaded-few : (file : DiskFile) (at most : ℕ) (buffer : List ℕ) (count : ℕ) → IsLoaded file at most buffer count → count ≤ most
+pub loaded-few : (file : DiskFile) (at most : ℕ) (buffer : List ℕ) (count : ℕ) → IsFilledFrom file at most buffer count → count ≤ most
 loaded-few file at most buffer count it = omega (arith, it.count_is, count-from file.contents at most)
 
 -- and 32 bits count its end
-pub loaded-fits : (file : DiskFile) (at most : ℕ) (buffer : List ℕ) (count : ℕ) → IsLoaded file at most buffer count → at < 2 ^ 32
+pub loaded-fits : (file : DiskFile) (at most : ℕ) (buffer : List ℕ) (count : ℕ) → IsFilledFrom file at most buffer count → at < 2 ^ 32
     → length file.contents < 2 ^ 32 → at + count < 2 ^ 32
 loaded-fits file at most buffer count it low size = ⊎_elim
     (λ inside. omega (arith, it.count_is, count-from file.contents at most, inside, size))
@@ -82,7 +82,7 @@ loaded-fits file at most buffer count it low size = ⊎_elim
     (cases_lt at (length file.contents))
 
 -- bytes that were read into the front of a buffer
-pub loaded-of : (file : DiskFile) (at most : ℕ) (before new rest : List ℕ) (count : ℕ) → length before ≡ most → IsRead file at before new count → IsLoaded file at most (new ++ rest) count
+pub loaded-of : (file : DiskFile) (at most : ℕ) (before new rest : List ℕ) (count : ℕ) → length before ≡ most → IsReadInto file at before new count → IsFilledFrom file at most (new ++ rest) count
 loaded-of file at most before new rest count long read =
     let bytes = bytes_from file.contents at most in
     let same : bytes_from file.contents at (length before) ≡ bytes = ap (λ n. bytes_from file.contents at n) long in
@@ -138,7 +138,7 @@ abbrev pub EndsRead : Result ℕ FileFault → ReadKind → List ℕ → Regs �
 EndsRead (Ok count) kind buffer regs opened m p io end processes new =
     EndsFound (take count buffer) (part_of kind (take count buffer)) regs opened m p io end processes new
 EndsRead (Err fault) kind buffer regs opened m p io end processes new =
-    IsRefused (file_error fault) m p io end processes new
+    IsCallRefused (file_error fault) m p io end processes new
 
 module _ (kind : ReadKind) (m : Processes) (files : Files) (v : DiskVolume) (file : DiskFile) (now : TimePacket) (p : ℕ)
     (opened : OpenFile) (end : CallEnd) (processes : ProcState) (mid : FileState) (new : Io)
@@ -172,10 +172,10 @@ module _ (kind : ReadKind) (m : Processes) (files : Files) (v : DiskVolume) (fil
 
   -- what is done
   abbrev Done : Type 0
-  Done = Ends (reaches drive (behind ended)) most m files now p end processes (record mid { io = new }) before after terms
+  Done = EndsFileAttempt (reaches drive (behind ended)) most m files now p end processes (record mid { io = new }) before after terms
 
   -- the drive was only read
-  keeps : (fault : Option ℕ) → HasRead fault drive files mid before after → KeepsDrives (reaches drive (behind ended)) asker files end before after
+  keeps : (fault : Option ℕ) → HasReadDrive fault drive files mid before after → KeepsDrives (reaches drive (behind ended)) asker files end before after
   keeps fault read = keeps-read (reaches drive (behind ended)) asker files end drive before after (inl refl) (may ended) fault mid read
     where
       may : (test : Bool) → MayKeepAll (deed_of (behind test) files) end
@@ -183,13 +183,13 @@ module _ (kind : ReadKind) (m : Processes) (files : Files) (v : DiskVolume) (fil
       may false = tt
 
   -- a fault
-  broken : (number : ℕ) → HasRead (Some number) drive files mid before after → IsRefused number m p mid.io end processes new → Done
+  broken : (number : ℕ) → HasReadDrive (Some number) drive files mid before after → IsCallRefused number m p mid.io end processes new → Done
   broken number read it = record {
     effect = refuses_so number (with_drives (with_volume files drive v) drives);
     does = breaks (reaches drive (behind ended)) asker files drive number v v drives terms refl is (stays ended) read.moved;
     comes = (it.end_is, it.tied);
     stands =
-        inl (subst (λ (f : Files). StandsFor (record mid { io = new }) after (with_io (with_drives f drives) (with_call f.io p None))) (sym (same-volume files drive v is))
+        inl (subst (λ (f : Files). RepresentsFiles (record mid { io = new }) after (with_io (with_drives f drives) (with_call f.io p None))) (sym (same-volume files drive v is))
         (stands-with_io mid after (with_drives files drives) (with_call files.io p None) new (ap (λ (io : Io). with_call io p None) read.stands.io ∙ sym it.io_is) read.stands));
     calls = called;
     drives = keeps (Some number) read;
@@ -200,7 +200,7 @@ module _ (kind : ReadKind) (m : Processes) (files : Files) (v : DiskVolume) (fil
       stays false = refl
 
   -- the end
-  at_end : length file.contents ≤ at → HasRead None drive files mid before after → IsRefused E_EOF m p mid.io end processes new → Done
+  at_end : length file.contents ≤ at → HasReadDrive None drive files mid before after → IsCallRefused E_EOF m p mid.io end processes new → Done
   at_end past read it = record {
     effect = with_drives_after (refuses_so E_EOF files) drives;
     does =
@@ -214,7 +214,7 @@ module _ (kind : ReadKind) (m : Processes) (files : Files) (v : DiskVolume) (fil
   }
 
   -- bytes
-  gives : at < length file.contents → HasRead None drive files mid before after
+  gives : at < length file.contents → HasReadDrive None drive files mid before after
       → GivesBytes (part_of kind (bytes_from file.contents at (regs_at m p).y)) (regs_at m p) opened m p mid.io end
       processes new → Done
   gives inside read it = record {
@@ -230,8 +230,8 @@ module _ (kind : ReadKind) (m : Processes) (files : Files) (v : DiskVolume) (fil
     drives = keeps None read;
   }
 
-  pub read-ends : (loaded : Result ℕ FileFault) (buffer : List ℕ) → HasRead (file_fault loaded) drive files mid before
-      after → OnErr loaded (IsSome (file_fault loaded)) → IfOk loaded (IsLoaded file at (regs_at m p).y buffer)
+  pub read-ends : (loaded : Result ℕ FileFault) (buffer : List ℕ) → HasReadDrive (file_fault loaded) drive files mid before
+      after → OnErr loaded (IsSome (file_fault loaded)) → IfOk loaded (IsFilledFrom file at (regs_at m p).y buffer)
       → EndsRead loaded kind buffer (regs_at m p) opened m p mid.io end processes new → Done
   read-ends (Ok count) buffer read device it ends =
       let y = (regs_at m p).y in
@@ -251,9 +251,9 @@ pub read-behind : (kind : ReadKind) (m : Processes) (was : Files) (v : DiskVolum
     (opened : OpenFile) (end : CallEnd) (processes : ProcState) (old : FileState) (disks : List (Option Volume))
     (new : FileState) (before after : List DriveView) (terms : List TerminalState) (regs : Regs)
     (loaded : Result ℕ FileFault) (buffer : List ℕ) → is_for_update opened.desc.mode ≡ false
-    → new ≡ record old { disks = disks; io = new.io } → regs ≡ regs_at m p → StandsFor old before was
+    → new ≡ record old { disks = disks; io = new.io } → regs ≡ regs_at m p → RepresentsFiles old before was
     → volume_at was opened.place.drive ≡ Some v → v.files opened.place.number ≡ Some file → regs.y ≢ 0
-    → IfOk loaded (IsLoaded file opened.desc.at regs.y buffer) → OnErr loaded (IsSome (file_fault loaded))
+    → IfOk loaded (IsFilledFrom file opened.desc.at regs.y buffer) → OnErr loaded (IsSome (file_fault loaded))
     → ReadsFile opened.place (file_fault loaded) (λ v file. read_calls file opened.desc.at regs.y) old.disks before disks after
     → EndsRead loaded kind buffer regs opened m p old.io end processes new.io
     → EndsOrLacks (read_file kind (asker_of m p now) was (found_on opened v file))
@@ -273,7 +273,7 @@ read-behind kind m was v file now p opened end processes old disks new before af
     (called-more (read_calls file at regs.y) most before after (omega (arith, calls-by kind asker was found false free, ap (λ (r : Regs). read_calls file at r.y) same)) called) is
     (subst (λ (r : Regs). r.y ≢ 0) same some) loaded buffer
     (has-read old mid before after was opened.place file (file_fault loaded) calls stands (file-there was opened.place v file is there) refl refl refl drive) device
-    (subst (λ (r : Regs). IfOk loaded (IsLoaded file at r.y buffer)) same ok)
+    (subst (λ (r : Regs). IfOk loaded (IsFilledFrom file at r.y buffer)) same ok)
     (subst (λ (r : Regs). EndsRead loaded kind buffer r opened m p old.io end processes new.io) same ends))))
 
 -- ---- the tests of a read
@@ -349,13 +349,13 @@ module _ (kind : ReadKind) (lock : Held) (m : Processes) (files : Files) (v : Di
   read_state = record mid { records = files.records }
 
   abbrev Reached : Option ℕ → Type 0
-  Reached fault = HasRead fault opened.place.drive files read_state before after
+  Reached fault = HasReadDrive fault opened.place.drive files read_state before after
 
   abbrev Granted : Type 0
   Granted = EndsOrLacks (read_granted kind lock (asker_of m p now) files locked_found) most m files now p end processes new before after terms
 
   -- a fault
-  pub granted-broken : (number : ℕ) (io : Io) → new ≡ record mid { io = io } → Reached (Some number) → IsRefused number m p mid.io end processes io → Granted
+  pub granted-broken : (number : ℕ) (io : Io) → new ≡ record mid { io = io } → Reached (Some number) → IsCallRefused number m p mid.io end processes io → Granted
   unfolding read_granted
   granted-broken number io new_is read it =
       lacks-none (reaches opened.place.drive (comes (leaves_so held))) most m files now p end processes new before after terms

@@ -17,7 +17,7 @@ use Rattle.lock_model.specs.Records.{with_waiting}
 use Rattle.lock_model.specs.declared.lock.Grant.{Grant}
 use Rattle.lock_model.specs.declared.lock.Grant.TheVariants.{Granted, Locked, Deadlock, Wait}
 use Rattle.lock_model.specs.declared.lock.Request.{Request}
-use Rattle.proc_state.specs.Tie.{Represents}
+use Rattle.proc_state.specs.Tie.{RepresentsProcesses}
 use Rattle.proc_state.specs.declared.state.ProcState.{ProcState}
 use Rattle.rbf_access.specs.Reading.{read_calls}
 use Rattle.rbf_model.specs.File.{DiskFile}
@@ -33,7 +33,7 @@ use Rattle.file_state.proofs.RequestLemmas.{asks-ends, lacks-none, reached-fails
 use Rattle.file_state.specs.Asking.{asked, claimed}
 use Rattle.file_state.specs.Counted.{CalledAtMost}
 use Rattle.file_state.specs.Ends.{EndsOrLacks}
-use Rattle.file_state.specs.Reached.{HasRead}
+use Rattle.file_state.specs.Reached.{HasReadDrive}
 use Rattle.file_state.specs.declared.state.FileState.{FileState}
 use Rattle.file_state.specs.declared.state.OpenFile.{OpenFile}
 use Rattle.file_io.proofs.ReadingLemmas.{begins, calls-by, read-by}
@@ -127,8 +127,8 @@ module _ (kind : ReadKind) (m : Processes) (was : Files) (v : DiskVolume) (file 
     enough = record { as_many = called.as_many; each = λ n. let at = called.each n in omega (arith, at) }
 
     -- a fault
-    pub reading-fails : (number : ℕ) → HasRead (Some number) drive was mid before views → end ≡ CallEnd.Error number
-        → Represents processes m → new ≡ record mid { io = with_call mid.io p None; records = new.records }
+    pub reading-fails : (number : ℕ) → HasReadDrive (Some number) drive was mid before views → end ≡ CallEnd.Error number
+        → RepresentsProcesses processes m → new ≡ record mid { io = with_call mid.io p None; records = new.records }
         → with_waiting was.records p None ≡ with_waiting new.records p None → Done end processes new views
     reading-fails number read end_is tied new_is records_are =
         as-read end processes new views
@@ -139,8 +139,8 @@ module _ (kind : ReadKind) (m : Processes) (was : Files) (v : DiskVolume) (file 
         records_are))
 
     -- the end
-    pub reading-ends : nat_le (length file.contents) start ≡ true → HasRead None drive was mid before views
-        → end ≡ CallEnd.Error E_EOF → Represents processes m → new ≡ record mid {
+    pub reading-ends : nat_le (length file.contents) start ≡ true → HasReadDrive None drive was mid before views
+        → end ≡ CallEnd.Error E_EOF → RepresentsProcesses processes m → new ≡ record mid {
           io = with_call mid.io p None;
           records = new.records;
         } → with_waiting was.records p None ≡ with_waiting new.records p None
@@ -154,9 +154,9 @@ module _ (kind : ReadKind) (m : Processes) (was : Files) (v : DiskVolume) (file 
         request (comes (leaves_so given))) past) read end_is tied new_is records_are))
 
     -- its request is not granted
-    pub reading-asks : nat_le (length file.contents) start ≡ false → request.lock.owner.0 ≡ p → HasRead None drive was
+    pub reading-asks : nat_le (length file.contents) start ≡ false → request.lock.owner.0 ≡ p → HasReadDrive None drive was
         mid before views → (grant : Grant) → answer_to asker was request ≡ grant → Some end ≡ end_by grant
-        → Represents processes m → new ≡ asked mid p request grant → Done end processes new views
+        → RepresentsProcesses processes m → new ≡ asked mid p request grant → Done end processes new views
     reading-asks within owner read grant grant_is end_is tied new_is =
         as-read end processes new views
         (lacks-none (reaches drive next) (1 + granted_read_calls request.lock asker was found) m was now p end processes new before views terms
@@ -171,7 +171,7 @@ module _ (kind : ReadKind) (m : Processes) (was : Files) (v : DiskVolume) (file 
 
     -- it is
     pub reading-goes : (after : List DriveView) (other : Request) → request ≡ other → nat_le (length file.contents)
-        start ≡ false → answer_to asker was request ≡ Granted → HasRead None drive was mid before views
+        start ≡ false → answer_to asker was request ≡ Granted → HasReadDrive None drive was mid before views
         → ReadsUnder after other → Done end processes new after
     unfolding read_granted
     reading-goes after other request_is within granted read it =

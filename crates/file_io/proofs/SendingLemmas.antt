@@ -17,7 +17,7 @@ use Rattle.lock_model.specs.Records.{with_waiting}
 use Rattle.lock_model.specs.declared.lock.Grant.{Grant}
 use Rattle.lock_model.specs.declared.lock.Grant.TheVariants.{Granted, Locked, Deadlock, Wait}
 use Rattle.lock_model.specs.declared.lock.Request.{Request}
-use Rattle.proc_state.specs.Tie.{Represents}
+use Rattle.proc_state.specs.Tie.{RepresentsProcesses}
 use Rattle.proc_state.specs.declared.state.ProcState.{ProcState}
 use Rattle.rbf_change.specs.Calls.{cluster_size, free_total}
 use Rattle.rbf_change.specs.Contents.{written}
@@ -37,7 +37,7 @@ use Rattle.file_state.proofs.RequestLemmas.{asks-ends, lacks-none, reached-fails
 use Rattle.file_state.specs.Asking.{asked, claimed}
 use Rattle.file_state.specs.Counted.{CalledAtMost}
 use Rattle.file_state.specs.Ends.{EndsOrLacks}
-use Rattle.file_state.specs.Reached.{HasRead}
+use Rattle.file_state.specs.Reached.{HasReadDrive}
 use Rattle.file_state.specs.declared.state.FileState.{FileState}
 use Rattle.file_io.proofs.ClaimLemmas.{start-own}
 use Rattle.file_state.specs.declared.state.OpenFile.{OpenFile}
@@ -132,8 +132,8 @@ module _ (code : ℕ) (bytes : List ℕ) (regs : Regs) (m : Processes) (was : Fi
     enough = record { as_many = called.as_many; each = λ n. let at = called.each n in omega (arith, at) }
 
     -- a fault
-    pub sending-fails : (number : ℕ) → HasRead (Some number) drive was mid before views → end ≡ CallEnd.Error number
-        → Represents processes m → new ≡ record mid { io = with_call mid.io p None; records = new.records }
+    pub sending-fails : (number : ℕ) → HasReadDrive (Some number) drive was mid before views → end ≡ CallEnd.Error number
+        → RepresentsProcesses processes m → new ≡ record mid { io = with_call mid.io p None; records = new.records }
         → with_waiting was.records p None ≡ with_waiting new.records p None → Done end processes new views
     sending-fails number read end_is tied new_is records_are =
         as-write end processes new views
@@ -141,8 +141,8 @@ module _ (code : ℕ) (bytes : List ℕ) (regs : Regs) (m : Processes) (was : Fi
         (reached-fails m was now p drive next mid before views terms end processes (1 + more) enough number v new is (stays (answer_to asker was request) full) read end_is tied new_is records_are))
 
     -- its request is not granted
-    pub sending-asks : request.lock.owner.0 ≡ p → HasRead None drive was mid before views → (grant : Grant)
-        → answer_to asker was request ≡ grant → Some end ≡ end_by grant → Represents processes m → new ≡ asked mid p
+    pub sending-asks : request.lock.owner.0 ≡ p → HasReadDrive None drive was mid before views → (grant : Grant)
+        → answer_to asker was request ≡ grant → Some end ≡ end_by grant → RepresentsProcesses processes m → new ≡ asked mid p
         request grant → Done end processes new views
     sending-asks owner read grant grant_is end_is tied new_is =
         as-write end processes new views
@@ -158,7 +158,7 @@ module _ (code : ℕ) (bytes : List ℕ) (regs : Regs) (m : Processes) (was : Fi
 
     -- it is
     pub sending-goes : (after : List DriveView) (other : Request) → request ≡ other → answer_to asker was request ≡
-        Granted → HasRead None drive was mid before views → WritesUnder after other → Done end processes new after
+        Granted → HasReadDrive None drive was mid before views → WritesUnder after other → Done end processes new after
     unfolding write_granted
     sending-goes after other same granted read it =
         as-write end processes new after

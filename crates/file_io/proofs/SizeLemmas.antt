@@ -6,7 +6,7 @@ use Rattle.std.proofs.lemmas.Bool.{or_left, or_right}
 use Rattle.std.proofs.lemmas.List.{get_or-append_right}
 use Rattle.std.proofs.lemmas.Map.Steps.{length-le_from_distinct_below}
 use Rattle.rbf_access.proofs.ReadFile.{room_for}
-use Rattle.rbf_access.specs.Mounted.{Represents}
+use Rattle.rbf_access.specs.Mounted.{RepresentsVolume}
 use Rattle.rbf_change.specs.Contents.{written}
 use Rattle.rbf_model.proofs.Segments.{sectors_within}
 use Rattle.rbf_model.specs.File.{DiskFile}
@@ -53,7 +53,7 @@ few g n file once within =
     length-le_from_distinct_below sectors g.total (distinct sectors (behind (n ∷ []) sectors own)) (λ q there. within q (turned q sectors there))
 
 -- no file has more bytes than 32 bits count
-pub size-low : (media : Option (List ℕ)) (v : DiskVolume) (n : ℕ) (file : DiskFile) → Represents media v → v.files n ≡ Some file → length file.contents < 2 ^ 32
+pub size-low : (media : Option (List ℕ)) (v : DiskVolume) (n : ℕ) (file : DiskFile) → RepresentsVolume media v → v.files n ≡ Some file → length file.contents < 2 ^ 32
 size-low media v n file on is =
     let g = image_geometry on.image in
     let room = room_for media v on n file is in

@@ -10,7 +10,7 @@ use Rattle.proc_model.specs.Processes.{Processes, regs_at}
 use Rattle.io_model.specs.Io.{Io, with_call}
 use Rattle.io_model.specs.Step.{answers}
 use Rattle.proc_model.specs.Records.{record_at}
-use Rattle.proc_state.specs.Tie.{Represents}
+use Rattle.proc_state.specs.Tie.{RepresentsProcesses}
 use Rattle.proc_state.specs.declared.state.ProcState.{ProcState}
 use Rattle.file_drives.specs.Drives.{DriveView}
 use Rattle.file_rules.specs.Attempts.{asker_of, file_step}
@@ -24,14 +24,14 @@ use Rattle.file_state.proofs.RequestLemmas.{lacks-none}
 use Rattle.file_state.proofs.StateLemmas.{stands-with_io}
 use Rattle.file_state.specs.Attempt.{Standing}
 use Rattle.file_state.specs.Counted.{AttemptsIn}
-use Rattle.file_state.specs.Tie.{StandsFor}
+use Rattle.file_state.specs.Tie.{RepresentsFiles}
 use Rattle.file_state.specs.declared.state.FileState.{FileState}
-use Rattle.file_io.specs.Ending.{IsDone, IsRefused}
-use Rattle.file_state.specs.Ends.{Ends, EndsOrLacks, EndsUnentered}
+use Rattle.file_io.specs.Ending.{IsCallDone, IsCallRefused}
+use Rattle.file_state.specs.Ends.{EndsFileAttempt, EndsOrLacks, EndsUnentered}
 use Rattle.file_state.specs.Lacks.{AttemptsOrLacks}
 
 -- the registers of the processes are those of the machine
-pub regs-tied : (s : ProcState) (m : Processes) (p : ℕ) → Represents s m → (record_at s.table p).regs ≡ regs_at m p
+pub regs-tied : (s : ProcState) (m : Processes) (p : ℕ) → RepresentsProcesses s m → (record_at s.table p).regs ≡ regs_at m p
 regs-tied s m p tied = ap (λ (i : Processes). regs_at i p) (sym tied.is)
 
 -- what is not there is nothing
@@ -55,9 +55,9 @@ deed-goes files test number deed is = ap (λ (t : Bool). deed_of (refuses t numb
 
 module _ (m : Processes) (files : Files) (now : TimePacket) (p : ℕ) (end : CallEnd) (processes : ProcState)
     (old : FileState) (new : Io) (views : List DriveView) (terms : List TerminalState) {most : ℕ}
-    (stands : StandsFor old views files) where
+    (stands : RepresentsFiles old views files) where
   -- it is refused
-  pub ends-refused : (number : ℕ) → IsRefused number m p old.io end processes new → Ends (refused number) most m files now p end processes (record old { io = new }) views views terms
+  pub ends-refused : (number : ℕ) → IsCallRefused number m p old.io end processes new → EndsFileAttempt (refused number) most m files now p end processes (record old { io = new }) views views terms
   ends-refused number it = record {
     effect = refuses_so number files;
     does = goes-well (refused number) (asker_of m p now) files (refuses_so number files) files.drives terms refl refl;
@@ -69,8 +69,8 @@ module _ (m : Processes) (files : Files) (now : TimePacket) (p : ℕ) (end : Cal
   }
 
   -- it is done
-  pub ends-done : (change : Io → Io) (regs : Regs) → IsDone m p regs (change old.io) end processes new
-      → Ends (done regs (with_io files (change files.io))) most m files now p end processes (record old { io = new })
+  pub ends-done : (change : Io → Io) (regs : Regs) → IsCallDone m p regs (change old.io) end processes new
+      → EndsFileAttempt (done regs (with_io files (change files.io))) most m files now p end processes (record old { io = new })
       views views terms
   ends-done change regs it = record {
     effect = leaves (answers regs) (with_io files (change files.io));
@@ -83,11 +83,11 @@ module _ (m : Processes) (files : Files) (now : TimePacket) (p : ℕ) (end : Cal
   }
 
   -- the same, since no memory is wanting
-  pub tries-refused : (number : ℕ) → IsRefused number m p old.io end processes new → EndsOrLacks (refused number) most m files now p end processes (record old { io = new }) views views terms
+  pub tries-refused : (number : ℕ) → IsCallRefused number m p old.io end processes new → EndsOrLacks (refused number) most m files now p end processes (record old { io = new }) views views terms
   tries-refused number it =
       lacks-none (refused number) most m files now p end processes (record old { io = new }) views views terms (ends-refused number it)
 
-  pub tries-done : (change : Io → Io) (regs : Regs) → IsDone m p regs (change old.io) end processes new
+  pub tries-done : (change : Io → Io) (regs : Regs) → IsCallDone m p regs (change old.io) end processes new
       → EndsOrLacks (done regs (with_io files (change files.io))) most m files now p end processes
       (record old { io = new }) views views terms
   tries-done change regs it =
@@ -138,12 +138,12 @@ module _ (m : Processes) (files : Files) (now : TimePacket) (p : ℕ) (end : Cal
     (terms : List TerminalState) (call : PathCall) (step : FileStep) (is : file_step call (asker_of m p now) files
     (length terms) ≡ step) (most : ℕ) where
   -- with at most so many calls of the drives
-  pub attempts-in : (limit : ℕ) → limit ≡ most → Ends step most m files now p end after.processes after.files
+  pub attempts-in : (limit : ℕ) → limit ≡ most → EndsFileAttempt step most m files now p end after.processes after.files
       before.views after.views terms → AttemptsIn limit call m files now p end terms terms before after
   attempts-in limit same ends =
       subst (λ (n : ℕ). AttemptsIn n call m files now p end terms terms before after) (sym same)
       (ends-attempt most call m files now p end terms before after
-      (subst (λ (step : FileStep). Ends step most m files now p end after.processes after.files before.views after.views terms) (sym is) ends))
+      (subst (λ (step : FileStep). EndsFileAttempt step most m files now p end after.processes after.files before.views after.views terms) (sym is) ends))
 
   -- or memory was wanting for its entry
   pub tries-in : (limit : ℕ) → limit ≡ most → EndsOrLacks step most m files now p end after.processes after.files
@@ -152,7 +152,7 @@ module _ (m : Processes) (files : Files) (now : TimePacket) (p : ℕ) (end : Cal
       subst (λ (n : ℕ). AttemptsOrLacks n call m files now p end terms terms before after) (sym same) (record {
         attempted = λ some.
             ends-attempt most call m files now p end terms before after
-            (subst (λ (step : FileStep). Ends step most m files now p end after.processes after.files before.views after.views terms) (sym is) (it.ends some));
+            (subst (λ (step : FileStep). EndsFileAttempt step most m files now p end after.processes after.files before.views after.views terms) (sym is) (it.ends some));
         lacks = λ none.
             lacks-attempt most call m files now p end terms before after
             (subst (λ (step : FileStep). EndsUnentered step most m files now p end after.files before.views after.views terms) (sym is) (it.lacks none));

@@ -18,7 +18,7 @@ use Rattle.proc_state.specs.declared.state.ProcState.{ProcState}
 use Rattle.rbf_access.specs.declared.faults.FileFault.{FileFault}
 use Rattle.rbf_access.specs.declared.faults.FileFault.TheVariants.{Device, NoCluster, TooManyRuns}
 use Rattle.rbf_access.specs.declared.volume.Volume.{Volume}
-use Rattle.rbf_change.specs.Calls.{Changes, Writes, cluster_size, free_total}
+use Rattle.rbf_change.specs.Calls.{Changes, WritesFileAt, cluster_size, free_total}
 use Rattle.rbf_change.specs.Contents.{written}
 use Rattle.rbf_change.specs.Growth.{clusters_needed}
 use Rattle.rbf_model.specs.File.{DiskFile}
@@ -26,7 +26,7 @@ use Rattle.rbf_model.specs.Volume.{DiskVolume}
 use Rattle.rbf_model.specs.Writes.{put_file}
 use Rattle.file_drives.proofs.MountedLemmas.{mounted-below}
 use Rattle.file_drives.specs.Calls.{writing_calls}
-use Rattle.file_drives.specs.Changed.{ChangesVolume, IsRefused as IsNotMade, LeavesVolume, file_answer, is_refused}
+use Rattle.file_drives.specs.Changed.{ChangesVolume, IsRefusedChange as IsNotMade, LeavesVolume, file_answer, is_refused}
 use Rattle.file_drives.specs.Drives.{DriveView, drive_states}
 use Rattle.file_drives.specs.Mounted.{AreMounted, mounted_at}
 use Rattle.file_rules.specs.Attempts.{asker_of}
@@ -42,9 +42,9 @@ use Rattle.file_state.proofs.ReachedLemmas.{same-volume}
 use Rattle.file_state.proofs.RequestLemmas.{forgotten-again, lacks-none, stands-beside, stands-restored}
 use Rattle.file_state.specs.Attempt.{unrequested, without_request}
 use Rattle.file_state.specs.Counted.{CalledAtMost}
-use Rattle.file_state.specs.Ends.{Ends, EndsOrLacks}
+use Rattle.file_state.specs.Ends.{EndsFileAttempt, EndsOrLacks}
 use Rattle.file_state.specs.Media.{KeepsDrives}
-use Rattle.file_state.specs.Tie.{StandsFor}
+use Rattle.file_state.specs.Tie.{RepresentsFiles}
 use Rattle.file_state.specs.declared.state.FileState.{FileState}
 use Rattle.file_state.specs.declared.state.OpenFile.{OpenFile}
 use Rattle.file_io.proofs.OpenedLemmas.{mounted-low}
@@ -52,7 +52,7 @@ use Rattle.file_io.proofs.SizeLemmas.{end-within}
 use Rattle.file_io.proofs.CountLemmas.{writing-few}
 use Rattle.file_io.proofs.TryingLemmas.{deed-goes, deed-refused}
 use Rattle.file_io.specs.Calls.{granted_write_calls}
-use Rattle.file_io.specs.Ending.{EndsWrite, IsRefused}
+use Rattle.file_io.specs.Ending.{EndsWrite, IsCallRefused}
 use Rattle.file_io.specs.Opened.{found_on, moved_to}
 use Rattle.file_io.specs.Writing.{after_writing, write_file, write_granted}
 
@@ -66,7 +66,7 @@ changed-there change v w n it = ap (λ (u : DiskVolume). u.files n) it.volume �
     put-there files n file = ap (λ t. if t then file else files n) (eq-eqb n n refl)
 
 -- 32 bits count it
-written-low : (v w : DiskVolume) (n at : ℕ) (bytes : List ℕ) (now : TimePacket) (it : Writes v w n at bytes now) → at < 2 ^ 32 → length it.new.contents < 2 ^ 32 → at + length bytes < 2 ^ 32
+written-low : (v w : DiskVolume) (n at : ℕ) (bytes : List ℕ) (now : TimePacket) (it : WritesFileAt v w n at bytes now) → at < 2 ^ 32 → length it.new.contents < 2 ^ 32 → at + length bytes < 2 ^ 32
 written-low v w n at [] now it low size = omega arith
 written-low v w n at (byte ∷ bytes) now it low size =
     let contents : it.new.contents ≡ written it.old.contents at (byte ∷ bytes) = ap (λ (f : DiskFile). f.contents) it.changed.file in
@@ -79,7 +79,7 @@ pub write-fits : (number at : ℕ) (bytes : List ℕ) (user : ℕ) (now : TimePa
     file drive volumes before new after → at < 2 ^ 32 → IsOk result → at + length bytes < 2 ^ 32
 write-fits number at bytes user now (Ok done) most v file drive volumes before new after is it low ok =
     let there = get_or-set_same volumes drive (Some it.left) None (mounted-below volumes drive v is) in
-    let makes : Writes v it.left number at bytes now = it.answers.makes in
+    let makes : WritesFileAt v it.left number at bytes now = it.answers.makes in
     written-low v it.left number at bytes now makes low
     (mounted-low new after (slice_set volumes drive (Some it.left)) drive it.left number makes.new it.mounted there (changed-there _ v it.left number makes))
 write-fits number at bytes user now (Err fault) most v file drive volumes before new after is it low ok = absurd (false≢true ok)
@@ -145,7 +145,7 @@ module _ (lock : Held) (m : Processes) (files : Files) (v : DiskVolume) (file : 
       HasChangedIn (writing_calls opened.place.number at (length bytes) result v file) (asked_of change asker) (file_answer result) drive v file files written_state before after
 
   abbrev Refused : ℕ → Type 0
-  Refused number = IsRefused number m p mid.io end processes new.io × (new ≡ record mid { io = new.io })
+  Refused number = IsCallRefused number m p mid.io end processes new.io × (new ≡ record mid { io = new.io })
 
   few : (result : Result (Unit {0}) FileFault) → Changed result → CalledAtMost (granted_write_calls lock count asker files found) before after
   few result it =
@@ -155,8 +155,8 @@ module _ (lock : Held) (m : Processes) (files : Files) (v : DiskVolume) (file : 
       (length bytes) opened.place.number result it.changed.left) it.calls)
 
   -- it is refused, and the volume is this
-  refused-on : (number : ℕ) (left : DiskVolume) → StandsFor written_state after
-      (with_drives (with_volume files drive left) drives) → Refused number → StandsFor (without_request p new) after
+  refused-on : (number : ℕ) (left : DiskVolume) → RepresentsFiles written_state after
+      (with_drives (with_volume files drive left) drives) → Refused number → RepresentsFiles (without_request p new) after
       (with_records (with_io (with_drives (with_volume files drive left) drives) (with_call files.io p None))
       (with_waiting files.records p None))
   refused-on number left stands (it, new_is) =
@@ -167,12 +167,12 @@ module _ (lock : Held) (m : Processes) (files : Files) (v : DiskVolume) (file : 
       (sym (forgotten-again p files.records) ∙ ap (λ (records : Records). with_waiting records p None) (sym quiet ∙ sym records_are)) stands
 
   -- the volume is left as it was
-  refused-as-before : (number : ℕ) (left : DiskVolume) → left ≡ v → StandsFor written_state after
-      (with_drives (with_volume files drive left) drives) → Refused number → StandsFor (without_request p new) after
+  refused-as-before : (number : ℕ) (left : DiskVolume) → left ≡ v → RepresentsFiles written_state after
+      (with_drives (with_volume files drive left) drives) → Refused number → RepresentsFiles (without_request p new) after
       (with_records (with_io (with_drives files drives) (with_call files.io p None)) (with_waiting files.records p
       None))
   refused-as-before number left same stands it =
-      subst (λ (f : Files). StandsFor (without_request p new) after
+      subst (λ (f : Files). RepresentsFiles (without_request p new) after
       (with_records (with_io (with_drives f drives) (with_call f.io p None)) (with_waiting f.records p None)))
       (ap (λ (w : DiskVolume). with_volume files drive w) same ∙ same-volume files drive v is)
       (refused-on number left stands it)
@@ -183,8 +183,8 @@ module _ (lock : Held) (m : Processes) (files : Files) (v : DiskVolume) (file : 
     records = written_by mid.records
         opened.path.0 lock bytes;
   } → new.io ≡ with_call (moved_to mid.io opened (at + length bytes)) p None
-      → (left : DiskVolume) → StandsFor written_state after (with_drives (with_volume files drive left) drives)
-      → StandsFor (without_request p new) after
+      → (left : DiskVolume) → RepresentsFiles written_state after (with_drives (with_volume files drive left) drives)
+      → RepresentsFiles (without_request p new) after
       (with_records (with_io (with_drives (with_volume files drive left) drives)
       (with_call (moved_to files.io opened (at + length bytes)) p None))
       (with_waiting (written_by files.records opened.path.0 lock bytes) p None))
@@ -234,7 +234,7 @@ module _ (lock : Held) (m : Processes) (files : Files) (v : DiskVolume) (file : 
   Granted =
       EndsOrLacks step (granted_write_calls lock count asker files found) m files now p end processes new before after terms
 
-  whole : Ends step (granted_write_calls lock count asker files found) m files now p end processes new before after terms → Granted
+  whole : EndsFileAttempt step (granted_write_calls lock count asker files found) m files now p end processes new before after terms → Granted
   whole it = lacks-none step (granted_write_calls lock count asker files found) m files now p end processes new before after terms it
 
   write-by : (result : Result (Unit {0}) FileFault) → Changed result → EndsWrite result lock bytes regs opened m p mid end processes new → Granted
@@ -302,7 +302,7 @@ pub write-behind : (lock : Held) (m : Processes) (was : Files) (v : DiskVolume) 
     (opened : OpenFile) (sent bytes : List ℕ) (regs : Regs) (end : CallEnd) (processes : ProcState) (old : FileState)
     (disks : List (Option Volume)) (new : FileState) (before after : List DriveView) (terms : List TerminalState)
     (count : ℕ) (result : Result (Unit {0}) FileFault) → sent ≡ bytes → length bytes ≡ count
-    → StandsFor old before (unrequested p was) → volume_at was opened.place.drive ≡ Some v
+    → RepresentsFiles old before (unrequested p was) → volume_at was opened.place.drive ≡ Some v
     → v.files opened.place.number ≡ Some file
     → ChangesVolume opened.place (record { change = writes opened.place.number lock.range.start sent; user = user_at m p; now = now })
     (file_answer result) (writing_calls opened.place.number lock.range.start (length sent) result) old.disks before disks after

@@ -10,7 +10,7 @@ use Rattle.io_model.specs.declared.terminal.ReadKind.{ReadKind}
 use Rattle.io_model.specs.Io.{Io, with_call}
 use Rattle.lock_model.specs.Records.{Records, holding, written_by}
 use Rattle.lock_model.specs.declared.lock.Held.{Held}
-use Rattle.proc_state.specs.Tie.{Represents}
+use Rattle.proc_state.specs.Tie.{RepresentsProcesses}
 use Rattle.proc_state.specs.declared.state.ProcState.{ProcState}
 use Rattle.rbf_access.specs.Faults.{file_error}
 use Rattle.rbf_access.specs.declared.faults.FileFault.{FileFault}
@@ -21,18 +21,19 @@ use Rattle.file_io.specs.Opened.{moved_to}
 
 -- the call of a process is done with these registers. It leaves this state of input and output, but keeps nothing of
 -- the call
-pub record IsDone (m : Processes) (p : ℕ) (regs : Regs) (io : Io) (end : CallEnd) (processes : ProcState) (new : Io)
+pub record IsCallDone (m : Processes) (p : ℕ) (regs : Regs) (io : Io) (end : CallEnd) (processes : ProcState) (new : Io)
     : Type 0 where
   pub end_is : end ≡ Done
-  pub tied : Represents processes (with_regs_of m p regs)
+  pub tied : RepresentsProcesses processes (with_regs_of m p regs)
   pub io_is : new ≡ with_call io p None
 
 -- the call of a process is refused with this number. It leaves this state of input and output, but keeps nothing of the
 -- call
-pub record IsRefused (number : ℕ) (m : Processes) (p : ℕ) (io : Io) (end : CallEnd) (processes : ProcState) (new : Io)
+pub record IsCallRefused (number : ℕ) (m : Processes) (p : ℕ) (io : Io) (end : CallEnd) (processes : ProcState)
+    (new : Io)
     : Type 0 where
   pub end_is : end ≡ Error number
-  pub tied : Represents processes m
+  pub tied : RepresentsProcesses processes m
   pub io_is : new ≡ with_call io p None
 
 -- ---- reads
@@ -44,13 +45,13 @@ with_bytes m p at bytes = with_memory m (stored m.memory p at bytes)
 -- a process gets these bytes at X and their count in Y, and the position of its path moves past them
 abbrev pub GivesBytes : List ℕ → Regs → OpenFile → Processes → ℕ → Io → CallEnd → ProcState → Io → Type 0
 GivesBytes bytes regs opened m p io end processes new =
-    IsDone (with_bytes m p regs.x bytes) p (record regs { y = length bytes })
+    IsCallDone (with_bytes m p regs.x bytes) p (record regs { y = length bytes })
     (moved_to io opened (opened.desc.at + length bytes)) end processes new
 
 -- a read that found the bytes `found` and gives the bytes `given`, or that found the end of the file
 pub record EndsFound (found given : List ℕ) (regs : Regs) (opened : OpenFile) (m : Processes) (p : ℕ) (io : Io)
     (end : CallEnd) (processes : ProcState) (new : Io) : Type 0 where
-  pub none : length found ≡ 0 → IsRefused E_EOF m p io end processes new
+  pub none : length found ≡ 0 → IsCallRefused E_EOF m p io end processes new
   pub some : length found ≢ 0 → GivesBytes given regs opened m p io end processes new
 
 -- ---- entries in the history
@@ -59,7 +60,7 @@ pub record EndsFound (found given : List ℕ) (regs : Regs) (opened : OpenFile) 
 -- what is kept of the call. Or memory was wanting for the entry, and the state is as it was
 pub record EndsEntered (m : Processes) (p : ℕ) (regs : Regs) (io : Io) (records : Records) (state : FileState)
     (end : CallEnd) (processes : ProcState) (new : FileState) : Type 0 where
-  pub done : end ≢ NoMemory → IsDone m p regs io end processes new.io
+  pub done : end ≢ NoMemory → IsCallDone m p regs io end processes new.io
   pub entered : end ≢ NoMemory → new ≡ record state { io = new.io; records = records }
   pub lacks : end ≡ NoMemory → new ≡ state
 
@@ -80,4 +81,4 @@ EndsWrite (Ok done) lock bytes regs opened m p state end processes new =
     EndsEntered m p regs (moved_to state.io opened (lock.range.start + length bytes))
     (written_by state.records opened.path.0 lock bytes) state end processes new
 EndsWrite (Err fault) lock bytes regs opened m p state end processes new =
-    IsRefused (file_error fault) m p state.io end processes new.io × (new ≡ record state { io = new.io })
+    IsCallRefused (file_error fault) m p state.io end processes new.io × (new ≡ record state { io = new.io })

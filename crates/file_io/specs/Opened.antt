@@ -12,8 +12,8 @@ use Rattle.file_rules.specs.Files as rules
 use Rattle.file_laws.specs.Kinds.{AreKinds}
 use Rattle.file_state.specs.Attempt.{Standing}
 pub use Rattle.file_state.specs.Opened.{IsPathOf}
-use Rattle.file_state.specs.Opened.{IsFileOf, path_of}
-use Rattle.file_state.specs.Tie.{StandsFor}
+use Rattle.file_state.specs.Opened.{IsOpenFileOf, path_of}
+use Rattle.file_state.specs.Tie.{RepresentsFiles}
 use Rattle.file_state.specs.declared.state.FileState.{FileState}
 use Rattle.file_state.specs.declared.state.OpenFile.{OpenFile}
 
@@ -24,10 +24,10 @@ pub record IsOnFile (opened : OpenFile) (before : Standing) : Type 0 where
 
 -- a number of a process names the path, which is on the file at its place, for all files that the kernel's state stands
 -- for
-pub record IsOpened (state : FileState) (p n : ℕ) (opened : OpenFile) : Type 0 where
+pub record IsOpenedPath (state : FileState) (p n : ℕ) (opened : OpenFile) : Type 0 where
   pub path : IsPathOf state.io opened
-  pub file : (views : List DriveView) (files : rules.Files) → StandsFor state views files → AreKinds files
-      → IsFileOf state views files p n opened
+  pub file : (views : List DriveView) (files : rules.Files) → RepresentsFiles state views files → AreKinds files
+      → IsOpenFileOf state views files p n opened
 
 -- the file, on a volume, in the terms of the rules of the calls
 abbrev pub found_on : OpenFile → DiskVolume → DiskFile → rules.OpenFile

@@ -24,7 +24,7 @@ use Rattle.file_state.specs.Asking.{MayAsk}
 use Rattle.file_state.specs.declared.state.OpenFile.{OpenFile}
 
 -- the bytes of a file from a place on, at most `most`, are at the front of a buffer, and this is their count
-pub record IsLoaded (file : DiskFile) (at most : ℕ) (buffer : List ℕ) (count : ℕ) : Type 0 where
+pub record IsFilledFrom (file : DiskFile) (at most : ℕ) (buffer : List ℕ) (count : ℕ) : Type 0 where
   pub count_is : count ≡ length (bytes_from file.contents at most)
   pub bytes_are : take count buffer ≡ bytes_from file.contents at most
 
@@ -34,18 +34,18 @@ pub record IsBuffer (cells : Cells) (regs : Regs) : Type 0 where
   pub some : regs.y ≢ 0
 
 -- a buffer at X is there for the bytes that a lock has from its start on, as many as Y
-pub record HasRoom (cells : Cells) (regs : Regs) (lock : Held) : Type 0 where
+pub record HasBufferForLock (cells : Cells) (regs : Regs) (lock : Held) : Type 0 where
   pub named : FitsIn cells regs.x regs.y
   pub covers : Covers lock.range regs.y
 
 -- a process may read a path so, for some bytes: if it waits in a request, that is for as many
-pub record MayRead (io : Io) (locks : Locks) (p : ℕ) (opened : OpenFile) (regs : Regs) : Type 0 where
+pub record MayReadFile (io : Io) (locks : Locks) (p : ℕ) (opened : OpenFile) (regs : Regs) : Type 0 where
   pub asks : MayAsk io locks p opened
   pub count : IfSome (request_of locks p) (λ request. request.count ≡ regs.y)
 
 -- and the path may be written too
 pub record MayUpdate (io : Io) (locks : Locks) (p : ℕ) (opened : OpenFile) (regs : Regs) : Type 0 where
-  pub read : MayRead io locks p opened regs
+  pub read : MayReadFile io locks p opened regs
   pub update : is_for_update opened.desc.mode ≡ true
 
 -- ---- steps

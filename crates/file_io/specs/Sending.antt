@@ -14,7 +14,8 @@ pub record IsSending (sent : Sending) : Type 0 where
   pub some : 0 < sent.count
 
 -- a process may write so, on a path for whose records it may ask; without a byte to move nothing is sent
-pub record MayWrite (io : Io) (locks : Locks) (p : ℕ) (opened : OpenFile) (regs : Regs) (sent : Sending) : Type 0 where
-  pub asks : MayAsk io locks p opened
-  pub sends : regs.y ≢ 0 → IsSending sent
-  pub done : sent.done ≡ record regs { y = sent.count }
+pub record MayWriteFile (io : Io) (locks : Locks) (p : ℕ) (opened : OpenFile) (regs : Regs) (sent : Sending) : Type 0
+  where
+    pub asks : MayAsk io locks p opened
+    pub sends : regs.y ≢ 0 → IsSending sent
+    pub done : sent.done ≡ record regs { y = sent.count }

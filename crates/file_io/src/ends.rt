@@ -6,7 +6,7 @@ ghost use Rattle.proc_model.specs.Processes.{Processes, with_regs_of};
 ghost use Rattle.file_io.specs.Opened.{IsPathOf, moved_to};
 ghost use Rattle.io_model.specs.Io.{with_call};
 ghost use Rattle.proc_model.specs.Records.{IsLiving};
-ghost use Rattle.proc_state.specs.Tie.{Represents};
+ghost use Rattle.proc_state.specs.Tie.{RepresentsProcesses};
 ghost use Rattle.io_state.specs.Sound.{ReadsNoTerminal};
 
 use file_state::machine::Machine;
@@ -33,8 +33,8 @@ pub(crate) fn answer(s: &mut ProcState, io: &mut IoState, p: Pid, regs: Regs) ->
     requires lives { IsLiving s.old.table p.0 }
     requires no_read { ReadsNoTerminal io.old p.0 }
     ensures end { result ≡ CallEnd.Done }
-    ensures tied { (m : Processes) → Represents s.old m
-        → Represents s.new (with_regs_of m p.0 regs) }
+    ensures tied { (m : Processes) → RepresentsProcesses s.old m
+        → RepresentsProcesses s.new (with_regs_of m p.0 regs) }
     ensures io { io.new ≡ with_call io.old p.0 None }
     ensures lives { IsLiving s.new.table p.0 }
 {
@@ -55,8 +55,8 @@ pub(crate) fn answer_at(
     requires calls { InFileCall by machine.old }
     requires path { IsPathOf machine.old.files.io opened.now }
     ensures end { result ≡ CallEnd.Done }
-    ensures tied { (m : Processes) → Represents machine.old.processes m
-        → Represents machine.new.processes (with_regs_of m by.p.0 told) }
+    ensures tied { (m : Processes) → RepresentsProcesses machine.old.processes m
+        → RepresentsProcesses machine.new.processes (with_regs_of m by.p.0 told) }
     ensures io { machine.new.files.io
         ≡ with_call (moved_to machine.old.files.io opened.now at) by.p.0 None }
     ensures rest { machine.new.files ≡ record machine.old.files { io = machine.new.files.io } }

@@ -2,7 +2,7 @@
 
 ghost use Rattle.std.specs.Prelude.{◌≡◌, ◌+◌, ◌<◌, ◌≤◌, ◌^◌, IfOk, IfSome, IsSome, OnErr, length, take};
 ghost use Rattle.proc_model.specs.Processes.{Processes, with_memory};
-ghost use Rattle.file_io.specs.Reading.{IsLoaded, part_of};
+ghost use Rattle.file_io.specs.Reading.{IsFilledFrom, part_of};
 ghost use Rattle.file_drives.specs.Drives.{drives_seen};
 ghost use Rattle.file_drives.specs.Mounted.{HasFileAt, OnDisks, ReadsFile};
 ghost use Rattle.guest_memory.specs.Tie.{cells_of};
@@ -10,7 +10,7 @@ ghost use Rattle.io_model.specs.Line as model;
 ghost use Rattle.io_model.specs.Line.{return_place};
 ghost use Rattle.os9_base.specs.Cells.{FitsIn};
 ghost use Rattle.proc_model.specs.MemoryChanges.{stored};
-ghost use Rattle.proc_state.specs.Tie.{IsSame, Represents};
+ghost use Rattle.proc_state.specs.Tie.{AreProcessesSame, RepresentsProcesses};
 ghost use Rattle.rbf_access.specs.Faults.{file_fault};
 ghost use Rattle.rbf_access.specs.Reading.{read_calls};
 
@@ -46,7 +46,7 @@ pub(crate) fn load(
 ) -> Result<u16, FileFault>
     requires file { HasFileAt disks.old (drives_seen BlockDriver-box devices.old) part.place }
     ensures ok { OnDisks disks.old (drives_seen BlockDriver-box devices.old) part.place
-        (λ v file. IfOk result (IsLoaded file part.at part.most s.new.buffer.items)) }
+        (λ v file. IfOk result (IsFilledFrom file part.at part.most s.new.buffer.items)) }
     ensures few { IfOk result (λ count. count ≤ part.most) }
     ensures fits { IfOk result (λ count. part.at + count < 2 ^ 32) }
     ensures device { OnErr result (IsSome (file_fault result)) }
@@ -54,7 +54,7 @@ pub(crate) fn load(
         (λ v file. read_calls file part.at part.most)
         disks.old (drives_seen BlockDriver-box devices.old)
         disks.new (drives_seen BlockDriver-box devices.new) }
-    ensures same { IsSame s.old s.new }
+    ensures same { AreProcessesSame s.old s.new }
     ensures terms_kept { devices.new.terms ≡ devices.old.terms }
 {
     load_front(disks, devices, part, &mut s.buffer)
@@ -70,7 +70,7 @@ fn load_front(
     requires file { HasFileAt disks.old (drives_seen BlockDriver-box devices.old) part.place }
     requires room { part.most ≤ length into.old }
     ensures ok { OnDisks disks.old (drives_seen BlockDriver-box devices.old) part.place (λ v file.
-        IfOk result (IsLoaded file part.at part.most into.new)) }
+        IfOk result (IsFilledFrom file part.at part.most into.new)) }
     ensures few { IfOk result (λ count. count ≤ part.most) }
     ensures fits { IfOk result (λ count. part.at + count < 2 ^ 32) }
     ensures device { OnErr result (IsSome (file_fault result)) }
@@ -133,7 +133,7 @@ fn place_of_return(bytes: &[u8]) -> Option<usize>
 pub(crate) fn store_front(s: &mut ProcState, p: Pid, at: u16, count: u16)
     requires process { p.0 < 33 }
     requires fits { FitsIn (cells_of s.old.memory p.0) at count }
-    ensures tied { (m : Processes) → Represents s.old m → Represents s.new
+    ensures tied { (m : Processes) → RepresentsProcesses s.old m → RepresentsProcesses s.new
         (with_memory m (stored m.memory p.0 at (take count s.old.buffer.items))) }
     ensures records { s.new.table ≡ s.old.table }
 {

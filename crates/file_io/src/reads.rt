@@ -7,15 +7,15 @@ ghost use Rattle.std.specs.Prelude.{◌≡◌, ◌+◌, ◌<◌, ◌≤◌, ◌^
 ghost use Rattle.proc_model.specs.Processes.{Processes};
 ghost use Rattle.file_io.specs.Calls.{granted_read_calls, i_read_calls, reading_attempt_calls};
 ghost use Rattle.file_io.specs.Ending.{EndsFound, GivesLocked};
-ghost use Rattle.file_io.specs.Opened.{IsOnFile, IsOpened, IsPathOf};
+ghost use Rattle.file_io.specs.Opened.{IsOnFile, IsOpenedPath, IsPathOf};
 ghost use Rattle.file_io.specs.Reading as model;
-ghost use Rattle.file_io.specs.Reading.{HasRoom, IsBuffer, MayRead, MayUpdate, part_of};
+ghost use Rattle.file_io.specs.Reading.{HasBufferForLock, IsBuffer, MayReadFile, MayUpdate, part_of};
 ghost use Rattle.file_io.specs.Trying.{TriesAlways, TriesGranted};
 ghost use Rattle.file_rules.specs.Read.{line_range, lock_by};
 ghost use Rattle.file_rules.specs.declared.path_call.PathCall.TheVariants as Call;
-ghost use Rattle.file_state.specs.Asking.{IsGranted, TriesAgain};
+ghost use Rattle.file_state.specs.Asking.{MayBeGranted, TriesAgain};
 ghost use Rattle.file_state.specs.Lacks.{TriesWithin};
-ghost use Rattle.file_state.specs.Tie.{IsSound};
+ghost use Rattle.file_state.specs.Tie.{AreSoundFiles};
 ghost use Rattle.guest_memory.specs.Tie.{cells_of};
 ghost use Rattle.io_model.specs.declared.io_call.IoCall.TheVariants as Device;
 ghost use Rattle.os9_base.specs.Cells.{FitsIn};
@@ -23,7 +23,7 @@ ghost use Rattle.os9_base.specs.declared.registers.TimePacket.{TimePacket};
 ghost use Rattle.os9_outer.specs.TerminalState.{TerminalState};
 ghost use Rattle.proc_model.specs.Records.{IsLiving};
 ghost use Rattle.file_drives.specs.Drives.{drives_seen};
-ghost use Rattle.proc_state.specs.Tie.{Represents};
+ghost use Rattle.proc_state.specs.Tie.{RepresentsProcesses};
 
 use crate::ends::{answer, answer_at, refuse};
 use crate::loading::{FilePart, has_return, load, part_length, store_front};
@@ -63,8 +63,8 @@ pub fn read(
 ) -> CallEnd
     requires calls { InCall by machine.old.processes }
     requires again { TriesAgain Device.Read by.regs machine.old.files by.p.0 }
-    requires sound { IsSound machine.old.files (drives_seen BlockDriver-box devices.old) }
-    requires opened { IsOpened machine.old.files by.p.0 by.regs.a opened.now }
+    requires sound { AreSoundFiles machine.old.files (drives_seen BlockDriver-box devices.old) }
+    requires opened { IsOpenedPath machine.old.files by.p.0 by.regs.a opened.now }
     ensures call { (now : TimePacket) (terms : List TerminalState)
         → TriesWithin i_read_calls Call.Read now by.p.0 result terms terms
         (machine_seen BlockDriver-box machine.old devices.old)
@@ -88,8 +88,8 @@ pub fn read_line(
 ) -> CallEnd
     requires calls { InCall by machine.old.processes }
     requires again { TriesAgain Device.ReadLn by.regs machine.old.files by.p.0 }
-    requires sound { IsSound machine.old.files (drives_seen BlockDriver-box devices.old) }
-    requires opened { IsOpened machine.old.files by.p.0 by.regs.a opened.now }
+    requires sound { AreSoundFiles machine.old.files (drives_seen BlockDriver-box devices.old) }
+    requires opened { IsOpenedPath machine.old.files by.p.0 by.regs.a opened.now }
     ensures call { (now : TimePacket) (terms : List TerminalState)
         → TriesWithin i_read_calls Call.ReadLn now by.p.0 result terms terms
         (machine_seen BlockDriver-box machine.old devices.old)
@@ -108,8 +108,8 @@ fn read_opened(
     kind: ReadKind,
 ) -> CallEnd
     requires calls { InFileCall by machine.old }
-    requires may { MayRead machine.old.files.io machine.old.files.records.locks by.p.0 opened.now
-        by.regs }
+    requires may { MayReadFile machine.old.files.io machine.old.files.records.locks by.p.0
+        opened.now by.regs }
     requires opened { IsOnFile opened.now (machine_seen BlockDriver-box machine.old devices.old) }
     ensures call { TriesAlways (model.read_opened kind) reading_attempt_calls opened.now by.p.0
         result
@@ -218,8 +218,9 @@ fn read_granted(
 ) -> CallEnd
     requires calls { InFileCall by machine.old }
     requires opened { IsOnFile opened.now (machine_seen BlockDriver-box machine.old devices.old) }
-    requires granted { IsGranted machine.old.files.records.locks reading.lock }
-    requires room { HasRoom (cells_of machine.old.processes.memory by.p.0) by.regs reading.lock }
+    requires granted { MayBeGranted machine.old.files.records.locks reading.lock }
+    requires room { HasBufferForLock (cells_of machine.old.processes.memory by.p.0) by.regs
+        reading.lock }
     ensures call { (now : TimePacket) → TriesGranted (model.read_granted reading.kind reading.lock)
         (granted_read_calls reading.lock) opened.now now by.p.0 result
         (machine_seen BlockDriver-box machine.old devices.old)
@@ -253,13 +254,14 @@ fn give_locked(
 ) -> CallEnd
     requires calls { InFileCall by machine.old }
     requires path { IsPathOf machine.old.files.io opened.now }
-    requires granted { IsGranted machine.old.files.records.locks reading.lock }
-    requires room { HasRoom (cells_of machine.old.processes.memory by.p.0) by.regs reading.lock }
+    requires granted { MayBeGranted machine.old.files.records.locks reading.lock }
+    requires room { HasBufferForLock (cells_of machine.old.processes.memory by.p.0) by.regs
+        reading.lock }
     requires few { count ≤ by.regs.y }
     requires fits { reading.lock.range.start + count < 2 ^ 32 }
-    ensures call { (m : Processes) → Represents machine.old.processes m → GivesLocked reading.kind
-        reading.lock (part_of reading.kind (take count machine.old.processes.buffer.items)) by.regs
-        opened.now m
+    ensures call { (m : Processes) → RepresentsProcesses machine.old.processes m
+        → GivesLocked reading.kind reading.lock
+        (part_of reading.kind (take count machine.old.processes.buffer.items)) by.regs opened.now m
         by.p.0 machine.old.files result machine.new.processes machine.new.files }
     ensures lives { IsLiving machine.new.processes.table by.p.0 }
 {
@@ -320,7 +322,7 @@ fn give(
     requires named { FitsIn (cells_of machine.old.processes.memory by.p.0) by.regs.x by.regs.y }
     requires few { count ≤ by.regs.y }
     requires fits { opened.now.desc.at + count < 2 ^ 32 }
-    ensures call { (m : Processes) → Represents machine.old.processes m → EndsFound
+    ensures call { (m : Processes) → RepresentsProcesses machine.old.processes m → EndsFound
         (take count machine.old.processes.buffer.items)
         (part_of kind (take count machine.old.processes.buffer.items)) by.regs opened.now m by.p.0
         machine.old.files.io result machine.new.processes machine.new.files.io }

@@ -4,7 +4,7 @@ ghost use Rattle.file_state.specs.Context.{InFileCall, beside};
 ghost use Rattle.std.specs.Prelude.{◌≡◌, List};
 ghost use Rattle.proc_model.specs.Processes.{Processes};
 ghost use Rattle.file_io.specs.Calls.{i_seek_calls};
-ghost use Rattle.file_io.specs.Opened.{IsOpened};
+ghost use Rattle.file_io.specs.Opened.{IsOpenedPath};
 ghost use Rattle.file_drives.specs.Drives.{DriveView};
 ghost use Rattle.file_rules.specs.Seek as model;
 ghost use Rattle.file_rules.specs.Seek.{seeks_nothing};
@@ -13,9 +13,9 @@ ghost use Rattle.file_state.specs.Counted.{AttemptsWithin};
 ghost use Rattle.io_model.specs.Attempts.{caller_of};
 ghost use Rattle.os9_base.specs.declared.registers.TimePacket.{TimePacket};
 ghost use Rattle.os9_outer.specs.TerminalState.{TerminalState};
-ghost use Rattle.device_paths.specs.Quiet.{Ends};
+ghost use Rattle.device_paths.specs.Quiet.{EndsIoAttempt};
 ghost use Rattle.proc_model.specs.Records.{IsLiving};
-ghost use Rattle.proc_state.specs.Tie.{Represents};
+ghost use Rattle.proc_state.specs.Tie.{RepresentsProcesses};
 ghost use Rattle.io_state.specs.Sound.{ReadsNoTerminal};
 
 use crate::ends::{answer, answer_at, refuse};
@@ -33,7 +33,7 @@ use proc_state::state::ProcState;
 /// X, its high half, and U. It reaches no drive and is never refused.
 pub fn seek(machine: &mut Machine, by: Requester, opened: &OpenFile) -> CallEnd
     requires calls { InFileCall by machine.old }
-    requires opened { IsOpened machine.old.files by.p.0 by.regs.a opened.now }
+    requires opened { IsOpenedPath machine.old.files by.p.0 by.regs.a opened.now }
     ensures call { (now : TimePacket) (views : List DriveView) (terms : List TerminalState)
         → AttemptsWithin i_seek_calls Call.Seek now by.p.0 result terms terms
         (beside machine.old views) (beside machine.new views) }
@@ -57,8 +57,8 @@ fn long_of(regs: Regs) -> u32
 pub fn seek_nothing(s: &mut ProcState, io: &mut IoState, p: Pid) -> CallEnd
     requires lives { IsLiving s.old.table p.0 }
     requires no_read { ReadsNoTerminal io.old p.0 }
-    ensures call { (m : Processes) → Represents s.old m
-        → Ends (seeks_nothing (caller_of m p.0) io.old) m io.old p.0 result s.new io.new }
+    ensures call { (m : Processes) → RepresentsProcesses s.old m
+        → EndsIoAttempt (seeks_nothing (caller_of m p.0) io.old) m io.old p.0 result s.new io.new }
     ensures lives { IsLiving s.new.table p.0 }
 {
     let regs = s.table.regs(p);

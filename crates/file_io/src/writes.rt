@@ -7,17 +7,17 @@ ghost use Rattle.proc_model.specs.Processes.{Processes, cells_at};
 ghost use Rattle.proc_model.specs.UserBytes.{user_bytes};
 ghost use Rattle.file_io.specs.Calls.{f_perr_calls, granted_write_calls, i_writln_calls, i_write_calls, writing_attempt_calls};
 ghost use Rattle.file_io.specs.Ending.{EndsWrite};
-ghost use Rattle.file_io.specs.Opened.{IsOpened, IsPathOf, MayBeWritten};
-ghost use Rattle.file_io.specs.Sending.{IsSending, MayWrite};
-ghost use Rattle.file_io.specs.Trying.{Tries, TriesGranted};
+ghost use Rattle.file_io.specs.Opened.{IsOpenedPath, IsPathOf, MayBeWritten};
+ghost use Rattle.file_io.specs.Sending.{IsSending, MayWriteFile};
+ghost use Rattle.file_io.specs.Trying.{TriesFileStep, TriesGranted};
 ghost use Rattle.file_io.specs.Writing.{line_of, write_file as write_file_model, write_granted as write_granted_model, write_opened as write_opened_model};
 ghost use Rattle.file_drives.specs.Drives.{drives_seen};
 ghost use Rattle.file_drives.specs.Mounted.{HasDataFileAt};
 ghost use Rattle.file_rules.specs.declared.path_call.PathCall.TheVariants as Call;
 ghost use Rattle.file_rules.specs.Locking.{call_of};
-ghost use Rattle.file_state.specs.Asking.{IsGranted, KeepsRequest, MayAsk, TriesAgain};
+ghost use Rattle.file_state.specs.Asking.{MayBeGranted, KeepsRequest, MayAsk, TriesAgain};
 ghost use Rattle.file_state.specs.Lacks.{TriesWithin};
-ghost use Rattle.file_state.specs.Tie.{IsSound};
+ghost use Rattle.file_state.specs.Tie.{AreSoundFiles};
 ghost use Rattle.io_model.specs.Io.{pending_at};
 ghost use Rattle.io_model.specs.Write.{error_line as error_line_model};
 ghost use Rattle.io_model.specs.declared.io_call.IoCall.TheVariants as Device;
@@ -26,7 +26,7 @@ ghost use Rattle.lock_model.specs.Conflict.{conflicts};
 ghost use Rattle.lock_model.specs.Locks.{request_of};
 ghost use Rattle.os9_outer.specs.TerminalState.{TerminalState};
 ghost use Rattle.proc_model.specs.Records.{IsLiving};
-ghost use Rattle.proc_state.specs.Tie.{IsSame, Represents};
+ghost use Rattle.proc_state.specs.Tie.{AreProcessesSame, RepresentsProcesses};
 
 use crate::ends::{answer, answer_at, refuse};
 use crate::modes::can_write;
@@ -70,8 +70,8 @@ pub fn write(
 ) -> CallEnd
     requires calls { InCall by machine.old.processes }
     requires again { TriesAgain Device.Write by.regs machine.old.files by.p.0 }
-    requires sound { IsSound machine.old.files (drives_seen BlockDriver-box devices.old) }
-    requires opened { IsOpened machine.old.files by.p.0 by.regs.a opened.now }
+    requires sound { AreSoundFiles machine.old.files (drives_seen BlockDriver-box devices.old) }
+    requires opened { IsOpenedPath machine.old.files by.p.0 by.regs.a opened.now }
     ensures call { (terms : List TerminalState)
         → TriesWithin i_write_calls Call.Write by.time by.p.0 result terms terms
         (machine_seen BlockDriver-box machine.old devices.old)
@@ -105,8 +105,8 @@ pub fn write_line(
 ) -> CallEnd
     requires calls { InCall by machine.old.processes }
     requires again { TriesAgain Device.WritLn by.regs machine.old.files by.p.0 }
-    requires sound { IsSound machine.old.files (drives_seen BlockDriver-box devices.old) }
-    requires opened { IsOpened machine.old.files by.p.0 by.regs.a opened.now }
+    requires sound { AreSoundFiles machine.old.files (drives_seen BlockDriver-box devices.old) }
+    requires opened { IsOpenedPath machine.old.files by.p.0 by.regs.a opened.now }
     ensures call { (terms : List TerminalState)
         → TriesWithin i_writln_calls Call.WritLn by.time by.p.0 result terms terms
         (machine_seen BlockDriver-box machine.old devices.old)
@@ -133,11 +133,11 @@ pub fn write_line(
 fn line_count(s: &mut ProcState, files: &FileState, p: Pid, regs: Regs) -> Option<u16>
     requires process { p.0 < 33 }
     requires kept { KeepsRequest files.now.io files.now.records.locks p.0 }
-    ensures line { (m : Processes) → Represents s.old m → line_of
+    ensures line { (m : Processes) → RepresentsProcesses s.old m → line_of
         (request_of files.now.records.locks p.0) (cells_at m p.0) regs
         ≡ option_map (λ count. take count s.new.buffer.items) result }
     ensures some { IfSome result (λ count. regs.y ≢ 0 → 0 < count) }
-    ensures same { IsSame s.old s.new }
+    ensures same { AreProcessesSame s.old s.new }
 {
     match files.records.locks().request_of(p) {
         None => {
@@ -158,11 +158,11 @@ fn pending_count(
 ) -> Option<u16>
     requires process { p.0 < 33 }
     requires kept { pending_at files.now.io p.0 ≡ Some (call_of request) }
-    ensures line { (m : Processes) → Represents s.old m
+    ensures line { (m : Processes) → RepresentsProcesses s.old m
         → user_bytes (cells_at m p.0) regs.x request.count
         ≡ option_map (λ count. take count s.new.buffer.items) result }
     ensures some { IfSome result (λ count. 0 < count) }
-    ensures same { IsSame s.old s.new }
+    ensures same { AreProcessesSame s.old s.new }
 {
     // A call that waits has a byte left to move.
     prove!(files.io.pending(p).is_some());
@@ -187,8 +187,8 @@ pub fn write_error(
 ) -> CallEnd
     requires calls { InCall by machine.old.processes }
     requires again { TriesAgain Device.PErr by.regs machine.old.files by.p.0 }
-    requires sound { IsSound machine.old.files (drives_seen BlockDriver-box devices.old) }
-    requires opened { IsOpened machine.old.files by.p.0 STANDARD_ERROR opened.now }
+    requires sound { AreSoundFiles machine.old.files (drives_seen BlockDriver-box devices.old) }
+    requires opened { IsOpenedPath machine.old.files by.p.0 STANDARD_ERROR opened.now }
     ensures call { (terms : List TerminalState)
         → TriesWithin f_perr_calls Call.PErr by.time by.p.0 result terms terms
         (machine_seen BlockDriver-box machine.old devices.old)
@@ -228,9 +228,9 @@ fn send(
     requires calls { InFileCall by machine.old }
     requires file { MayBeWritten opened.now machine.old.files.disks
         (drives_seen BlockDriver-box devices.old) }
-    requires may { MayWrite machine.old.files.io machine.old.files.records.locks by.p.0 opened.now
-        by.regs sent }
-    ensures call { Tries (write_opened_model sent.code
+    requires may { MayWriteFile machine.old.files.io machine.old.files.records.locks by.p.0
+        opened.now by.regs sent }
+    ensures call { TriesFileStep (write_opened_model sent.code
         (take sent.count machine.old.processes.buffer.items))
         (writing_attempt_calls sent.count) opened.now by.time by.p.0 result
         (machine_seen BlockDriver-box machine.old devices.old)
@@ -261,7 +261,7 @@ fn write_file(
     requires sends { IsSending sent }
     requires file { HasDataFileAt machine.old.files.disks
         (drives_seen BlockDriver-box devices.old) opened.now.place }
-    ensures call { Tries (write_file_model sent.code
+    ensures call { TriesFileStep (write_file_model sent.code
         (take sent.count machine.old.processes.buffer.items) sent.done)
         (writing_attempt_calls sent.count) opened.now by.time by.p.0 result
         (machine_seen BlockDriver-box machine.old devices.old)
@@ -308,7 +308,7 @@ fn write_granted(
     requires path { IsPathOf machine.old.files.io opened.now }
     requires file { HasDataFileAt machine.old.files.disks
         (drives_seen BlockDriver-box devices.old) opened.now.place }
-    requires granted { IsGranted machine.old.files.records.locks writing.lock }
+    requires granted { MayBeGranted machine.old.files.records.locks writing.lock }
     ensures call { TriesGranted (write_granted_model writing.lock
         (take writing.sent.count machine.old.processes.buffer.items) writing.sent.done)
         (granted_write_calls writing.lock writing.sent.count) opened.now by.time by.p.0 result
@@ -341,7 +341,7 @@ fn enter_write(
     requires path { IsPathOf machine.old.files.io opened.now }
     requires free { conflicts machine.old.files.records.locks writing.lock ≡ false }
     requires fits { writing.lock.range.start + writing.sent.count < 2 ^ 32 }
-    ensures call { (m : Processes) → Represents machine.old.processes m → EndsWrite (Ok tt)
+    ensures call { (m : Processes) → RepresentsProcesses machine.old.processes m → EndsWrite (Ok tt)
         writing.lock
         (take writing.sent.count machine.old.processes.buffer.items) writing.sent.done opened.now m
         by.p.0 machine.old.files result machine.new.processes machine.new.files }
@@ -361,7 +361,7 @@ fn enter_write(
 /// Puts the line of the number of an error at the front of the buffer.
 fn put_error_line(s: &mut ProcState, number: u8)
     ensures line { take ERROR_LINE_BYTES s.new.buffer.items ≡ error_line_model number }
-    ensures same { IsSame s.old s.new }
+    ensures same { AreProcessesSame s.old s.new }
 {
     put_line(&mut s.buffer, number);
 }

@@ -17,7 +17,7 @@ use Rattle.io_model.specs.Attempts.{pending_in}
 use Rattle.io_model.specs.Dup.{i_dup}
 use Rattle.io_model.specs.Io.{with_call}
 use Rattle.file_rules.specs.Attempts.{AskerAttempts, FileAttempts, asker_of, file_step, files_after}
-use Rattle.file_rules.specs.Files.{Files, Asker, NoneFailed, with_io}
+use Rattle.file_rules.specs.Files.{Files, Asker, KeepsDriveFaults, with_io}
 use Rattle.file_rules.specs.Load.{LoadAttempts}
 use Rattle.file_rules.specs.Program.{ChainAttempts, ForkAttempts, StartsFile, chains, forks, named_program}
 use Rattle.file_rules.specs.ProgramFile.{ProgramFile, ReadingIsBroken, ReadsProgram, reading_of}
@@ -25,7 +25,7 @@ use Rattle.file_rules.specs.Step.{FileEffect, FileDoes, Step}
 use Rattle.file_rules.specs.declared.path_call.PathCall.{PathCall}
 use Rattle.file_rules.specs.declared.path_call.PathCall.TheVariants as Call
 use Rattle.file_laws.specs.Kinds.{AreKinds}
-use Rattle.file_laws.specs.Mounted.{AreAsMany}
+use Rattle.file_laws.specs.Mounted.{KeepsMountedDrives}
 use Rattle.file_rules.specs.Locking.{records_after}
 use Rattle.file_laws.proofs.Counts.{Stands, many-drives, many-io, many-same, many-then, none-many, stands-records}
 use Rattle.file_laws.proofs.Deleting.{delete-kept, deletx-kept}
@@ -87,10 +87,10 @@ module _ (step : Step ProgramFile) (reading : Result ProgramFile ℕ) (old new :
   reads-kinds : AreKinds old → AreKinds new
   reads-kinds kinds = subst AreKinds (sym it.state) (kinds-drives old kinds it.drives)
 
-  reads-many : AreAsMany old new
-  reads-many = subst (AreAsMany old) (sym it.state) (many-drives old it.drives (by_outcome it.outcome))
+  reads-many : KeepsMountedDrives old new
+  reads-many = subst (KeepsMountedDrives old) (sym it.state) (many-drives old it.drives (by_outcome it.outcome))
     where
-      by_outcome : ((reading ≡ reading_of step) × NoneFailed old.drives it.drives) ⊎ ReadingIsBroken step reading old.drives it.drives → length it.drives ≡ length old.drives
+      by_outcome : ((reading ≡ reading_of step) × KeepsDriveFaults old.drives it.drives) ⊎ ReadingIsBroken step reading old.drives it.drives → length it.drives ≡ length old.drives
       by_outcome (inl (is, none)) = none-many old.drives it.drives none
       by_outcome (inr broken) = broken.failed.as_many
 
@@ -98,7 +98,7 @@ module _ (processes : Processes) (asker : Asker) (old : Files) (terms p : ℕ) (
   pub load-kinds : LoadAttempts processes asker old terms p result new → AreKinds old → AreKinds new
   load-kinds it kinds = reads-kinds _ it.reading old new it.reads kinds
 
-  pub load-many : LoadAttempts processes asker old terms p result new → AreAsMany old new
+  pub load-many : LoadAttempts processes asker old terms p result new → KeepsMountedDrives old new
   load-many it = reads-many _ it.reading old new it.reads
 
   -- what is left where a program of a file is started, or one that is entered
@@ -109,18 +109,18 @@ module _ (processes : Processes) (asker : Asker) (old : Files) (terms p : ℕ) (
   starts-kinds start named None it kinds = reads-kinds _ it.reading old new it.reads kinds
   starts-kinds start named (Some entered) (is, same) kinds = subst AreKinds (sym same) kinds
 
-  starts-many : (start : Processes → ℕ → Program → CallResult) (named : CallResult) (entered : Option Entered) → Starts start named entered → AreAsMany old new
+  starts-many : (start : Processes → ℕ → Program → CallResult) (named : CallResult) (entered : Option Entered) → Starts start named entered → KeepsMountedDrives old new
   starts-many start named None it = reads-many _ it.reading old new it.reads
-  starts-many start named (Some entered) (is, same) = subst (AreAsMany old) (sym same) (many-same old)
+  starts-many start named (Some entered) (is, same) = subst (KeepsMountedDrives old) (sym same) (many-same old)
 
   pub fork-kinds : ForkAttempts processes asker old terms p result new → AreKinds old → AreKinds new
   fork-kinds it = starts-kinds forks (f_fork processes p) (named_program processes p) it
 
-  pub fork-many : ForkAttempts processes asker old terms p result new → AreAsMany old new
+  pub fork-many : ForkAttempts processes asker old terms p result new → KeepsMountedDrives old new
   fork-many it = starts-many forks (f_fork processes p) (named_program processes p) it
 
   pub chain-kinds : ChainAttempts processes asker old terms p result new → AreKinds old → AreKinds new
   chain-kinds it = starts-kinds chains (f_chain processes p) (named_program processes p) it
 
-  pub chain-many : ChainAttempts processes asker old terms p result new → AreAsMany old new
+  pub chain-many : ChainAttempts processes asker old terms p result new → KeepsMountedDrives old new
   chain-many it = starts-many chains (f_chain processes p) (named_program processes p) it

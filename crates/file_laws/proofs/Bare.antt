@@ -19,7 +19,7 @@ use Rattle.lock_model.specs.Records.{Records, with_waiting}
 use Rattle.lock_model.specs.declared.lock.Request.{Request}
 use Rattle.rbf_model.specs.Volume.{DiskVolume}
 use Rattle.io_model.specs.Again.{path_number}
-use Rattle.io_model.specs.Attempts.{Does, IoAttempts, io_after, io_step, result_of}
+use Rattle.io_model.specs.Attempts.{IoDoes, IoAttempts, io_after, io_step, result_of}
 use Rattle.io_model.specs.Io.{Io, OpenPath, open_path}
 use Rattle.io_model.specs.Lead.{Lead, a_new_place, lead_by_device, lead_of, on_device, what_is_there, nowhere as leads_nowhere}
 use Rattle.io_model.specs.Modes.{can_write, is_mode}
@@ -38,7 +38,7 @@ use Rattle.file_rules.specs.Route.{Route, is_drive, is_root, list_of, nowhere, r
 use Rattle.file_rules.specs.declared.path_call.PathCall.{PathCall}
 use Rattle.file_rules.specs.declared.path_call.PathCall.TheVariants as Call
 use Rattle.lock_model.specs.declared.place.FilePlace.{FilePlace}
-use Rattle.file_laws.specs.Devices.{device_call, takes_number, HasNoFiles, IsOnDevice, LocksStay}
+use Rattle.file_laws.specs.Devices.{device_call, takes_number, HasNoFiles, DeviceAttempted, LocksStay}
 use Rattle.file_laws.proofs.TouchNamed.{is-theirs, step-on-device}
 use Rattle.file_laws.proofs.Requests.{forgets-again, over-requested}
 
@@ -222,17 +222,17 @@ module _ (call : PathCall) (device : IoCall) (processes : Processes) (files : Fi
   -- both are refused
   refused-does : (number : ℕ) (effect : FileEffect) (old new : List TerminalState) → io_step device asker.caller
       files.io (length files.drives) (length old) ≡ io_refused number → FileDoes (refused number) asker files effect
-      old new → IsOnDevice call processes files p (result_of processes p (io_effect effect)) (files_after p effect) old new
+      old new → DeviceAttempted call processes files p (result_of processes p (io_effect effect)) (files_after p effect) old new
   refused-does number effect old new device_is (inr (broken, same)) = absurd (none-some broken.drive broken.reached)
   refused-does number effect old new device_is (inl well) =
-      subst (λ (effect : FileEffect). IsOnDevice call processes files p (result_of processes p (io_effect effect)) (files_after p effect) old new)
+      subst (λ (effect : FileEffect). DeviceAttempted call processes files p (result_of processes p (io_effect effect)) (files_after p effect) old new)
       (sym (well.effect_is ∙ ap (λ (it : FileEffect). with_drives_after it well.drives) well.does.0))
       (record {
         device = device;
         device_is = is;
         attempted = record {
           effect = io_effect (refuses_so number files);
-          does = subst (λ (step : IoStep). Does step asker.caller files.io (io_effect (refuses_so number files)) old new) (sym device_is) (refl, well.does.1);
+          does = subst (λ (step : IoStep). IoDoes step asker.caller files.io (io_effect (refuses_so number files)) old new) (sym device_is) (refl, well.does.1);
           result_is = refl;
           state = refl;
         };
@@ -247,16 +247,16 @@ module _ (call : PathCall) (device : IoCall) (processes : Processes) (files : Fi
   -- a step that agrees with theirs is one of theirs
   pub agreed-attempt : (left : Files) (old new : List TerminalState)
       → Agrees (file_step call asker files (length old)) (io_step device asker.caller files.io (length files.drives)
-      (length old)) → FileAttempts call processes files now p result left old new → IsOnDevice call processes files p result
+      (length old)) → FileAttempts call processes files now p result left old new → DeviceAttempted call processes files p result
       left old new
   agreed-attempt left old new (inl step_is) it = step-on-device call device is processes files now p old new result left it step_is
   agreed-attempt left old new (inr (number, step_is, device_is)) it =
-      subst (λ (result : CallResult). IsOnDevice call processes files p result left old new) (sym it.result_is)
-      (subst (λ (left : Files). IsOnDevice call processes files p (result_of processes p (io_effect it.effect)) left old new) (sym it.state)
+      subst (λ (result : CallResult). DeviceAttempted call processes files p result left old new) (sym it.result_is)
+      (subst (λ (left : Files). DeviceAttempted call processes files p (result_of processes p (io_effect it.effect)) left old new) (sym it.state)
       (refused-does number it.effect old new device_is (subst (λ (step : FileStep). FileDoes step asker files it.effect old new) step_is it.does)))
 
   pub bare-attempt : (left : Files) (old new : List TerminalState) → HasNoFiles files p → FileAttempts call processes files now p result left old new
-      → IsOnDevice call processes files p result left old new
+      → DeviceAttempted call processes files p result left old new
   bare-attempt left old new bare it = agreed-attempt left old new (agrees-by asker files (length old) bare call device is) it
 
   -- a process without a request has none to forget
@@ -295,7 +295,7 @@ module _ (call : PathCall) (device : IoCall) (processes : Processes) (files : Fi
           (subst (λ (step : FileStep). FileDoes step asker files (on_files p files it.effect) old new) (sym step_is)
           (inl (record { it = on_files p files it.effect; does = (it.effect, it.does, refl); drives = files.drives; none_failed = refl; effect_is = refl })))
       by_step (inr (number, step_is, device_is)) =
-          let does : Does (io_refused number) asker.caller files.io it.effect old new = subst (λ (step : IoStep). Does step asker.caller files.io it.effect old new) device_is it.does in
+          let does : IoDoes (io_refused number) asker.caller files.io it.effect old new = subst (λ (step : IoStep). IoDoes step asker.caller files.io it.effect old new) device_is it.does in
           attempts-by left old new it bare
           (subst (λ (step : FileStep). FileDoes step asker files (on_files p files it.effect) old new) (sym step_is)
           (inl (record {

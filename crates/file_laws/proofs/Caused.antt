@@ -8,15 +8,15 @@ use Rattle.os9_base.specs.declared.name_fault.NameFault.{NameFault}
 use Rattle.os9_base.specs.declared.name_fault.NameFault.TheVariants.{Unreadable, NoName}
 use Rattle.rbf_model.specs.Volume.{DiskVolume}
 use Rattle.rbf_model.specs.Walk.{WalkEnd, arrives, not_allowed, not_found, walk}
-use Rattle.io_model.specs.Attempts.{Does}
+use Rattle.io_model.specs.Attempts.{IoDoes}
 use Rattle.io_model.specs.PathList.{PathList}
 use Rattle.io_model.specs.Step.{IoEffect, answers, fails}
 use Rattle.file_rules.specs.Files.{Files, volume_at}
 use Rattle.file_rules.specs.Step.{refused, reaches, needs, refuses, FileStep, Deed, leaves_so, as_io, changes, deed_of, done}
 use Rattle.file_rules.specs.Route.{Found, along, list_of, reads_list as reads_list_of, walk_ends, walks}
 use Rattle.lock_model.specs.declared.place.FilePlace.{FilePlace}
-use Rattle.file_laws.specs.Causes.{FileCause, Finds, IsUnreadable, Leads, Walks, bad_address, finds_nothing, may_not_pass, no_name, no_volume, not_there, reads_list}
-use Rattle.file_laws.specs.Claims.{Made}
+use Rattle.file_laws.specs.Causes.{FileCause, FindsNamedFile, FileBytesUnreadable, ListHasRoute, WalksOnVolume, bad_address, finds_nothing, may_not_pass, no_name, no_volume, not_there, reads_list}
+use Rattle.file_laws.specs.Claims.{MadePathCall}
 use Rattle.file_laws.specs.Devices.{IsOnNoFile}
 use Rattle.file_laws.proofs.Splits.{IsDeviceStep, not-refused}
 
@@ -31,13 +31,13 @@ not-is false is = refl
 same-fails : (n m : ℕ) → fails n ≡ fails m → n ≡ m
 same-fails n m is = cc
 
-module _ (m : Made) where
+module _ (m : MadePathCall) where
   -- why what is done is refused
   abbrev pub Caused : Deed → Type 0
   Caused (leaves_so it) = (number : ℕ) → it.end ≡ fails number → FileCause m number
   Caused (as_io step) =
       IsDeviceStep m.call m.asker m.files m.terms step × IsOnNoFile m.call m.asker m.files m.terms ⊎
-      ((it : IoEffect) (old new : List TerminalState) (number : ℕ) → Does step m.asker.caller m.files.io it old
+      ((it : IoEffect) (old new : List TerminalState) (number : ℕ) → IoDoes step m.asker.caller m.files.io it old
       new → it.end ≡ fails number → FileCause m number)
   Caused (changes it) = (n : ℕ) → (regs : Regs) × ((it.effect n).end ≡ answers regs)
 
@@ -64,7 +64,7 @@ module _ (m : Made) where
 
   -- ---- the list
 
-  module _ (reads : reads_list m.call ≡ true) (unreadable : list_of m.asker ≡ Err Unreadable → IsUnreadable m.call m.asker m.files) where
+  module _ (reads : reads_list m.call ≡ true) (unreadable : list_of m.asker ≡ Err Unreadable → FileBytesUnreadable m.call m.asker m.files) where
     pub caused-list : (read : Result PathList NameFault) → list_of m.asker ≡ read → (test : FileStep → FileStep)
         (next : PathList → FileStep) → ((step : FileStep) → StepCaused step → StepCaused (test step))
         → ((list : PathList) → list_of m.asker ≡ Ok list → StepCaused (next list))
@@ -77,10 +77,10 @@ module _ (m : Made) where
   -- ---- the walk
 
   module _ (execute : Bool) (names steps : List (List ℕ)) (walks_so : (place : FilePlace) (v : DiskVolume)
-      (end : WalkEnd) → Leads m (along place names) → volume_at m.files place.drive ≡ Some v
-      → walk v.files m.asker.user execute place.number steps ≡ end → Walks m names place v end) where
-    pub caused-walks : (place : FilePlace) (next : Found → FileStep) → Leads m (along place names)
-        → ((found : Found) → Finds m names found → StepCaused (next found))
+      (end : WalkEnd) → ListHasRoute m (along place names) → volume_at m.files place.drive ≡ Some v
+      → walk v.files m.asker.user execute place.number steps ≡ end → WalksOnVolume m names place v end) where
+    pub caused-walks : (place : FilePlace) (next : Found → FileStep) → ListHasRoute m (along place names)
+        → ((found : Found) → FindsNamedFile m names found → StepCaused (next found))
         → StepCaused (walks m.asker m.files execute place steps next)
     caused-walks place next leads holds =
         caused-needs (volume_at m.files place.drive) E_MNF (λ v. reaches place.drive (walk_ends place.drive v (walk v.files m.asker.user execute place.number steps) next))

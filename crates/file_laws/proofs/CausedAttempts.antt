@@ -9,12 +9,12 @@ use Rattle.io_model.specs.Attempts.{result_of}
 use Rattle.io_model.specs.Step.{fails}
 use Rattle.io_model.specs.declared.io_call.IoCall.TheVariants as Device
 use Rattle.file_rules.specs.Attempts.{FileAttempts, asker_of, file_step, files_after, io_effect}
-use Rattle.file_rules.specs.Files.{Asker, DriveState, Files, NoneFailed}
+use Rattle.file_rules.specs.Files.{Asker, DriveState, Files, KeepsDriveFaults}
 use Rattle.file_rules.specs.Step.{Deed, DoesDeed, FileDoes, FileEffect, FileStep, as_io, changes, deed_of, leaves_so, with_drives_after}
 use Rattle.file_rules.specs.declared.path_call.PathCall.{PathCall}
 use Rattle.file_rules.specs.declared.path_call.PathCall.TheVariants as Call
 use Rattle.file_laws.specs.Causes.{FileCause, finds_no_segment}
-use Rattle.file_laws.specs.Devices.{IsOnDevice, IsOnNoFile}
+use Rattle.file_laws.specs.Devices.{DeviceAttempted, IsOnNoFile}
 use Rattle.file_laws.specs.Touch.{OneDriveFails, drive_reached}
 use Rattle.file_laws.proofs.TouchAttempts.{ends-refused, on-device}
 use Rattle.file_laws.proofs.Caused.{Caused, StepCaused}
@@ -49,13 +49,13 @@ module _ (call : PathCall) (processes : Processes) (files : Files) (now : TimePa
   step = file_step call (asker_of processes p now) files (length old)
 
   abbrev On : FileEffect → Type 0
-  On effect = IsOnDevice call processes files p (result_of processes p (io_effect effect)) (files_after p effect) old new × IsOnNoFile call (asker_of processes p now) files (length old)
+  On effect = DeviceAttempted call processes files p (result_of processes p (io_effect effect)) (files_after p effect) old new × IsOnNoFile call (asker_of processes p now) files (length old)
 
   abbrev Why : Type 0
   Why = FileCause (made call (asker_of processes p now) files (length old)) number
 
   by-deed : (deed : Deed) → deed_of step files ≡ deed → (it : FileEffect) (drives : List DriveState)
-      → NoneFailed files.drives drives → Caused (made call (asker_of processes p now) files (length old)) deed
+      → KeepsDriveFaults files.drives drives → Caused (made call (asker_of processes p now) files (length old)) deed
       → DoesDeed deed (asker_of processes p now) files it old new → it.end ≡ fails number
       → On (with_drives_after it drives) ⊎ Why
   by-deed (leaves_so effect) deed_is it drives none caused (is, same) ended =
@@ -104,7 +104,7 @@ module _ (call : PathCall) (processes : Processes) (files : Files) (now : TimePa
   -- it is on a terminal or a pipe, on no file; or the drive that it reached failed; or it has its cause
   abbrev Has : CallResult → Files → Type 0
   Has result new =
-      IsOnDevice call processes files p result new before after × IsOnNoFile call (asker_of processes p now) files (length before)
+      DeviceAttempted call processes files p result new before after × IsOnNoFile call (asker_of processes p now) files (length before)
       ⊎ OneDriveFails (drive_reached call (asker_of processes p now) files (length before)) files result new
       ⊎ FileCause (made call (asker_of processes p now) files (length before)) number
 

@@ -23,8 +23,8 @@ use Rattle.file_rules.specs.Step.{FileStep, refused, comes, changes, leaves, nee
 use Rattle.file_rules.specs.Route.{Found, Route, along, before_last, last_of, list_of, nowhere, to_device, route_by, route_from, route_of, route_of_device, route_on_drive}
 use Rattle.file_rules.specs.declared.path_call.PathCall.TheVariants as Call
 use Rattle.lock_model.specs.declared.place.FilePlace.{FilePlace}
-use Rattle.file_laws.specs.Causes.{FindsIn, Leads, Walks, a_device, a_root, deletes_name, executes, forbidden_in, is_used, makes_new, not_in, reads_list}
-use Rattle.file_laws.specs.Claims.{Made}
+use Rattle.file_laws.specs.Causes.{FindsIn, ListHasRoute, WalksOnVolume, a_device, a_root, deletes_name, executes, forbidden_in, is_used, makes_new, not_in, reads_list}
+use Rattle.file_laws.specs.Claims.{MadePathCall}
 use Rattle.file_laws.proofs.Nowhere.{nowhere-caused}
 use Rattle.file_laws.proofs.Caused.{StepCaused, caused-list, caused-needs, caused-refused, caused-refuses, caused-walks, not-is}
 use Rattle.file_laws.proofs.CausedNames.{tests}
@@ -39,11 +39,11 @@ no-names : (names : List (List ℕ)) → last_of names ≡ None → before_last 
 no-names [] none = refl
 no-names (name ∷ names) none = absurd (got name names (ap (slice_get (name ∷ names)) (omega arith) ∙ none))
 
-module _ (m : Made) (reads : reads_list m.call ≡ true) (deletes_it : deletes_name m.call ≡ true) (execute : Bool)
+module _ (m : MadePathCall) (reads : reads_list m.call ≡ true) (deletes_it : deletes_name m.call ≡ true) (execute : Bool)
     (execute_is : execute ≡ executes m.call m.asker.caller.regs.a) (other_open : m.call ≢ Call.Open)
     (other_create : m.call ≢ Call.Create) (walks_so : (names : List (List ℕ)) (place : FilePlace) (v : DiskVolume)
-    (end : WalkEnd) → Leads m (along place names) → volume_at m.files place.drive ≡ Some v → walk v.files m.asker.user
-    execute place.number (before_last names) ≡ end → Walks m names place v end) where
+    (end : WalkEnd) → ListHasRoute m (along place names) → volume_at m.files place.drive ≡ Some v → walk v.files m.asker.user
+    execute place.number (before_last names) ≡ end → WalksOnVolume m names place v end) where
   abbrev D : FileStep → Type 0
   D step = StepCaused m step
 
@@ -76,7 +76,7 @@ module _ (m : Made) (reads : reads_list m.call ≡ true) (deletes_it : deletes_n
       (λ none. not_in found name refl deletes_it finds none)
       (λ n there. goes list name found n finds there))
 
-  delete-way : (list : PathList) (route : Route) → Leads m route → (last : Option (List ℕ))
+  delete-way : (list : PathList) (route : Route) → ListHasRoute m route → (last : Option (List ℕ))
       → ((place : FilePlace) (names : List (List ℕ)) → route ≡ along place names → last_of names ≡ last)
       → D (deletes_named m.asker m.files execute list route last)
   delete-way list (along place names) leads None last_is =

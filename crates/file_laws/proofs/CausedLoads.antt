@@ -26,7 +26,7 @@ use Rattle.rbf_model.specs.Volume.{DiskVolume}
 use Rattle.rbf_model.specs.Walk.{WalkEnd, arrives, not_allowed, not_found, walk}
 use Rattle.io_model.specs.PathList.{PathList}
 use Rattle.io_model.specs.declared.modes.TheConstants.{MODE_EXECUTE}
-use Rattle.file_rules.specs.Files.{Asker, Files, NoneFailed, volume_at}
+use Rattle.file_rules.specs.Files.{Asker, Files, KeepsDriveFaults, volume_at}
 use Rattle.file_rules.specs.Load.{GoesOnLoaded, LoadAttempts, Loaded, Loads, first_entered, links_first, loaded_by, with_file_entered}
 use Rattle.file_rules.specs.Open.{may_open}
 use Rattle.file_rules.specs.Program.{ChainAttempts, ForkAttempts, StartsFile, chains, forks, loaded_program, named_program, parameters_of, starts_first, tests_program}
@@ -35,15 +35,15 @@ use Rattle.file_rules.specs.Sharing.{is_not_shared}
 use Rattle.file_rules.specs.Step.{Step, comes, drive_of, needs, reaches, refused, refuses}
 use Rattle.file_rules.specs.Route.{Found, Route, along, list_of, nowhere, reads_list, to_device, walk_ends, walks, route_of}
 use Rattle.lock_model.specs.declared.place.FilePlace.{FilePlace}
-use Rattle.file_laws.specs.Causes.{FileCause, Finds, Leads, LeadsNowhere, bad_address, dots, finds_nothing, forbidden, may_not_pass, no_device, no_directory, no_name, no_volume, not_mounted, not_shared, not_there, root, slash}
-use Rattle.file_laws.specs.Claims.{Made}
-use Rattle.file_laws.specs.LoadCauses.{CauseOfLoad, ChainCause, Enters, ForkCause, GroupCause, IsRead, LinkCause, LoadCause, ReadCause, StartCause, TestCause, a_module, as_opened, looking, many_pages, most_links, no_blocks, no_memory, no_module, no_parameters, no_place, no_process, no_program, no_slots, not_ended, not_entered, not_read, other_type, blocks_for, tested, to_a_device, too_long}
+use Rattle.file_laws.specs.Causes.{FileCause, FindsNamedFile, ListHasRoute, LeadsNowhere, bad_address, dots, finds_nothing, forbidden, may_not_pass, no_device, no_directory, no_name, no_volume, not_mounted, not_shared, not_there, root, slash}
+use Rattle.file_laws.specs.Claims.{MadePathCall}
+use Rattle.file_laws.specs.LoadCauses.{CauseOfLoad, ChainCause, EntersFileModules, ForkCause, GroupCause, IsModuleFileRead, LinkCause, LoadCause, ReadCause, StartCause, TestCause, a_module, as_opened, looking, many_pages, most_links, no_blocks, no_memory, no_module, no_parameters, no_place, no_process, no_program, no_slots, not_ended, not_entered, not_read, other_type, blocks_for, tested, to_a_device, too_long}
 use Rattle.file_laws.specs.Touch.{FaultAnswers}
 use Rattle.file_laws.proofs.Caused.{is_nothing, not-is}
 use Rattle.file_laws.proofs.Nowhere.{nowhere-caused, nowhere-why}
 
 -- a list that leads nowhere is not refused for want of a number
-other-number : (m : Made) (list : PathList) (number : ℕ) → LeadsNowhere m list number → number ≢ E_PTHFUL
+other-number : (m : MadePathCall) (list : PathList) (number : ℕ) → LeadsNowhere m list number → number ≢ E_PTHFUL
 other-number m list number (dots is makes at) same = omega (arith, is, same)
 other-number m list number (root is makes at) same = omega (arith, is, same)
 other-number m list number (slash device is at none behind) same = omega (arith, is, same)
@@ -60,7 +60,7 @@ is-so false is = absurd (false≢true (sym is))
 module _ (asker : Asker) (files : Files) (terms : ℕ) (Tested : ℕ → Type 0) where
   -- what a reading comes to
   abbrev pub ReadComes : Result ProgramFile ℕ → Type 0
-  ReadComes (Ok file) = IsRead asker files terms file
+  ReadComes (Ok file) = IsModuleFileRead asker files terms file
   ReadComes (Err number) = Tested number ⊎ ReadCause asker files terms number
 
   abbrev pub K : Step ProgramFile → Type 0
@@ -77,7 +77,7 @@ module _ (asker : Asker) (files : Files) (terms : ℕ) (Tested : ℕ → Type 0)
   opened : (number : ℕ) → number ≢ E_PTHFUL → FileCause (looking asker files terms) number → K (refused number)
   opened number other cause = inr (as_opened other cause)
 
-  k-found : (list : PathList) (names : List (List ℕ)) (found : Found) → Finds (looking asker files terms) names found → K (program_found asker files list found)
+  k-found : (list : PathList) (names : List (List ℕ)) (found : Found) → FindsNamedFile (looking asker files terms) names found → K (program_found asker files list found)
   k-found list names found finds =
       k-refuses (not (may_open found.file asker.user MODE_EXECUTE)) E_FNA
       (refuses (is_not_shared files found MODE_EXECUTE) E_SHARE
@@ -99,7 +99,7 @@ module _ (asker : Asker) (files : Files) (terms : ℕ) (Tested : ℕ → Type 0)
         bytes = refl;
       })))
 
-  k-walks : (list : PathList) (names : List (List ℕ)) (place : FilePlace) → Leads (looking asker files terms)
+  k-walks : (list : PathList) (names : List (List ℕ)) (place : FilePlace) → ListHasRoute (looking asker files terms)
       (along place names) → K (walks asker files true place names (program_found asker files list))
   k-walks list names place leads =
       k-needs (volume_at files place.drive) E_MNF (λ v. reaches place.drive (walk_ends place.drive v (walk v.files asker.user true place.number names) (program_found asker files list)))
@@ -130,7 +130,7 @@ module _ (asker : Asker) (files : Files) (terms : ℕ) (Tested : ℕ → Type 0)
       by_end v mounted not_found is =
           opened E_PNNF (λ same. omega (arith, same)) (finds_nothing names place v refl (record { leads = leads; mounted = mounted; is = is }))
 
-  k-way : (list : PathList) (route : Route) → Leads (looking asker files terms) route → K (program_on_route asker files list route)
+  k-way : (list : PathList) (route : Route) → ListHasRoute (looking asker files terms) route → K (program_on_route asker files list route)
   k-way list (along place names) leads = k-walks list names place leads
   k-way list to_device leads = inr (to_a_device refl leads)
   k-way list (nowhere number) leads =
@@ -231,7 +231,7 @@ module _ (m : Processes) (asker : Asker) (files : Files) (terms : ℕ) (Tested :
         no_blocks (sym same ∙ same-error error E_NORAM is) (ltb-true (free_blocks m.memory) (file_blocks file) wants)
     by-room entries first false wants is = absurd (not-loaded error _ is)
 
-    by-first : (entries : List (Option ModuleEntry)) → Enters m file (Ok entries) → (first : Option Entered)
+    by-first : (entries : List (Option ModuleEntry)) → EntersFileModules m file (Ok entries) → (first : Option Entered)
         → first_entered m.memory entries ≡ first → no_load error ≡ option_map_or (loaded_as entries) first
         (Err E_BMID) → GroupCause m file number
     by-first entries modules None none is = no_module entries (sym same ∙ same-error error E_BMID is) modules none
@@ -241,9 +241,9 @@ module _ (m : Processes) (asker : Asker) (files : Files) (terms : ℕ) (Tested :
     group-caused : Loads m.memory file (Err error) → GroupCause m file number
     group-caused it = by_entries it.entries it.modules it.is
       where
-        by_entries : (entries : Result (List (Option ModuleEntry)) (ℕ × ℕ)) → Enters m file entries → no_load error ≡ loaded_by m.memory file entries → GroupCause m file number
+        by_entries : (entries : Result (List (Option ModuleEntry)) (ℕ × ℕ)) → EntersFileModules m file entries → no_load error ≡ loaded_by m.memory file entries → GroupCause m file number
         by_entries (Err (at, refusal)) modules is =
-            a_module at (subst (λ (n : ℕ). Enters m file (Err (at, n))) (sym (same-error error refusal is) ∙ same) modules)
+            a_module at (subst (λ (n : ℕ). EntersFileModules m file (Err (at, n))) (sym (same-error error refusal is) ∙ same) modules)
         by_entries (Ok entries) modules is = by-first entries modules (first_entered m.memory entries) refl is
 
   pub goes-caused : (reading : Result ProgramFile ℕ) → ReadComes asker files terms Tested reading
@@ -271,7 +271,7 @@ module _ (m : Processes) (asker : Asker) (files : Files) (terms : ℕ) (Tested :
       → FaultAnswers (drive_of step) old (call_refused number) new ⊎ Why
   reads-caused old new step known reading it next ends goes = by_outcome it.outcome
     where
-      by_outcome : ((reading ≡ reading_of step) × NoneFailed old.drives it.drives) ⊎ ReadingIsBroken step reading
+      by_outcome : ((reading ≡ reading_of step) × KeepsDriveFaults old.drives it.drives) ⊎ ReadingIsBroken step reading
           old.drives it.drives → FaultAnswers (drive_of step) old (call_refused number) new ⊎ Why
       by_outcome (inl (is, none)) =
           inr (goes-caused reading (subst (ReadComes asker files terms Tested) (sym is) known) next ends goes)

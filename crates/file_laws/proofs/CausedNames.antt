@@ -24,15 +24,15 @@ use Rattle.file_rules.specs.Sharing.{is_not_shared}
 use Rattle.file_rules.specs.Step.{FileStep, comes, changes, done, leaves, needs, refuses}
 use Rattle.file_rules.specs.Route.{Found, Route, along, before_last, last_of, list_of, nowhere, to_device, walks, route_of, route_to_new}
 use Rattle.file_rules.specs.declared.path_call.PathCall.TheVariants as Call
-use Rattle.file_laws.specs.Causes.{FindsIn, HasBadMode, Leads, a_device, bad_mode, executes, first_size, forbidden, forbidden_in, makes_new, no_last, no_number, no_room, no_segment, not_shared, reads_list, there_already}
-use Rattle.file_laws.specs.Claims.{Made}
+use Rattle.file_laws.specs.Causes.{FindsIn, HasBadMode, ListHasRoute, a_device, bad_mode, executes, first_size, forbidden, forbidden_in, makes_new, no_last, no_number, no_room, no_segment, not_shared, reads_list, there_already}
+use Rattle.file_laws.specs.Claims.{MadePathCall}
 use Rattle.file_laws.proofs.Nowhere.{nowhere-caused}
 use Rattle.file_laws.proofs.Caused.{StepCaused, caused-done, caused-list, caused-needs, caused-refused, caused-refuses, caused-walks, not-is}
 use Rattle.file_laws.proofs.CausedNumbers.{made}
 
 -- ---- what they have in common
 
-module _ (m : Made) where
+module _ (m : MadePathCall) where
   abbrev C : FileStep → Type 0
   C step = StepCaused m step
 
@@ -80,10 +80,10 @@ module _ (m : Made) where
 module _ (asker : Asker) (files : Files) (terms : ℕ) where
   -- ---- I$Open
 
-  abbrev opening : Made
+  abbrev opening : MadePathCall
   opening = made Call.Open asker files terms
 
-  open-way : (list : PathList) (route : Route) → Leads opening route → StepCaused opening (opens_on_route asker files terms list route)
+  open-way : (list : PathList) (route : Route) → ListHasRoute opening route → StepCaused opening (opens_on_route asker files terms list route)
   open-way list (along place names) leads =
       caused-walks opening (is_for_execution asker.caller.regs.a) names names (λ place v end leads mounted is. record
       { leads = leads; mounted = mounted; is = is }) place (opens_found asker files list) leads (λ found finds.
@@ -111,10 +111,10 @@ module _ (asker : Asker) (files : Files) (terms : ℕ) where
 
   -- ---- I$Create
 
-  abbrev creating : Made
+  abbrev creating : MadePathCall
   creating = made Call.Create asker files terms
 
-  create-way : (list : PathList) (route : Route) → Leads creating route → StepCaused creating (creates_on_route asker files terms list route)
+  create-way : (list : PathList) (route : Route) → ListHasRoute creating route → StepCaused creating (creates_on_route asker files terms list route)
   create-way list (along place names) leads =
       caused-needs creating (last_of names) E_BPNAM (λ name. walks asker files (is_for_execution asker.caller.regs.a) place (before_last names) (creates_in asker files list name))
       (λ none. no_last names place refl refl leads none)
@@ -160,10 +160,10 @@ module _ (asker : Asker) (files : Files) (terms : ℕ) where
 
   -- ---- I$MakDir
 
-  abbrev making : Made
+  abbrev making : MadePathCall
   making = made Call.MakDir asker files terms
 
-  make-way : (list : PathList) (route : Route) → Leads making route → StepCaused making (makes_on_route asker files list route)
+  make-way : (list : PathList) (route : Route) → ListHasRoute making route → StepCaused making (makes_on_route asker files list route)
   make-way list (along place names) leads =
       caused-needs making (last_of names) E_BPNAM (λ name. walks asker files false place (before_last names) (makes_in asker files list name))
       (λ none. no_last names place refl refl leads none)
@@ -207,10 +207,10 @@ module _ (asker : Asker) (files : Files) (terms : ℕ) where
 
   -- ---- I$ChgDir
 
-  abbrev going : Made
+  abbrev going : MadePathCall
   going = made Call.ChgDir asker files terms
 
-  go-way : (list : PathList) (route : Route) → Leads going route → StepCaused going (goes_on_route asker files list route)
+  go-way : (list : PathList) (route : Route) → ListHasRoute going route → StepCaused going (goes_on_route asker files list route)
   go-way list (along place names) leads =
       caused-walks going (is_for_execution asker.caller.regs.a) names names (λ place v end leads mounted is. record
       { leads = leads; mounted = mounted; is = is }) place (goes_to asker files list) leads (λ found finds.

@@ -19,7 +19,7 @@ use Rattle.rbf_change.specs.Contents.{written}
 use Rattle.rbf_change.specs.Growth.{clusters_needed}
 use Rattle.rbf_change.specs.NewFiles.{owns_file}
 use Rattle.io_model.specs.declared.pending.PendingCall.{PendingCall}
-use Rattle.io_model.specs.Attempts.{Does, io_step}
+use Rattle.io_model.specs.Attempts.{IoDoes, io_step}
 use Rattle.io_model.specs.Close.{i_close as closes_device}
 use Rattle.io_model.specs.Io.{OpenPath, open_path}
 use Rattle.io_model.specs.Modes.{can_read, can_write}
@@ -46,8 +46,8 @@ use Rattle.file_rules.specs.Write.{changes_file, f_perr, i_write, i_writln, line
 use Rattle.file_rules.specs.declared.path_call.PathCall.{PathCall}
 use Rattle.file_rules.specs.declared.path_call.PathCall.TheVariants as Call
 use Rattle.file_rules.specs.declared.status.TheConstants.{SS_SIZE, SS_POS, SS_FD, SS_TICKS, SS_LOCK, SS_ATTR}
-use Rattle.file_laws.specs.Causes.{FileCause, LacksMode, NeedsByte, Sizes, bad_address, bad_number, cannot_grow, deadlock, end_of_file, first_byte, locked, no_status, not_owned, path_mode, size_written}
-use Rattle.file_laws.specs.Claims.{CanRead, CanWrite, Claims, Made, Names, read_call}
+use Rattle.file_laws.specs.Causes.{FileCause, FileCallLacksMode, NeedsByte, Sizes, bad_address, bad_number, cannot_grow, deadlock, end_of_file, first_byte, locked, no_status, not_owned, path_mode, size_written}
+use Rattle.file_laws.specs.Claims.{CanRead, CanWrite, Claims, MadePathCall, NamesOpenFile, read_call}
 use Rattle.file_laws.specs.Devices.{IsOnNoFile, device_call}
 use Rattle.file_laws.proofs.Caused.{StepCaused, caused-done, caused-needs, caused-refused, caused-refuses, caused-tests, is_nothing, not-is}
 use Rattle.file_laws.proofs.LockCauses.{closes-cycle, locked-out}
@@ -55,13 +55,13 @@ use Rattle.file_laws.proofs.OnNumbers.{above-none, is-so, there-is}
 use Rattle.file_laws.proofs.Splits.{not-refused}
 
 -- a call, as it is made
-abbrev pub made : PathCall → Asker → Files → ℕ → Made
+abbrev pub made : PathCall → Asker → Files → ℕ → MadePathCall
 made call asker files terms = record { call = call; asker = asker; files = files; terms = terms }
 
 not-kept : (pending : PendingCall) (number : ℕ) → keeps pending ≡ fails number → ⊥
 not-kept pending number is = cc
 
-module _ (m : Made) where
+module _ (m : MadePathCall) where
   abbrev C : FileStep → Type 0
   C step = StepCaused m step
 
@@ -77,7 +77,7 @@ module _ (m : Made) where
       by_file None other holds = other refl
       by_file (Some found) other holds = holds found refl
 
-  module _ (found : OpenFile) (names : Names m found) where
+  module _ (found : OpenFile) (names : NamesOpenFile m found) where
     -- a request: the call goes on, is refused or waits
     asks-caused : (claim : Claim) → Claims m.call m.asker m.files found claim → (next : FileStep) → C next
         → (grant : Grant) → answer_to m.asker m.files (request_now m.asker m.files found claim) ≡ grant
@@ -91,7 +91,7 @@ module _ (m : Made) where
 
     -- the mode is tested, and then bytes are moved
     moves : (is_allowed : ℕ → Bool) (next : FileStep) → (is_allowed found.opened.desc.mode ≡ false
-        → LacksMode m.call m.asker found) → (is_allowed found.opened.desc.mode ≡ true → 0 < m.asker.caller.regs.y
+        → FileCallLacksMode m.call m.asker found) → (is_allowed found.opened.desc.mode ≡ true → 0 < m.asker.caller.regs.y
         → C next) → C (moves_bytes m.asker m.files found is_allowed next)
     moves is_allowed next lacks holds =
         caused-tests m (not (is_allowed found.opened.desc.mode)) E_BMODE (if m.asker.caller.regs.y == 0 then done m.asker.caller.regs m.files else next)
@@ -179,7 +179,7 @@ module _ (m : Made) where
     send : (code : ℕ) (bytes : List ℕ) → (CanWrite m.asker found → Claims m.call m.asker m.files found
         (write_claim found code (length bytes))) → (0 < m.asker.caller.regs.y → (size : ℕ) → size ≡ size_written
         m.asker m.files found bytes → Sizes m.call m.asker m.files found size)
-        → (can_write found.opened.desc.mode ≡ false → LacksMode m.call m.asker found)
+        → (can_write found.opened.desc.mode ≡ false → FileCallLacksMode m.call m.asker found)
         → C (sends_bytes m.asker m.files found code bytes)
     send code bytes claims asks lacks =
         moves can_write (writes_bytes m.asker m.files found code bytes (count_regs m.asker.caller (length bytes)))
@@ -239,7 +239,7 @@ module _ (asker : Asker) (files : Files) (terms : ℕ) where
 
   no-path : (opened : Option OpenPath) → open_path files.io asker.caller.process.0 asker.caller.regs.a ≡ opened
       → (it : IoEffect) (old new : List TerminalState) (number : ℕ)
-      → Does (io_needs opened E_BPNUM (λ opened. io_done asker.caller.regs files.io)) asker.caller files.io it old new
+      → IoDoes (io_needs opened E_BPNUM (λ opened. io_done asker.caller.regs files.io)) asker.caller files.io it old new
       → it.end ≡ fails number → FileCause (made Call.Seek asker files terms) number
   no-path None none it old new number (is, same) ended =
       bad_number (sym (same-number E_BPNUM number (sym (ap (λ (it : IoEffect). it.end) is) ∙ ended))) refl none
@@ -257,7 +257,7 @@ module _ (asker : Asker) (files : Files) (terms : ℕ) where
 
   -- ---- I$GetStt
 
-  module _ (found : OpenFile) (names : Names (made Call.GetStt asker files terms) found) where
+  module _ (found : OpenFile) (names : NamesOpenFile (made Call.GetStt asker files terms) found) where
     abbrev G : FileStep → Type 0
     G step = StepCaused (made Call.GetStt asker files terms) step
 
@@ -318,7 +318,7 @@ module _ (asker : Asker) (files : Files) (terms : ℕ) where
 
   -- ---- I$SetStt
 
-  module _ (found : OpenFile) (names : Names (made Call.SetStt asker files terms) found) where
+  module _ (found : OpenFile) (names : NamesOpenFile (made Call.SetStt asker files terms) found) where
     size : (asker.caller.regs.b == SS_SIZE) ≡ true → StepCaused (made Call.SetStt asker files terms) (sets_size asker files found)
     size is =
         caused-tests (made Call.SetStt asker files terms) (not (can_write found.opened.desc.mode)) E_BMODE _

@@ -32,7 +32,7 @@ use Rattle.file_rules.specs.declared.status.TheConstants.{SS_SIZE}
 use Rattle.file_laws.proofs.Steps.{IsFound}
 use Rattle.file_laws.proofs.Splits.{IsDeviceStep}
 use Rattle.lock_model.specs.Laws.{Covers}
-use Rattle.file_laws.specs.Claims.{CoversCall, Made, Names, Requests}
+use Rattle.file_laws.specs.Claims.{CoversCall, MadePathCall, NamesOpenFile, Requests}
 use Rattle.file_laws.specs.Recorded.{EndsLock, IsGranted, IsSent, IsTaken, path_in}
 
 -- a file of this number is in the volume of a drive, and is a directory
@@ -48,7 +48,7 @@ abbrev pub is_of_lock : ℕ → Bool
 is_of_lock number = (number == E_LOCK) || (number == E_DEADLK)
 
 module _ (call : PathCall) (asker : Asker) (files : Files) (terms : ℕ) where
-  abbrev pub made : Made
+  abbrev pub made : MadePathCall
   made = record { call = call; asker = asker; files = files; terms = terms }
 
   -- ---- what is left
@@ -77,7 +77,7 @@ module _ (call : PathCall) (asker : Asker) (files : Files) (terms : ℕ) where
     held : (request : Request) (kind : ReadKind) (bytes : List ℕ) (granted : IsGranted made request)
         → IsTaken made granted.requests.found request kind bytes → IsAnswered it
         → it.files.records ≡ holding files.records (path_in granted) (lock_by kind request.lock bytes) bytes → LeftSo it
-    ended : (found : OpenFile) → Names made found → EndsLock made found → IsAnswered it
+    ended : (found : OpenFile) → NamesOpenFile made found → EndsLock made found → IsAnswered it
         → it.files.records ≡ without_lock files.records found.opened.path.0 → LeftSo it
     waited : (request : Request) → Requests made request → answer_to asker files request ≡ Wait
         → it ≡ leaves (keeps (call_of request)) (waiting_in files request) → LeftSo it

@@ -18,7 +18,7 @@ use Rattle.file_rules.specs.Step.{Deed, DoesDeed, FileDoes, FileEffect, FileStep
 use Rattle.file_rules.specs.declared.path_call.PathCall.{PathCall}
 use Rattle.file_rules.specs.declared.path_call.PathCall.TheVariants as Call
 use Rattle.file_laws.specs.Attempt.{Attempt, asker_in, made_in}
-use Rattle.file_laws.specs.Claims.{Made}
+use Rattle.file_laws.specs.Claims.{MadePathCall}
 use Rattle.file_laws.proofs.Requests.{forgets-again, freed-settled, over-drops}
 use Rattle.file_laws.specs.Recorded.{EndsLock, IsSent, RecordsCome, path_in}
 use Rattle.file_laws.proofs.ClaimNames.{chgdir-claimed, create-claimed, delete-claimed, deletx-claimed, makdir-claimed, open-claimed}
@@ -46,7 +46,7 @@ claimed Call.Close asker files terms = close-claimed asker files terms
 claimed Call.PErr asker files terms = perr-claimed asker files terms
 
 module _ (call : PathCall) (asker : Asker) (files : Files) (terms : ℕ) where
-  abbrev m : Made
+  abbrev m : MadePathCall
   m = made call asker files terms
 
   abbrev p : ℕ

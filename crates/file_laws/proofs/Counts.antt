@@ -4,19 +4,19 @@ use Rattle.std.proofs.lemmas.Bool.{cases_eq}
 use Rattle.std.proofs.lemmas.List.{length-set}
 use Rattle.rbf_model.specs.Volume.{DiskVolume}
 use Rattle.io_model.specs.Io.{Io}
-use Rattle.file_rules.specs.Files.{Files, DriveState, NoneFailed, volume_at, with_directories_of, with_drives, with_io, with_volume, with_records}
+use Rattle.file_rules.specs.Files.{Files, DriveState, KeepsDriveFaults, volume_at, with_directories_of, with_drives, with_io, with_volume, with_records}
 use Rattle.lock_model.specs.Records.{Records}
 use Rattle.file_rules.specs.declared.places.Directories.{Directories}
 use Rattle.file_laws.specs.Kinds.{AreKinds}
-use Rattle.file_laws.specs.Mounted.{AreAsMany}
+use Rattle.file_laws.specs.Mounted.{KeepsMountedDrives}
 use Rattle.file_laws.proofs.Kept.{AreOn, directory_in, kinds-directories, kinds-io, volume-new, volume-other, kinds-records}
 use Rattle.file_laws.specs.Kinds.{IsOfKind}
 use Rattle.lock_model.specs.declared.place.FilePlace.{FilePlace}
 
-pub many-same : (files : Files) → AreAsMany files files
+pub many-same : (files : Files) → KeepsMountedDrives files files
 many-same files = record { drives = refl; directories = refl; volumes = refl; mounted = λ drive. refl }
 
-pub many-then : (first second third : Files) → AreAsMany first second → AreAsMany second third → AreAsMany first third
+pub many-then : (first second third : Files) → KeepsMountedDrives first second → KeepsMountedDrives second third → KeepsMountedDrives first third
 many-then first second third one two = record {
   drives = two.drives ∙ one.drives;
   directories = two.directories ∙ one.directories;
@@ -24,10 +24,10 @@ many-then first second third one two = record {
   mounted = λ drive. two.mounted drive ∙ one.mounted drive;
 }
 
-pub many-io : (files : Files) (io : Io) → AreAsMany files (with_io files io)
+pub many-io : (files : Files) (io : Io) → KeepsMountedDrives files (with_io files io)
 many-io files io = record { drives = refl; directories = refl; volumes = refl; mounted = λ drive. refl }
 
-pub many-directories : (files : Files) (p : ℕ) (directories : Directories) → AreAsMany files (with_directories_of files p directories)
+pub many-directories : (files : Files) (p : ℕ) (directories : Directories) → KeepsMountedDrives files (with_directories_of files p directories)
 many-directories files p directories = record {
   drives = refl;
   directories = length-set files.directories p directories;
@@ -35,10 +35,10 @@ many-directories files p directories = record {
   mounted = λ drive. refl;
 }
 
-pub many-drives : (files : Files) (drives : List DriveState) → length drives ≡ length files.drives → AreAsMany files (with_drives files drives)
+pub many-drives : (files : Files) (drives : List DriveState) → length drives ≡ length files.drives → KeepsMountedDrives files (with_drives files drives)
 many-drives files drives same = record { drives = same; directories = refl; volumes = refl; mounted = λ drive. refl }
 
-pub many-volume : (files : Files) (drive : ℕ) (v w : DiskVolume) → volume_at files drive ≡ Some v → AreAsMany files (with_volume files drive w)
+pub many-volume : (files : Files) (drive : ℕ) (v w : DiskVolume) → volume_at files drive ≡ Some v → KeepsMountedDrives files (with_volume files drive w)
 many-volume files drive v w is = record {
   drives = refl;
   directories = refl;
@@ -51,14 +51,14 @@ many-volume files drive v w is = record {
         ap is_some (ap (volume_at (with_volume files drive w)) same ∙ volume-new files drive v w is) ∙ sym (ap is_some (ap (volume_at files) same ∙ is))
     by_drive other (inr apart) = ap is_some (volume-other files drive v w is other apart)
 
-pub none-many : (old new : List DriveState) → NoneFailed old new → length new ≡ length old
+pub none-many : (old new : List DriveState) → KeepsDriveFaults old new → length new ≡ length old
 none-many old new none = ap (λ (drives : List DriveState). length drives) none
 
 -- ---- both: what paths and directories are on, and how many there are
 
 pub record Stands (old new : Files) : Type 0 where
   pub kinds : AreKinds new
-  pub many : AreAsMany old new
+  pub many : KeepsMountedDrives old new
 
 module _ (files : Files) (kinds : AreKinds files) where
   pub stands-same : Stands files files

@@ -23,7 +23,7 @@ use Rattle.file_rules.specs.Files.{Asker, Files, OpenFile, open_file, open_file_
 use Rattle.file_rules.specs.declared.path_call.PathCall.{PathCall}
 use Rattle.lock_model.specs.declared.place.FilePlace.{FilePlace}
 use Rattle.file_laws.specs.Devices.{IsDevice, number_in}
-use Rattle.file_laws.specs.Touch.{BeginsPath, KeepsCalls, KeepsIo, KeepsPaths, LeavesDevices, MovesPosition, PathsMove, SetsTicks}
+use Rattle.file_laws.specs.Touch.{BeginsPath, KeepsCalls, KeepsIo, KeepsPaths, TouchesNoDevice, MovesPosition, PathsMove, SetsTicks}
 
 -- ---- calls that wait
 
@@ -317,7 +317,7 @@ stays call asker files paths (inr (inr (inl sets))) = stay-ticks call asker file
 stays call asker files paths (inr (inr (inr begins))) = stay-path call asker files paths begins
 
 pub io-kept : {call : PathCall} {now : TimePacket} (processes : Processes) (files : Files) (p : ℕ) (result : CallResult)
-    (new : Files) (before after : List TerminalState) → LeavesDevices call processes files now p result new before after
+    (new : Files) (before after : List TerminalState) → TouchesNoDevice call processes files now p result new before after
     → KeepsIo p files.io new.io
 io-kept {call} {now} processes files p result new before after it = subst (KeepsIo p files.io) (sym it.rest) (record {
   paths = paths-kept p files.io new.io.paths (stays call (asker_of processes p now) files new.io.paths it.paths);

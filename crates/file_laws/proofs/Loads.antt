@@ -7,7 +7,7 @@ use Rattle.proc_model.specs.Fork.{f_fork}
 use Rattle.proc_model.specs.Processes.{Processes}
 use Rattle.proc_model.specs.ModuleLinks.{Entered}
 use Rattle.proc_model.specs.Program.{Program}
-use Rattle.file_rules.specs.Files.{Asker, Files, NoneFailed, with_drives}
+use Rattle.file_rules.specs.Files.{Asker, Files, KeepsDriveFaults, with_drives}
 use Rattle.file_rules.specs.Load.{GoesOnLoaded, LoadAttempts, Loaded, links_first}
 use Rattle.file_rules.specs.Program.{ChainAttempts, ForkAttempts, StartsFile, chains, forks, named_program, starts_first, tests_program}
 use Rattle.file_rules.specs.ProgramFile.{ProgramFile, ReadingIsBroken, ReadsProgram, program_file, reading_of}
@@ -31,8 +31,8 @@ module _ (s : Processes) (step : Step ProgramFile) (next : ProgramFile → Loade
     drives = by_outcome it.outcome;
   })
     where
-      by_outcome : ((reading ≡ reading_of step) × NoneFailed old.drives it.drives) ⊎ ReadingIsBroken step reading
-          old.drives it.drives → NoneFailed old.drives it.drives ⊎ FaultAnswers (drive_of step) old result
+      by_outcome : ((reading ≡ reading_of step) × KeepsDriveFaults old.drives it.drives) ⊎ ReadingIsBroken step reading
+          old.drives it.drives → KeepsDriveFaults old.drives it.drives ⊎ FaultAnswers (drive_of step) old result
           (with_drives old it.drives)
       by_outcome (inl (is, none)) = inl none
       by_outcome (inr broken) =

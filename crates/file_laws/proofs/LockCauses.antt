@@ -11,7 +11,7 @@ use Rattle.lock_model.specs.declared.lock.Request.{Request}
 use Rattle.lock_model.proofs.Chains.{Opposer, opposer-of}
 use Rattle.lock_model.proofs.Longest.{closes-of}
 use Rattle.file_rules.specs.Locking.{answer_to, first_request}
-use Rattle.file_laws.specs.Claims.{ClosesCycle, IsFirst, IsLockedOut, Made, Requests, WaitsNot}
+use Rattle.file_laws.specs.Claims.{ClosesCycle, IsFirstAttempt, IsLockedOut, MadePathCall, Requests, WaitsNot}
 
 granted-locks : Granted ≡ Deadlock → ⊥
 granted-locks is = cc
@@ -86,7 +86,7 @@ later-tests true false is = absurd (waits-locked is)
 
 -- ---- the answer of an attempt
 
-module _ (m : Made) where
+module _ (m : MadePathCall) where
   abbrev locks : Locks
   locks = m.files.records.locks
 
@@ -94,13 +94,13 @@ module _ (m : Made) where
   p = m.asker.caller.process.0
 
   -- at a first attempt the answer is the first one
-  pub at-first : (request : Request) → IsFirst m → answer_to m.asker m.files request ≡ first_answer locks request
+  pub at-first : (request : Request) → IsFirstAttempt m → answer_to m.asker m.files request ≡ first_answer locks request
   at-first request none =
       ap (λ (kept : Option Request). if is_none kept then first_answer locks request else later_answer locks m.asker.tick request) none
 
   pub closes-cycle : (request : Request) → Requests m request → answer_to m.asker m.files request ≡ Deadlock → ClosesCycle m
   closes-cycle request requests answer =
-      let first : IsFirst m = first-alone locks p m.asker.tick request (request_of locks p) answer in
+      let first : IsFirstAttempt m = first-alone locks p m.asker.tick request (request_of locks p) answer in
       let (ticks, closes) = deadlocked locks request (sym (at-first request first) ∙ answer) in
       record { request = request; requests = requests; first = first; waits = ticks; closes = closes }
 

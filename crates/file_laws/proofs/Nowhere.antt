@@ -10,8 +10,8 @@ use Rattle.io_model.specs.PathList.{PathList, ends_in_dots, has_slash_behind_dev
 use Rattle.file_rules.specs.Files.{directory_of, volume_at}
 use Rattle.file_rules.specs.Route.{along, is_root, nowhere, to_device, route_by, route_from, route_of, route_of_device, route_on_drive, route_to_new}
 use Rattle.lock_model.specs.declared.place.FilePlace.{FilePlace}
-use Rattle.file_laws.specs.Causes.{FileCause, IsNoDrive, Leads, LeadsNowhere, device_in, dots, executes, leads_nowhere, makes_new, no_device, no_directory, not_mounted, root, slash}
-use Rattle.file_laws.specs.Claims.{Made}
+use Rattle.file_laws.specs.Causes.{FileCause, IsNoDrive, ListHasRoute, LeadsNowhere, device_in, dots, executes, leads_nowhere, makes_new, no_device, no_directory, not_mounted, root, slash}
+use Rattle.file_laws.specs.Claims.{MadePathCall}
 
 same-nowhere : (n m : ℕ) → nowhere n ≡ nowhere m → m ≡ n
 same-nowhere n m is = cc
@@ -22,7 +22,7 @@ along-nowhere place names number is = cc
 device-nowhere : (number : ℕ) → to_device ≡ nowhere number → ⊥
 device-nowhere number is = cc
 
-module _ (m : Made) (list : PathList) (number : ℕ) where
+module _ (m : MadePathCall) (list : PathList) (number : ℕ) where
   abbrev Why : Type 0
   Why = LeadsNowhere m list number
 
@@ -66,9 +66,9 @@ module _ (m : Made) (list : PathList) (number : ℕ) where
   by-call true makes is = by-new makes (ends_in_dots list) (is_root m.files m.terms list) refl refl is
   by-call false makes is = by-name list.device refl is
 
-pub nowhere-why : (m : Made) (number : ℕ) (leads : Leads m (nowhere number)) → LeadsNowhere m leads.list number
+pub nowhere-why : (m : MadePathCall) (number : ℕ) (leads : ListHasRoute m (nowhere number)) → LeadsNowhere m leads.list number
 nowhere-why m number leads = by-call m leads.list number (makes_new m.call) refl leads.is
 
-pub nowhere-caused : (m : Made) (number : ℕ) → Leads m (nowhere number) → FileCause m number
+pub nowhere-caused : (m : MadePathCall) (number : ℕ) → ListHasRoute m (nowhere number) → FileCause m number
 nowhere-caused m number leads =
     leads_nowhere leads.list leads.reads leads.read (nowhere-why m number leads)

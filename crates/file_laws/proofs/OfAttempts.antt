@@ -11,8 +11,8 @@ use Rattle.file_rules.specs.Files.{open_file}
 use Rattle.file_rules.specs.Route.{to_device}
 use Rattle.file_rules.specs.declared.path_call.PathCall.{PathCall}
 use Rattle.file_rules.specs.declared.path_call.PathCall.TheVariants as Call
-use Rattle.file_laws.specs.Attempt.{Attempt, HasList, IsAsOnDevice, IsOnNumber, IsWithoutFiles, OnDevice, TouchesNone, Waits, WaitsOnRecord, asker_in, regs_in, route_to_create, route_to_open}
-use Rattle.file_laws.specs.Devices.{IsDevice, IsOnDevice, IsOnNoFile, device_call}
+use Rattle.file_laws.specs.Attempt.{Attempt, HasList, IsAsOnDevice, IsOnNumber, IsWithoutFiles, OnDevice, TouchesNone, AttemptWaits, WaitsOnRecord, asker_in, regs_in, route_to_create, route_to_open}
+use Rattle.file_laws.specs.Devices.{IsDevice, DeviceAttempted, IsOnNoFile, device_call}
 use Rattle.file_laws.proofs.TouchAttempts.{attempt-splits}
 use Rattle.file_laws.proofs.Bare.{agreed-attempt, bare-attempt}
 use Rattle.file_laws.proofs.Lists.{create-agrees, open-agrees}
@@ -37,7 +37,7 @@ module _ (it : Attempt) where
   pub again-of : (n : ℕ) (opened : OpenPath) → IsOnNumber it n → open_path it.files.io it.process n ≡ Some opened → IsDevice opened.desc.target → OnDevice it
   again-of n opened on is device = number-of n on (device-no-file it.files it.process n opened is device)
 
-  pub waits-of : IsSome (pending_at it.new.io it.process) → Waits it ⊎ WaitsOnRecord it
+  pub waits-of : IsSome (pending_at it.new.io it.process) → AttemptWaits it ⊎ WaitsOnRecord it
   waits-of some =
       let (kept, is) = some-of (pending_at it.new.io it.process) some in
       file-waits it.call it.processes it.files it.now it.process it.result it.new it.before it.after it.attempted kept is
@@ -50,7 +50,7 @@ module _ (it : Attempt) where
   -- what it is as an attempt of this call
   abbrev Theirs : PathCall → Type 0
   Theirs call =
-      IsOnDevice call it.processes it.files it.process it.result it.new it.before it.after × IsOnNoFile call (asker_in it) it.files (length it.before)
+      DeviceAttempted call it.processes it.files it.process it.result it.new it.before it.after × IsOnNoFile call (asker_in it) it.files (length it.before)
 
   module _ (list : PathList) (read : HasList it list) where
     pub open-of : it.call ≡ Call.Open → route_to_open it list ≡ to_device → OnDevice it

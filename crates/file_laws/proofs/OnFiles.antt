@@ -28,7 +28,7 @@ use Rattle.io_model.specs.Step.{IoStep, answers}
 use Rattle.io_model.specs.Write.{i_write as writes_device, i_writln as writes_device_line, f_perr as tells_device, error_line}
 use Rattle.io_model.specs.declared.modes.TheConstants.{STANDARD_ERROR}
 use Rattle.io_model.specs.declared.status.TheConstants.{SS_OPT, SS_READY, SS_EOF, OPTION_BYTES}
-use Rattle.file_rules.specs.Change.{Change, Makes, MayLeave, writes, sizes, sets_attributes}
+use Rattle.file_rules.specs.Change.{Change, AppliesChange, ChangeMayLeave, writes, sizes, sets_attributes}
 use Rattle.file_rules.specs.Files.{Files, Asker, OpenFile, open_file, with_io, with_position, with_records, with_ticks}
 use Rattle.file_rules.specs.OnFile.{by_kind, moves_bytes, on_file}
 use Rattle.file_rules.specs.Read.{answers_bytes, bytes_at, i_read, i_readln, lock_by, read_claim, read_start, reads_at, reads_file, reads_freely, reads_locked, reads_on}
@@ -121,8 +121,8 @@ module _ (asker : Asker) (files : Files) (kinds : AreKinds files) where
     -- ---- changes of the file
 
     change-on : (change : Change) (size : ℕ) (regs : Regs) (io : Io) (records : Records) → AreKinds (with_io files io)
-        → ((was now : DiskVolume) (number : ℕ) → Makes change asker.user asker.now was now number → AllStill was now)
-        → ((was left : DiskVolume) → MayLeave change asker.user asker.now was left → AllStill was left)
+        → ((was now : DiskVolume) (number : ℕ) → AppliesChange change asker.user asker.now was now number → AllStill was now)
+        → ((was left : DiskVolume) → ChangeMayLeave change asker.user asker.now was left → AllStill was left)
         → KeptOn asker files opened.place.drive (changes_file opened change size regs (with_records (with_io files io)
         records))
     change-on change size regs io records after made left =

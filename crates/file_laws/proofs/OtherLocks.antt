@@ -10,11 +10,11 @@ use Rattle.file_rules.specs.declared.path_call.PathCall.{PathCall}
 use Rattle.file_rules.specs.declared.path_call.PathCall.TheVariants as Call
 use Rattle.file_rules.specs.declared.status.TheConstants.{SS_LOCK, SS_SIZE}
 use Rattle.file_laws.specs.Attempt.{Attempt, made_in}
-use Rattle.file_laws.specs.Claims.{Claims, Made, read_call}
+use Rattle.file_laws.specs.Claims.{Claims, MadePathCall, read_call}
 use Rattle.file_laws.specs.Recorded.{EndsLock, RecordsCome, may_change_locks, settled}
 use Rattle.file_laws.proofs.Claimed.{records-come}
 
-module _ (m : Made) where
+module _ (m : MadePathCall) where
   abbrev code : ℕ
   code = m.asker.caller.regs.b
 

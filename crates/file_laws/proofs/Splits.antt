@@ -12,7 +12,7 @@ use Rattle.lock_model.specs.declared.lock.Grant.{Grant}
 use Rattle.lock_model.specs.declared.lock.Grant.TheVariants.{Granted, Locked, Deadlock, Wait}
 use Rattle.rbf_model.specs.Volume.{DiskVolume}
 use Rattle.rbf_model.specs.Walk.{WalkEnd, arrives, not_allowed, not_found, walk}
-use Rattle.io_model.specs.Attempts.{Does, io_step, pending_in}
+use Rattle.io_model.specs.Attempts.{IoDoes, io_step, pending_in}
 use Rattle.io_model.specs.Io.{OpenPath, open_path, with_paths}
 use Rattle.io_model.specs.PathList.{PathList}
 use Rattle.io_model.specs.Step.{IoEffect, IoStep, answers, comes as io_comes, fails, keeps}
@@ -28,7 +28,7 @@ use Rattle.file_rules.specs.declared.path_call.PathCall.{PathCall}
 use Rattle.file_rules.specs.declared.path_call.PathCall.TheVariants as Call
 use Rattle.file_rules.specs.declared.places.Directories.{Directories}
 use Rattle.lock_model.specs.declared.place.FilePlace.{FilePlace}
-use Rattle.file_laws.specs.Claims.{Claims, Made, Requests}
+use Rattle.file_laws.specs.Claims.{Claims, MadePathCall, Requests}
 use Rattle.file_laws.specs.Devices.{IsOnNoFile, device_call, number_in}
 use Rattle.file_laws.specs.Touch.{IsTicks, PathsMove, may_change_volume, moves_position}
 
@@ -143,7 +143,7 @@ module _ (call : PathCall) (asker : Asker) (files : Files) (terms : ℕ) where
     pub terminals : new ≡ old
 
   abbrev pub IsStill : IoStep → Type 0
-  IsStill step = (it : IoEffect) (old new : List TerminalState) → Does step asker.caller files.io it old new → DoesNothing it old new
+  IsStill step = (it : IoEffect) (old new : List TerminalState) → IoDoes step asker.caller files.io it old new → DoesNothing it old new
 
   -- a change of the volume of the drive that was reached is answered
   pub record Answers (reached : Option ℕ) (it : VolumeChange) : Type 0 where
@@ -173,7 +173,7 @@ module _ (call : PathCall) (asker : Asker) (files : Files) (terms : ℕ) where
     pub same : it ≡ with_records_after (on_files asker.caller.process.0 files effect) records
     pub on : IsOnNoFile call asker files terms
 
-  abbrev pub made : Made
+  abbrev pub made : MadePathCall
   made = record { call = call; asker = asker; files = files; terms = terms }
 
   -- it waits for a record of the file that its number names

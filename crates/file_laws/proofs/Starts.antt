@@ -22,12 +22,12 @@ use Rattle.io_model.specs.Io.{Io, first_paths, new_desc}
 use Rattle.io_model.specs.Waiting.{io_interrupted, wait_target, without_unfinished}
 use Rattle.io_model.specs.Processes.{io_ended, io_started}
 use Rattle.file_rules.specs.Files.{Files, DriveState, directories_at, directory_of, no_directories, volume_at, with_io, with_volume}
-use Rattle.file_rules.specs.Processes.{StartsOn, directory_in_root, files_ended, files_started, first_directories, first_files, io_left, without_locks_of}
+use Rattle.file_rules.specs.Processes.{StartsWithImages, directory_in_root, files_ended, files_started, first_directories, first_files, io_left, without_locks_of}
 use Rattle.file_rules.specs.Locking.{files_interrupted}
 use Rattle.file_rules.specs.Route.{root_of}
 use Rattle.lock_model.specs.declared.place.FilePlace.{FilePlace}
 use Rattle.file_laws.specs.Kinds.{IsOfKind, AreKinds}
-use Rattle.file_laws.specs.Mounted.{AreAsMany}
+use Rattle.file_laws.specs.Mounted.{KeepsMountedDrives}
 use Rattle.file_laws.proofs.Counts.{many-directories, many-io, many-then}
 use Rattle.file_laws.proofs.Kept.{AreOn, directory_in, file_of, kind-same, kinds-directories, kinds-io, kinds-records, none-in, on-by}
 use Rattle.file_laws.proofs.Paths.{on-begin, on-dup, on-ended}
@@ -63,13 +63,13 @@ kinds-interrupted files p kinds =
     kinds-records (with_io files (io_interrupted files.io p)) (kinds-same files (io_interrupted files.io p)
     (paths-unfinished files.io p (wait_target files.io p)) kinds) (with_waiting files.records p None)
 
-pub many-started : (files : Files) (parent child : ℕ) → AreAsMany files (files_started files parent child)
+pub many-started : (files : Files) (parent child : ℕ) → KeepsMountedDrives files (files_started files parent child)
 many-started files parent child =
     many-then files (with_io files (io_started files.io parent child)) (files_started files parent child)
     (many-io files (io_started files.io parent child))
     (many-directories (with_io files (io_started files.io parent child)) child (directories_at files parent))
 
-pub many-ended : (files : Files) (p : ℕ) → AreAsMany files (files_ended files p)
+pub many-ended : (files : Files) (p : ℕ) → KeepsMountedDrives files (files_ended files p)
 many-ended files p =
     record { drives = refl; directories = length-set files.directories p no_directories; volumes = refl; mounted = λ drive. refl }
 
@@ -166,7 +166,9 @@ module _ (images : List (List ℕ)) (volumes : List DiskVolume) (drives : List D
   directories-first (Some v) is true place at =
       by_cmds (directory_in_root v (root_of 0 v) (codes "CMDS")) refl at
     where
-      by_cmds : (cmds : Option FilePlace) → directory_in_root v (root_of 0 v) (codes "CMDS") ≡ cmds → option_map_or (λ (place : FilePlace). Some place) cmds (Some (root_of 0 v)) ≡ Some place → IsOfKind First place true
+      by_cmds : (cmds : Option FilePlace) → directory_in_root v (root_of 0 v) (codes "CMDS") ≡ cmds
+          → option_map_or (λ (place : FilePlace). Some place) cmds (Some (root_of 0 v)) ≡ Some place
+          → IsOfKind First place true
       by_cmds None at here = subst (λ (place : FilePlace). IsOfKind First place true) (same_Some (root_of 0 v) place here) (root-first v is)
       by_cmds (Some cmds) at here = cmds-first v (codes "CMDS") place is (at ∙ here)
 
@@ -195,7 +197,7 @@ module _ (images : List (List ℕ)) (volumes : List DiskVolume) (drives : List D
           let is : directories_at First p ≡ no_directories = get_or-set_other (replicate 33 no_directories) 2 p (first_directories (slice_get volumes 0)) no_directories apart ∙ none p in
           absurd (none-in execute place (sym (ap (directory_in execute) is) ∙ at))
 
-pub kinds-start : (images : List (List ℕ)) (drives : List DriveState) (files : Files) → StartsOn images drives files → AreKinds files
+pub kinds-start : (images : List (List ℕ)) (drives : List DriveState) (files : Files) → StartsWithImages images drives files → AreKinds files
 kinds-start images drives files it = subst AreKinds (sym it.is) (first-kinds images it.volumes drives it.mounted)
 
 -- ---- a volume that is mounted in an empty drive

@@ -11,13 +11,13 @@ use Rattle.rbf_model.specs.Volume.{DiskVolume}
 use Rattle.rbf_model.specs.Walk.{WalkEnd, arrives, not_allowed, not_found, walk}
 use Rattle.io_model.specs.PathList.{PathList}
 use Rattle.io_model.specs.Step.{IoStep}
-use Rattle.file_rules.specs.Change.{Makes, MayLeave}
+use Rattle.file_rules.specs.Change.{AppliesChange, ChangeMayLeave}
 use Rattle.file_rules.specs.Files.{Files, Asker, DriveState, volume_at, with_drives, with_io, with_volume}
 use Rattle.file_rules.specs.Step.{Step, refused, comes, reaches, needs, refuses, drive_of, FileEffect, FileStep, VolumeChange, Deed, leaves_so, as_io, changes, deed_of, refuses_so, DoesDeed, MayBeLeft, FileDoes}
 use Rattle.file_rules.specs.Route.{Found, reads_list, walk_ends, walks}
 use Rattle.lock_model.specs.declared.place.FilePlace.{FilePlace}
 use Rattle.file_laws.specs.Kinds.{AreKinds}
-use Rattle.file_laws.specs.Mounted.{AreAsMany}
+use Rattle.file_laws.specs.Mounted.{KeepsMountedDrives}
 use Rattle.io_model.specs.Step.{keeps}
 use Rattle.file_rules.specs.Step.{leaves}
 use Rattle.file_rules.specs.Locking.{answer_to, asks, asks_by, call_of, waiting_in}
@@ -94,10 +94,10 @@ module _ (asker : Asker) (files : Files) where
     pub on-leaves : (drive : ℕ) (it : FileEffect) → Stands files it.files → KeptOn drive (comes (leaves_so it))
     on-leaves drive it kept = record { well = leaves-well it kept; broken = same-volume drive }
 
-    pub on-changes : (it : VolumeChange) → ((number : ℕ) → AreAsMany files (it.effect number).files)
-        → ((was now : DiskVolume) (number : ℕ) → volume_at files it.drive ≡ Some was → Makes it.change asker.user
+    pub on-changes : (it : VolumeChange) → ((number : ℕ) → KeepsMountedDrives files (it.effect number).files)
+        → ((was now : DiskVolume) (number : ℕ) → volume_at files it.drive ≡ Some was → AppliesChange it.change asker.user
         asker.now was now number → AreKinds (with_volume (it.effect number).files it.drive now))
-        → ((was left : DiskVolume) → volume_at files it.drive ≡ Some was → MayLeave it.change asker.user asker.now was
+        → ((was left : DiskVolume) → volume_at files it.drive ≡ Some was → ChangeMayLeave it.change asker.user asker.now was
         left → AreKinds (with_volume files it.drive left)) → KeptOn it.drive (comes (changes it))
     on-changes it many made left = record {
       well = well;
@@ -105,7 +105,7 @@ module _ (asker : Asker) (files : Files) where
     }
       where
         -- the volume is changed beside what is left
-        changed : (was now : DiskVolume) (number : ℕ) → volume_at files it.drive ≡ Some was → AreAsMany files (with_volume (it.effect number).files it.drive now)
+        changed : (was now : DiskVolume) (number : ℕ) → volume_at files it.drive ≡ Some was → KeepsMountedDrives files (with_volume (it.effect number).files it.drive now)
         changed was now number is =
             let beside = volume-of (volume_at (it.effect number).files it.drive) ((many number).mounted it.drive ∙ ap is_some is) in
             many-then files (it.effect number).files (with_volume (it.effect number).files it.drive now) (many number) (many-volume (it.effect number).files it.drive beside.0 now beside.1)
@@ -171,7 +171,7 @@ module _ (asker : Asker) (files : Files) where
         by_end v is not_found = on-refused place.drive E_PNNF
 
     -- an attempt, where as many drives are there as before
-    many-drives-of : (left : Files) → AreAsMany files left → (drives : List DriveState) → length drives ≡ length files.drives → AreAsMany files (with_drives left drives)
+    many-drives-of : (left : Files) → KeepsMountedDrives files left → (drives : List DriveState) → length drives ≡ length files.drives → KeepsMountedDrives files (with_drives left drives)
     many-drives-of left many drives same = record {
       drives = same;
       directories = many.directories;

@@ -21,7 +21,7 @@ use Rattle.file_rules.specs.Files.{Asker, Files, place_of_target}
 use Rattle.file_rules.specs.declared.path_call.PathCall.{PathCall}
 use Rattle.lock_model.specs.declared.place.FilePlace.{FilePlace}
 use Rattle.file_laws.specs.Devices.{number_in}
-use Rattle.file_laws.specs.Touch.{KeepsTable, LeavesDevices, PathsMove}
+use Rattle.file_laws.specs.Touch.{KeepsTable, TouchesNoDevice, PathsMove}
 use Rattle.file_laws.proofs.Keeps.{begun, begun-numbers, begun-other, desc-within, file-named, free-slot}
 
 -- a test that a list passes is passed at a place
@@ -245,7 +245,7 @@ table-kept call asker files paths (inr (inr (inr it))) =
     subst (KeepsTable files.io.paths) (sym it.is) (table-path asker.caller.process.0 files.io.paths it.target asker.caller.regs.a it.place it.on)
 
 pub paths-kept : {call : PathCall} {now : TimePacket} (processes : Processes) (files : Files) (p : ℕ) (result : CallResult)
-    (new : Files) (old_terms new_terms : List TerminalState) → LeavesDevices call processes files now p result new
+    (new : Files) (old_terms new_terms : List TerminalState) → TouchesNoDevice call processes files now p result new
     old_terms new_terms → KeepsTable files.io.paths new.io.paths
 paths-kept {call} {now} processes files p result new old_terms new_terms it =
     table-kept call (asker_of processes p now) files new.io.paths it.paths

@@ -12,19 +12,19 @@ use Rattle.proc_model.specs.CallResult.{CallResult}
 use Rattle.proc_model.specs.Processes.{Processes}
 use Rattle.lock_model.specs.Records.{Records, with_waiting}
 use Rattle.rbf_model.specs.Volume.{DiskVolume}
-use Rattle.io_model.specs.Attempts.{Does, pending_in, result_by, result_of}
+use Rattle.io_model.specs.Attempts.{IoDoes, pending_in, result_by, result_of}
 use Rattle.io_model.specs.Io.{Io, with_call, with_paths}
 use Rattle.io_model.specs.Step.{IoEffect, IoEnd, IoStep, answers, fails, keeps}
 use Rattle.file_rules.specs.Locking.{records_after}
 use Rattle.file_rules.specs.Attempts.{FileAttempts, asker_of, file_step, files_after, io_effect}
-use Rattle.file_rules.specs.Files.{Files, Asker, DriveState, NoneFailed, OneFailed, directories_at, volume_at, with_drives, with_volume}
+use Rattle.file_rules.specs.Files.{Files, Asker, DriveState, KeepsDriveFaults, OneFailed, directories_at, volume_at, with_drives, with_volume}
 use Rattle.file_rules.specs.Step.{FileEffect, FileStep, Deed, leaves_so, as_io, changes, deed_of, drive_of, refuses_so, on_files, with_drives_after, with_volume_after, DoesDeed, IsBroken, FileDoes, MayBeLeft}
 use Rattle.file_rules.specs.declared.path_call.PathCall.{PathCall}
 use Rattle.file_rules.specs.declared.path_call.PathCall.TheVariants as Call
 use Rattle.io_model.specs.declared.io_call.IoCall.TheVariants as Device
-use Rattle.file_laws.specs.Devices.{IsOnDevice, IsOnNoFile, LocksStay}
+use Rattle.file_laws.specs.Devices.{DeviceAttempted, IsOnNoFile, LocksStay}
 use Rattle.file_laws.specs.Recorded.{RecordsCome}
-use Rattle.file_laws.specs.Touch.{IsOver, LeavesDevices, NoVolumeChanges, OneDriveFails, OneVolumeChanges, PathsMove, RefusalLeaves, WaitsForRecord, made_by, may_change_volume}
+use Rattle.file_laws.specs.Touch.{IsFinalResult, TouchesNoDevice, NoVolumeChanges, OneDriveFails, OneVolumeChanges, PathsMove, RefusalLeaves, WaitsForRecord, made_by, may_change_volume}
 use Rattle.file_laws.proofs.Requests.{KeepsOthers, device-requested, device-settled, forgets-again, freed-settled, keeps-forgotten, keeps-same, over-drops, over-requested}
 use Rattle.file_laws.proofs.Claimed.{effect-comes}
 use Rattle.file_laws.proofs.Splits.{ClosesLock, EndsSo, IsAsDevice, IsDeviceStep, Leaves, Splits, StepSplits, WaitsSo, device-splits, not-refused, refused-leaves, with_records_after}
@@ -58,7 +58,7 @@ ends-refused (answers regs) processes p effect number is = absurd cc
 ends-refused (fails other) processes p effect number is = cc
 ends-refused (keeps pending) processes p effect number is = absurd cc
 
-ends-over : (end : IoEnd) (processes : Processes) (p : ℕ) (effect : IoEffect) → pending_in end ≡ None → IsOver processes p (result_by end processes p effect)
+ends-over : (end : IoEnd) (processes : Processes) (p : ℕ) (effect : IoEffect) → pending_in end ≡ None → IsFinalResult processes p (result_by end processes p effect)
 ends-over (answers regs) processes p effect over =
     inl (record { regs = regs; at = effect.at; bytes = effect.bytes; is = refl })
 ends-over (fails number) processes p effect over = inr (number, refl)
@@ -100,7 +100,7 @@ module _ (call : PathCall) (asker : Asker) (files : Files) (reached : Option ℕ
     pub volumes : NoVolumeChanges files effect.files ⊎ OneVolumeChanges reached files effect.files ⊎ FailsSo effect
     pub refusal : (number : ℕ) → effect.end ≡ fails number → RefusedLeft effect
 
-  module _ (drives : List DriveState) (none : NoneFailed files.drives drives) where
+  module _ (drives : List DriveState) (none : KeepsDriveFaults files.drives drives) where
     left-so : (it : FileEffect) → Leaves call asker files it → Left (with_drives_after it drives)
     left-so it left = record {
       over = left.over;
@@ -214,7 +214,7 @@ module _ (call : PathCall) (processes : Processes) (files : Files) (now : TimePa
   Recorded effect = RecordsCome (made_by call processes files now p (length old)) (files_after p effect).records
 
   abbrev Touching : FileEffect → Type 0
-  Touching effect = Recorded effect → LeavesDevices call processes files now p (result_of processes p (io_effect effect)) (files_after p effect) old new
+  Touching effect = Recorded effect → TouchesNoDevice call processes files now p (result_of processes p (io_effect effect)) (files_after p effect) old new
 
   -- what is left by an attempt that ends with the effect
   left-devices : (effect : FileEffect) → Leaving effect → new ≡ old → Touching effect
@@ -279,7 +279,7 @@ module _ (call : PathCall) (processes : Processes) (files : Files) (now : TimePa
 
   -- it is on a terminal or a pipe, and on no file
   abbrev OnIt : FileEffect → Type 0
-  OnIt effect = IsOnDevice call processes files p (result_of processes p (io_effect effect)) (files_after p effect) old new × IsOnNoFile call asker files (length old)
+  OnIt effect = DeviceAttempted call processes files p (result_of processes p (io_effect effect)) (files_after p effect) old new × IsOnNoFile call asker files (length old)
 
   -- it waits for a record
   abbrev Waiting : FileEffect → Type 0
@@ -289,16 +289,16 @@ module _ (call : PathCall) (processes : Processes) (files : Files) (now : TimePa
   Comes effect = OnIt effect ⊎ Touching effect ⊎ Waiting effect
 
   -- a call on a terminal or a pipe
-  pub on-device : (io : IoStep) (it : IoEffect) (drives : List DriveState) → NoneFailed files.drives drives
-      → IsDeviceStep call asker files (length old) io → Does io asker.caller files.io it old new
-      → IsOnDevice call processes files p (result_of processes p it) (files_after p (with_drives_after (on_files p files it)
+  pub on-device : (io : IoStep) (it : IoEffect) (drives : List DriveState) → KeepsDriveFaults files.drives drives
+      → IsDeviceStep call asker files (length old) io → IoDoes io asker.caller files.io it old new
+      → DeviceAttempted call processes files p (result_of processes p it) (files_after p (with_drives_after (on_files p files it)
       drives)) old new
   on-device io it drives none on does = record {
     device = on.device;
     device_is = on.device_is;
     attempted = record {
       effect = it;
-      does = subst (λ (io : IoStep). Does io asker.caller files.io it old new) on.is does;
+      does = subst (λ (io : IoStep). IoDoes io asker.caller files.io it old new) on.is does;
       result_is = refl;
       state = refl;
     };
@@ -320,7 +320,7 @@ module _ (call : PathCall) (processes : Processes) (files : Files) (now : TimePa
       (over-drops end records p over ∙ ap (λ (records : Records). with_waiting records p None) closes.is ∙ freed-settled files.records closes.opened.path.0 p)
 
   -- what a call on a terminal or a pipe does, but for records
-  as-device : (it : FileEffect) (drives : List DriveState) → NoneFailed files.drives drives → IsAsDevice call asker files (length old) it → new ≡ old → OnIt (with_drives_after it drives)
+  as-device : (it : FileEffect) (drives : List DriveState) → KeepsDriveFaults files.drives drives → IsAsDevice call asker files (length old) it → new ≡ old → OnIt (with_drives_after it drives)
   as-device it drives none device same =
       subst (λ (it : FileEffect). OnIt (with_drives_after it drives)) (sym device.same) (
         record {
@@ -328,7 +328,7 @@ module _ (call : PathCall) (processes : Processes) (files : Files) (now : TimePa
           device_is = device.device_is;
           attempted = record {
             effect = device.effect;
-            does = subst (λ (step : IoStep). Does step asker.caller files.io device.effect old new) (sym device.is) (refl, same);
+            does = subst (λ (step : IoStep). IoDoes step asker.caller files.io device.effect old new) (sym device.is) (refl, same);
             result_is = refl;
             state = refl;
           };
@@ -343,7 +343,7 @@ module _ (call : PathCall) (processes : Processes) (files : Files) (now : TimePa
         device.on,
       )
 
-  waits-so : (it : FileEffect) (drives : List DriveState) → NoneFailed files.drives drives → WaitsSo call asker files (length old) it → new ≡ old → Waiting (with_drives_after it drives)
+  waits-so : (it : FileEffect) (drives : List DriveState) → KeepsDriveFaults files.drives drives → WaitsSo call asker files (length old) it → new ≡ old → Waiting (with_drives_after it drives)
   waits-so it drives none waits same =
       subst (λ (it : FileEffect). Waiting (with_drives_after it drives)) (sym waits.same) (record {
         request = waits.request;
@@ -358,13 +358,13 @@ module _ (call : PathCall) (processes : Processes) (files : Files) (now : TimePa
         terminals = same;
       })
 
-  by-end : (effect : FileEffect) (drives : List DriveState) → NoneFailed files.drives drives → EndsSo call asker files (length old) effect → new ≡ old → Comes (with_drives_after effect drives)
+  by-end : (effect : FileEffect) (drives : List DriveState) → KeepsDriveFaults files.drives drives → EndsSo call asker files (length old) effect → new ≡ old → Comes (with_drives_after effect drives)
   by-end effect drives none (inl left) same =
       inr (inl (left-devices (with_drives_after effect drives) (left-so call asker files reached drives none effect left) same))
   by-end effect drives none (inr (inl device)) same = inl (as-device effect drives none device same)
   by-end effect drives none (inr (inr waits)) same = inr (inr (waits-so effect drives none waits same))
 
-  by-deed : (deed : Deed) (it : FileEffect) (drives : List DriveState) → NoneFailed files.drives drives
+  by-deed : (deed : Deed) (it : FileEffect) (drives : List DriveState) → KeepsDriveFaults files.drives drives
       → Splits call asker files (length old) reached deed → DoesDeed deed asker files it old new
       → Comes (with_drives_after it drives)
   by-deed (leaves_so effect) it drives none ends (is, same) =
@@ -396,11 +396,11 @@ module _ (call : PathCall) (processes : Processes) (files : Files) (now : TimePa
       (fault-still call asker files reached (length old) (deed_of step files) (step-splits call asker files
       (length old)) broken.old broken.left broken.may_be)) same))
 
-  pub does-so : (effect : FileEffect) → FileDoes step asker files effect old new → OnIt effect ⊎ LeavesDevices call
+  pub does-so : (effect : FileEffect) → FileDoes step asker files effect old new → OnIt effect ⊎ TouchesNoDevice call
       processes files now p (result_of processes p (io_effect effect)) (files_after p effect) old new ⊎ Waiting effect
   does-so effect does = by_case (does-comes effect does)
     where
-      by_case : Comes effect → OnIt effect ⊎ LeavesDevices call processes files now p (result_of processes p (io_effect effect)) (files_after p effect) old new ⊎ Waiting effect
+      by_case : Comes effect → OnIt effect ⊎ TouchesNoDevice call processes files now p (result_of processes p (io_effect effect)) (files_after p effect) old new ⊎ Waiting effect
       by_case (inl on) = inl on
       by_case (inr (inl left)) = inr (inl (left (effect-comes call asker files effect old new does)))
       by_case (inr (inr waits)) = inr (inr waits)
@@ -409,26 +409,26 @@ module _ (call : PathCall) (processes : Processes) (files : Files) (now : TimePa
     (new : Files) (before after : List TerminalState) (it : FileAttempts call processes files now p result new before
     after) where
   -- it is on a terminal or a pipe, on no file, or it touches none, or it waits for a record
-  pub attempt-splits : IsOnDevice call processes files p result new before after × IsOnNoFile call (asker_of processes p now)
-      files (length before) ⊎ LeavesDevices call processes files now p result new before after ⊎ WaitsForRecord call processes
+  pub attempt-splits : DeviceAttempted call processes files p result new before after × IsOnNoFile call (asker_of processes p now)
+      files (length before) ⊎ TouchesNoDevice call processes files now p result new before after ⊎ WaitsForRecord call processes
       files now p result new before after
   attempt-splits =
-      subst (λ (result : CallResult). IsOnDevice call processes files p result new before after × IsOnNoFile call
-      (asker_of processes p now) files (length before) ⊎ LeavesDevices call processes files now p result new before after
+      subst (λ (result : CallResult). DeviceAttempted call processes files p result new before after × IsOnNoFile call
+      (asker_of processes p now) files (length before) ⊎ TouchesNoDevice call processes files now p result new before after
       ⊎ WaitsForRecord call processes files now p result new before after) (sym it.result_is)
-      (subst (λ (new : Files). IsOnDevice call processes files p (result_of processes p (io_effect it.effect)) new before
-      after × IsOnNoFile call (asker_of processes p now) files (length before) ⊎ LeavesDevices call processes files now p
+      (subst (λ (new : Files). DeviceAttempted call processes files p (result_of processes p (io_effect it.effect)) new before
+      after × IsOnNoFile call (asker_of processes p now) files (length before) ⊎ TouchesNoDevice call processes files now p
       (result_of processes p (io_effect it.effect)) new before after ⊎ WaitsForRecord call processes files now p
       (result_of processes p (io_effect it.effect)) new before after) (sym it.state)
       (does-so call processes files now p before after it.effect it.does))
 
-  pub attempt-comes : IsOnDevice call processes files p result new before after ⊎ LeavesDevices call processes files now p
+  pub attempt-comes : DeviceAttempted call processes files p result new before after ⊎ TouchesNoDevice call processes files now p
       result new before after ⊎ WaitsForRecord call processes files now p result new before after
   attempt-comes = by_case attempt-splits
     where
-      by_case : IsOnDevice call processes files p result new before after × IsOnNoFile call (asker_of processes p now) files
-          (length before) ⊎ LeavesDevices call processes files now p result new before after ⊎ WaitsForRecord call processes
-          files now p result new before after → IsOnDevice call processes files p result new before after ⊎ LeavesDevices
+      by_case : DeviceAttempted call processes files p result new before after × IsOnNoFile call (asker_of processes p now) files
+          (length before) ⊎ TouchesNoDevice call processes files now p result new before after ⊎ WaitsForRecord call processes
+          files now p result new before after → DeviceAttempted call processes files p result new before after ⊎ TouchesNoDevice
           call processes files now p result new before after ⊎ WaitsForRecord call processes files now p result new before
           after
       by_case (inl on) = inl on.0

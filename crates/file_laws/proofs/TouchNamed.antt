@@ -28,7 +28,7 @@ use Rattle.file_rules.specs.Route.{along, is_root, nowhere, to_device, route_by,
 use Rattle.file_rules.specs.declared.path_call.PathCall.{PathCall}
 use Rattle.file_rules.specs.declared.path_call.PathCall.TheVariants as Call
 use Rattle.lock_model.specs.declared.place.FilePlace.{FilePlace}
-use Rattle.file_laws.specs.Devices.{device_call, takes_number, IsDevice, IsOnDevice, IsOnNoFile, LeadsToDevice}
+use Rattle.file_laws.specs.Devices.{device_call, takes_number, IsDevice, DeviceAttempted, IsOnNoFile, LeadsToDevice}
 use Rattle.file_laws.proofs.TouchAttempts.{on-device}
 
 -- ---- by the number of a path
@@ -97,11 +97,11 @@ module _ (asker : Asker) (files : Files) (terms : ℕ) where
 module _ (call : PathCall) (device : IoCall) (is : device_call call ≡ Some device) (processes : Processes) (files : Files) (now : TimePacket) (p : ℕ) (old new : List TerminalState) where
   pub device-does : (effect : FileEffect)
       → FileDoes (comes (as_io (io_step device (asker_of processes p now).caller files.io (length files.drives)
-      (length old)))) (asker_of processes p now) files effect old new → IsOnDevice call processes files p
+      (length old)))) (asker_of processes p now) files effect old new → DeviceAttempted call processes files p
       (result_of processes p (io_effect effect)) (files_after p effect) old new
   device-does effect (inl well) =
       let (it, does, left) = well.does in
-      subst (λ (effect : FileEffect). IsOnDevice call processes files p (result_of processes p (io_effect effect)) (files_after p effect) old new)
+      subst (λ (effect : FileEffect). DeviceAttempted call processes files p (result_of processes p (io_effect effect)) (files_after p effect) old new)
       (sym (well.effect_is ∙ ap (λ (it : FileEffect). with_drives_after it well.drives) left))
       (on-device call processes files now p old new (io_step device (asker_of processes p now).caller files.io
       (length files.drives) (length old)) it well.drives well.none_failed
@@ -111,15 +111,15 @@ module _ (call : PathCall) (device : IoCall) (is : device_call call ≡ Some dev
   pub step-on-device : (result : CallResult) (left : Files) → FileAttempts call processes files now p result left old new
       → file_step call (asker_of processes p now) files (length old) ≡ comes
       (as_io (io_step device (asker_of processes p now).caller files.io (length files.drives) (length old)))
-      → IsOnDevice call processes files p result left old new
+      → DeviceAttempted call processes files p result left old new
   step-on-device result left it step_is =
-      subst (λ (result : CallResult). IsOnDevice call processes files p result left old new) (sym it.result_is)
-      (subst (λ (left : Files). IsOnDevice call processes files p (result_of processes p (io_effect it.effect)) left old new) (sym it.state)
+      subst (λ (result : CallResult). DeviceAttempted call processes files p result left old new) (sym it.result_is)
+      (subst (λ (left : Files). DeviceAttempted call processes files p (result_of processes p (io_effect it.effect)) left old new) (sym it.state)
       (device-does it.effect (subst (λ (step : FileStep). FileDoes step (asker_of processes p now) files it.effect old new) step_is it.does)))
 
   pub number-on-device : (result : CallResult) (left : Files) → FileAttempts call processes files now p result left old
       new → takes_number device ≡ true → open_file files p (path_number device (regs_at processes p)) ≡ None
-      → IsOnDevice call processes files p result left old new
+      → DeviceAttempted call processes files p result left old new
   number-on-device result left it takes none =
       step-on-device result left it (is-theirs (asker_of processes p now) files (length old) call device is takes none)
 

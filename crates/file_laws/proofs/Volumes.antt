@@ -19,7 +19,7 @@ use Rattle.rbf_model.proofs.Segments.{has_range}
 use Rattle.rbf_model.proofs.Space.{cluster_from_owns}
 use Rattle.rbf_change.specs.Calls.{shape, cluster_size, is_free_in, replaced, changed_attributes, Changes, SizesFile, stays, lengthens, cuts}
 use Rattle.rbf_change.specs.Faults.{MayLose, WriteEnds, SizeEnds, NewFileEnds, DeletionEnds, before, longer, cut, taken, gone}
-use Rattle.rbf_change.specs.NewFiles.{Plan, IsNewFile, Enters, Deletes}
+use Rattle.rbf_change.specs.NewFiles.{Plan, IsNewFile, EntersNewFile, Deletes}
 use Rattle.file_laws.proofs.Kept.{IsStill, Still, AllStill}
 
 -- ---- one file is another
@@ -139,7 +139,7 @@ fresh v n plan file some new old is =
     cluster_of c k n is some = ap (λ (x : ℕ). x / k) is ∙ mul-div_cancel c some
 
 -- the files of a volume into which a new one was put
-pub entered-still : (v w : DiskVolume) (d n : ℕ) (name : List ℕ) (plan : Plan) → 0 < cluster_size v → Enters v w d n name plan → AllStill v w
+pub entered-still : (v w : DiskVolume) (d n : ℕ) (name : List ℕ) (plan : Plan) → 0 < cluster_size v → EntersNewFile v w d n name plan → AllStill v w
 entered-still v w d n name plan some it = subst (AllStill v) (sym it.volume) (record { ident = refl; files = λ m. by_number m (cases_eq m n) })
   where
     by_number : (m : ℕ) → (m ≡ n) ⊎ (m ≡ n → ⊥) → Still v (replaced (replaced v d (Some it.both.new)) n (Some it.both.file)) m
@@ -154,7 +154,7 @@ new-file-still v w d name plan (before same) = all-same v w same
 new-file-still v w d name plan (taken it) = lose-still v w _ it.volume
 
 -- the new file is there
-pub entered-there : (v w : DiskVolume) (d n : ℕ) (name : List ℕ) (plan : Plan) → (it : Enters v w d n name plan) → w.files n ≡ Some it.both.file
+pub entered-there : (v w : DiskVolume) (d n : ℕ) (name : List ℕ) (plan : Plan) → (it : EntersNewFile v w d n name plan) → w.files n ≡ Some it.both.file
 entered-there v w d n name plan it =
     ap (λ (u : DiskVolume). u.files n) it.volume ∙ ap (λ (b : Bool). if b then Some it.both.file else (replaced v d (Some it.both.new)).files n) (eq-eqb n n refl)
 

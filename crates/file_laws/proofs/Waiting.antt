@@ -25,7 +25,7 @@ use Rattle.io_model.specs.declared.terminal.Progress.TheVariants.{Done, Wait, En
 use Rattle.io_model.specs.declared.terminal.ReadKind.{ReadKind}
 use Rattle.io_model.specs.declared.terminal.ReadKind.TheVariants.{Bytes, WholeLine}
 use Rattle.io_model.specs.Again.{path_number}
-use Rattle.io_model.specs.Attempts.{Does, IoAttempts, caller_of, io_step, pending_in}
+use Rattle.io_model.specs.Attempts.{IoDoes, IoAttempts, caller_of, io_step, pending_in}
 use Rattle.io_model.specs.Io.{Io, OpenPath, pending_at, new_desc, open_path, with_call, with_pipes}
 use Rattle.io_model.specs.Lead.{Lead, a_new_place, lead_of, nowhere, to_pipe, to_terminal, what_is_there}
 use Rattle.io_model.specs.Modes.{can_read, can_write, is_mode}
@@ -44,8 +44,8 @@ use Rattle.io_model.specs.declared.status.TheConstants.{SS_OPT, SS_READY, SS_EOF
 use Rattle.file_rules.specs.Attempts.{FileAttempts}
 use Rattle.file_rules.specs.Files.{Files}
 use Rattle.file_rules.specs.declared.path_call.PathCall.{PathCall}
-use Rattle.file_laws.specs.Devices.{IsDevice, IsOnDevice, WaitsOnDevice, device_call, takes_number}
-use Rattle.file_laws.specs.Touch.{LeavesDevices, WaitsForRecord}
+use Rattle.file_laws.specs.Devices.{IsDevice, DeviceAttempted, WaitsOnDevice, device_call, takes_number}
+use Rattle.file_laws.specs.Touch.{TouchesNoDevice, WaitsForRecord}
 use Rattle.file_laws.proofs.TouchAttempts.{attempt-comes}
 use Rattle.file_laws.proofs.Keeps.{io-kept}
 
@@ -203,7 +203,7 @@ write-over write Fault end is = ap pending_in (sym (same_Some (fails _) end is))
 write-over write NoMemory end is = absurd (none-some end is)
 
 module _ (device : IoCall) (number : ℕ) (caller : Caller) (io : Io) (before after : List TerminalState) where
-  does-waits : (step : IoStep) (effect : IoEffect) → StepWaits device number caller io step → Does step caller io effect before after → EffectWaits device number caller io effect
+  does-waits : (step : IoStep) (effect : IoEffect) → StepWaits device number caller io step → IoDoes step caller io effect before after → EffectWaits device number caller io effect
   does-waits (refused error) effect waits (is, same) = inl (ap (λ (effect : IoEffect). pending_in effect.end) is)
   does-waits (comes it) effect waits (is, same) = subst (EffectWaits device number caller io) (sym is) waits
   does-waits (reads read) effect waits it = inr (waits, ap (λ (effect : IoEffect). effect.io.paths) it.effect_is)
@@ -246,7 +246,7 @@ pub file-waits : (call : PathCall) (processes : Processes) (files : Files) (now 
 file-waits call processes files now p result new before after it pending is =
     by_case (attempt-comes call processes files now p result new before after it)
   where
-    by_case : IsOnDevice call processes files p result new before after ⊎ LeavesDevices call processes files now p result new
+    by_case : DeviceAttempted call processes files p result new before after ⊎ TouchesNoDevice call processes files now p result new
         before after ⊎ WaitsForRecord call processes files now p result new before after → WaitsOnDevice call processes
         files.io p new.io ⊎ WaitsForRecord call processes files now p result new before after
     by_case (inl on) =

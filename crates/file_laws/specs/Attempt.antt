@@ -14,9 +14,9 @@ use Rattle.file_rules.specs.Files.{Files, Asker}
 use Rattle.file_rules.specs.Open.{is_for_execution}
 use Rattle.file_rules.specs.Route.{Route, list_of, route_of, route_to_new}
 use Rattle.file_rules.specs.declared.path_call.PathCall.{PathCall}
-use Rattle.file_laws.specs.Claims.{Made}
-use Rattle.file_laws.specs.Devices.{device_call, takes_number, HasNoFiles, IsOnDevice, IsOnNoFile, WaitsOnDevice}
-use Rattle.file_laws.specs.Touch.{KeepsIo, KeepsTable, LeavesDevices, OneDriveFails, WaitsForRecord, drive_reached}
+use Rattle.file_laws.specs.Claims.{MadePathCall}
+use Rattle.file_laws.specs.Devices.{device_call, takes_number, HasNoFiles, DeviceAttempted, IsOnNoFile, WaitsOnDevice}
+use Rattle.file_laws.specs.Touch.{KeepsIo, KeepsTable, TouchesNoDevice, OneDriveFails, WaitsForRecord, drive_reached}
 
 pub record Attempt : Type 0 where
   pub call : PathCall
@@ -39,7 +39,7 @@ regs_in it = regs_at it.processes it.process
 
 -- it has the result of an attempt of the device call
 abbrev pub IsAsOnDevice : Attempt → Type 0
-IsAsOnDevice it = IsOnDevice it.call it.processes it.files it.process it.result it.new it.before it.after
+IsAsOnDevice it = DeviceAttempted it.call it.processes it.files it.process it.result it.new it.before it.after
 
 -- it is an attempt on a device: it is on no file
 abbrev pub OnDevice : Attempt → Type 0
@@ -47,7 +47,7 @@ OnDevice it = IsAsOnDevice it × IsOnNoFile it.call (asker_in it) it.files (leng
 
 -- it touches no terminal and no pipe
 abbrev pub TouchesNone : Attempt → Type 0
-TouchesNone it = LeavesDevices it.call it.processes it.files it.now it.process it.result it.new it.before it.after
+TouchesNone it = TouchesNoDevice it.call it.processes it.files it.now it.process it.result it.new it.before it.after
 
 -- it waits for a record of a file
 abbrev pub WaitsOnRecord : Attempt → Type 0
@@ -69,8 +69,8 @@ pub record IsOnNumber (it : Attempt) (number : ℕ) : Type 0 where
   pub named : path_number device (regs_in it) ≡ number
 
 -- it waits, on a terminal or a pipe
-abbrev pub Waits : Attempt → Type 0
-Waits it = WaitsOnDevice it.call it.processes it.files.io it.process it.new.io
+abbrev pub AttemptWaits : Attempt → Type 0
+AttemptWaits it = WaitsOnDevice it.call it.processes it.files.io it.process it.new.io
 
 -- it has a path list, from which I$Open and I$Create find this route
 abbrev pub HasList : Attempt → PathList → Type 0
@@ -87,10 +87,10 @@ abbrev pub IsWithoutFiles : Attempt → Type 0
 IsWithoutFiles it = HasNoFiles it.files it.process
 
 -- the drive that it reached failed in it, and it returns the number of that fault
-abbrev pub HasFault : Attempt → Type 0
-HasFault it =
+abbrev pub ReportsDriveFault : Attempt → Type 0
+ReportsDriveFault it =
     OneDriveFails (drive_reached it.call (asker_in it) it.files (length it.before)) it.files it.result it.new
 
 -- the call of this attempt
-abbrev pub made_in : Attempt → Made
+abbrev pub made_in : Attempt → MadePathCall
 made_in it = record { call = it.call; asker = asker_in it; files = it.files; terms = length it.before }

@@ -40,7 +40,7 @@ use Rattle.file_rules.specs.declared.path_call.PathCall.{PathCall}
 use Rattle.file_rules.specs.declared.path_call.PathCall.TheVariants as Call
 use Rattle.lock_model.specs.declared.place.FilePlace.{FilePlace}
 use Rattle.file_rules.specs.declared.status.TheConstants.{SS_ATTR, SS_FD, SS_LOCK, SS_POS, SS_SIZE, SS_TICKS}
-use Rattle.file_laws.specs.Claims.{ClosesCycle, IsLockedOut, Made, Names}
+use Rattle.file_laws.specs.Claims.{ClosesCycle, IsLockedOut, MadePathCall, NamesOpenFile}
 
 -- ---- the list that it reads, and the route of the list
 
@@ -78,20 +78,20 @@ walked Call.Open names = names
 walked Call.ChgDir names = names
 walked call names = before_last names
 
-abbrev pub route_in : Made → PathList → Route
+abbrev pub route_in : MadePathCall → PathList → Route
 route_in m list =
     if makes_new m.call then route_to_new m.asker m.files m.terms (executes m.call m.asker.caller.regs.a) list
     else route_of m.asker m.files m.terms (executes m.call m.asker.caller.regs.a) list
 
 -- its list has this route
-pub record Leads (m : Made) (route : Route) : Type 0 where
+pub record ListHasRoute (m : MadePathCall) (route : Route) : Type 0 where
   pub reads : reads_list m.call ≡ true
   pub list : PathList
   pub read : list_of m.asker ≡ Ok list
   pub is : route_in m list ≡ route
 
 -- the device at which a list starts, if the list names an existing one
-abbrev pub device_in : Made → PathList → Option Dev
+abbrev pub device_in : MadePathCall → PathList → Option Dev
 device_in m list = option_and_then (device_of (length m.files.drives) m.terms) list.device
 
 -- a device that is not a drive
@@ -101,7 +101,7 @@ IsNoDrive (Device.Term terminal) = ⊤
 IsNoDrive Device.Pipe = ⊤
 
 -- why a list has no way, by the number
-pub data LeadsNowhere (m : Made) (list : PathList) (number : ℕ) : Type 0 where
+pub data LeadsNowhere (m : MadePathCall) (list : PathList) (number : ℕ) : Type 0 where
   -- the last name of a new file or directory is that of a directory itself or of the one above it
   dots : number ≡ E_BPNAM → makes_new m.call ≡ true → ends_in_dots list ≡ true → LeadsNowhere m list number
   -- the root of a drive is to be made
@@ -116,49 +116,52 @@ pub data LeadsNowhere (m : Made) (list : PathList) (number : ℕ) : Type 0 where
       → LeadsNowhere m list number
 
 -- it walks along these names on a volume, with this end
-pub record Walks (m : Made) (names : List (List ℕ)) (place : FilePlace) (v : DiskVolume) (end : WalkEnd) : Type 0 where
-  pub leads : Leads m (along place names)
+pub record WalksOnVolume (m : MadePathCall) (names : List (List ℕ)) (place : FilePlace) (v : DiskVolume) (end : WalkEnd)
+    : Type 0 where
+  pub leads : ListHasRoute m (along place names)
   pub mounted : volume_at m.files place.drive ≡ Some v
   pub is : walk v.files m.asker.user (executes m.call m.asker.caller.regs.a) place.number (walked m.call names) ≡ end
 
 -- it finds a file
-pub record Finds (m : Made) (names : List (List ℕ)) (found : Found) : Type 0 where
+pub record FindsNamedFile (m : MadePathCall) (names : List (List ℕ)) (found : Found) : Type 0 where
   pub start : ℕ
-  pub walks : Walks m names (record { drive = found.place.drive; number = start }) found.volume
+  pub walks : WalksOnVolume m names (record { drive = found.place.drive; number = start }) found.volume
       (arrives found.place.number)
   pub there : found.volume.files found.place.number ≡ Some found.file
 
 -- it makes or deletes something, finds a directory for it, and this is the name in that directory
-pub record FindsIn (m : Made) (found : Found) (name : List ℕ) : Type 0 where
+pub record FindsIn (m : MadePathCall) (found : Found) (name : List ℕ) : Type 0 where
   pub enters : (makes_new m.call || deletes_name m.call) ≡ true
   pub names : List (List ℕ)
-  pub finds : Finds m names found
+  pub finds : FindsNamedFile m names found
   pub last : last_of names ≡ Some name
 
 -- ---- the cause of each number
 
 -- the list breaks off at a byte in no named slot, or the bytes that the call moves are not in named slots
-abbrev pub IsUnreadable : PathCall → Asker → Files → Type 0
-IsUnreadable Call.Read asker files = user_bytes asker.caller.cells asker.caller.regs.x asker.caller.regs.y ≡ None
-IsUnreadable Call.ReadLn asker files = user_bytes asker.caller.cells asker.caller.regs.x asker.caller.regs.y ≡ None
-IsUnreadable Call.Write asker files = user_bytes asker.caller.cells asker.caller.regs.x asker.caller.regs.y ≡ None
-IsUnreadable Call.WritLn asker files = line_moved asker (pending_request asker files) ≡ None
-IsUnreadable Call.GetStt asker files =
+abbrev pub FileBytesUnreadable : PathCall → Asker → Files → Type 0
+FileBytesUnreadable Call.Read asker files = user_bytes asker.caller.cells asker.caller.regs.x asker.caller.regs.y ≡ None
+FileBytesUnreadable Call.ReadLn asker files = user_bytes asker.caller.cells asker.caller.regs.x asker.caller.regs.y
+    ≡ None
+FileBytesUnreadable Call.Write asker files = user_bytes asker.caller.cells asker.caller.regs.x asker.caller.regs.y
+    ≡ None
+FileBytesUnreadable Call.WritLn asker files = line_moved asker (pending_request asker files) ≡ None
+FileBytesUnreadable Call.GetStt asker files =
     (asker.caller.regs.b ≡ SS_OPT) × (user_bytes asker.caller.cells asker.caller.regs.x OPTION_BYTES ≡ None)
     ⊎ (asker.caller.regs.b ≡ SS_FD) × (user_bytes asker.caller.cells asker.caller.regs.x (asked_bytes asker) ≡ None)
-IsUnreadable call asker files = (reads_list call ≡ true) × (list_of asker ≡ Err Unreadable)
+FileBytesUnreadable call asker files = (reads_list call ≡ true) × (list_of asker ≡ Err Unreadable)
 
 -- the mode of the call, or of its path, lacks the bits that the call needs
-abbrev pub LacksMode : PathCall → Asker → OpenFile → Type 0
-LacksMode Call.Read asker found = can_read found.opened.desc.mode ≡ false
-LacksMode Call.ReadLn asker found = can_read found.opened.desc.mode ≡ false
-LacksMode Call.Write asker found = can_write found.opened.desc.mode ≡ false
-LacksMode Call.WritLn asker found = can_write found.opened.desc.mode ≡ false
-LacksMode Call.PErr asker found = can_write found.opened.desc.mode ≡ false
-LacksMode Call.SetStt asker found =
+abbrev pub FileCallLacksMode : PathCall → Asker → OpenFile → Type 0
+FileCallLacksMode Call.Read asker found = can_read found.opened.desc.mode ≡ false
+FileCallLacksMode Call.ReadLn asker found = can_read found.opened.desc.mode ≡ false
+FileCallLacksMode Call.Write asker found = can_write found.opened.desc.mode ≡ false
+FileCallLacksMode Call.WritLn asker found = can_write found.opened.desc.mode ≡ false
+FileCallLacksMode Call.PErr asker found = can_write found.opened.desc.mode ≡ false
+FileCallLacksMode Call.SetStt asker found =
     (asker.caller.regs.b ≡ SS_SIZE) × (can_write found.opened.desc.mode ≡ false)
     ⊎ (asker.caller.regs.b ≡ SS_LOCK) × (is_for_update found.opened.desc.mode ≡ false)
-LacksMode call asker found = ⊥
+FileCallLacksMode call asker found = ⊥
 
 abbrev pub HasBadMode : PathCall → ℕ → Type 0
 HasBadMode Call.Open mode = is_mode mode ≡ false
@@ -175,7 +178,7 @@ IsForbidden call asker found = ⊥
 
 -- the directory may not be changed; or a file with bit 7 in its attributes is to be made there; or the file with this
 -- name there is to be deleted and may not be
-abbrev pub IsForbiddenIn : Made → Found → List ℕ → Type 0
+abbrev pub IsForbiddenIn : MadePathCall → Found → List ℕ → Type 0
 IsForbiddenIn m found name =
     (may_change found.file m.asker.user (executes m.call m.asker.caller.regs.a) ≡ false)
     ⊎ (m.call ≡ Call.Create) × (says_directory m.asker.caller.regs.b ≡ true)
@@ -188,14 +191,14 @@ first_size Call.MakDir = new_directory_size
 first_size call = 0
 
 -- a new file and its entry have no room on the volume, or the entry has none in the segments of its directory
-pub record HasNoRoom (m : Made) : Type 0 where
+pub record HasNoRoom (m : MadePathCall) : Type 0 where
   pub makes : makes_new m.call ≡ true
   pub found : Found
   pub name : List ℕ
   pub finds : FindsIn m found name
   pub full : free_total found.volume < clusters_for found (first_size m.call)
 
-pub record HasNoSegment (m : Made) : Type 0 where
+pub record CallHasNoSegment (m : MadePathCall) : Type 0 where
   pub makes : makes_new m.call ≡ true
   pub found : Found
   pub name : List ℕ
@@ -221,15 +224,15 @@ Sizes Call.SetStt asker files found size = (asker.caller.regs.b ≡ SS_SIZE) × 
 Sizes call asker files found size = ⊥
 
 -- too few clusters are free for the size that a call gives a file
-pub record CannotGrow (m : Made) : Type 0 where
+pub record CannotGrow (m : MadePathCall) : Type 0 where
   pub found : OpenFile
-  pub names : Names m found
+  pub names : NamesOpenFile m found
   pub size : ℕ
   pub asks : Sizes m.call m.asker m.files found size
   pub full : free_total found.volume < clusters_needed (cluster_size found.volume) found.file.segments size
 
 -- the call changes a volume, and a list of segments has no place for a chosen cluster
-pub record FindsNoSegment (m : Made) : Type 0 where
+pub record FindsNoSegment (m : MadePathCall) : Type 0 where
   pub it : VolumeChange
   pub is : deed_of (file_step m.call m.asker m.files m.terms) m.files ≡ changes it
   pub v : DiskVolume
@@ -250,47 +253,48 @@ first_byte Call.ReadLn asker files found = read_start asker files found
 first_byte call asker files found = found.opened.desc.at
 
 -- the call has no status with this code
-abbrev pub HasNoStatus : PathCall → ℕ → Type 0
-HasNoStatus Call.GetStt code =
+abbrev pub HasNoFileStatus : PathCall → ℕ → Type 0
+HasNoFileStatus Call.GetStt code =
     (code ≢ SS_OPT) × (code ≢ SS_READY) × (code ≢ SS_SIZE) × (code ≢ SS_POS) × (code ≢ SS_EOF) × (code ≢ SS_FD)
-HasNoStatus Call.SetStt code = (code ≢ SS_SIZE) × (code ≢ SS_TICKS) × (code ≢ SS_LOCK) × (code ≢ SS_ATTR)
-HasNoStatus call code = ⊥
+HasNoFileStatus Call.SetStt code = (code ≢ SS_SIZE) × (code ≢ SS_TICKS) × (code ≢ SS_LOCK) × (code ≢ SS_ATTR)
+HasNoFileStatus call code = ⊥
 
 -- the cause of a refusal, by its number
-pub data FileCause (m : Made) (number : ℕ) : Type 0 where
-  bad_address : number ≡ E_BPADDR → IsUnreadable m.call m.asker m.files → FileCause m number
+pub data FileCause (m : MadePathCall) (number : ℕ) : Type 0 where
+  bad_address : number ≡ E_BPADDR → FileBytesUnreadable m.call m.asker m.files → FileCause m number
   bad_mode : number ≡ E_BMODE → HasBadMode m.call m.asker.caller.regs.a → FileCause m number
-  path_mode : (found : OpenFile) → number ≡ E_BMODE → Names m found → LacksMode m.call m.asker found
+  path_mode : (found : OpenFile) → number ≡ E_BMODE → NamesOpenFile m found → FileCallLacksMode m.call m.asker found
       → FileCause m number
   bad_number : number ≡ E_BPNUM → m.call ≡ Call.Seek
       → open_path m.files.io m.asker.caller.process.0 m.asker.caller.regs.a ≡ None → FileCause m number
   no_name : number ≡ E_BPNAM → reads_list m.call ≡ true → list_of m.asker ≡ Err NoName → FileCause m number
   no_last : (names : List (List ℕ)) (place : FilePlace) → number ≡ E_BPNAM → makes_new m.call ≡ true
-      → Leads m (along place names) → last_of names ≡ None → FileCause m number
+      → ListHasRoute m (along place names) → last_of names ≡ None → FileCause m number
   leads_nowhere : (list : PathList) → reads_list m.call ≡ true → list_of m.asker ≡ Ok list
       → LeadsNowhere m list number → FileCause m number
-  no_volume : (names : List (List ℕ)) (place : FilePlace) → number ≡ E_MNF → Leads m (along place names)
+  no_volume : (names : List (List ℕ)) (place : FilePlace) → number ≡ E_MNF → ListHasRoute m (along place names)
       → volume_at m.files place.drive ≡ None → FileCause m number
-  a_device : number ≡ E_FNA → m.call ≢ Call.Open → m.call ≢ Call.Create → Leads m to_device → FileCause m number
+  a_device : number ≡ E_FNA → m.call ≢ Call.Open → m.call ≢ Call.Create → ListHasRoute m to_device → FileCause m number
   finds_nothing : (names : List (List ℕ)) (place : FilePlace) (v : DiskVolume) → number ≡ E_PNNF
-      → Walks m names place v WalkEnd.not_found → FileCause m number
+      → WalksOnVolume m names place v WalkEnd.not_found → FileCause m number
   not_there : (names : List (List ℕ)) (place : FilePlace) (v : DiskVolume) (n : ℕ) → number ≡ E_PNNF
-      → Walks m names place v (arrives n) → v.files n ≡ None → FileCause m number
+      → WalksOnVolume m names place v (arrives n) → v.files n ≡ None → FileCause m number
   not_in : (found : Found) (name : List ℕ) → number ≡ E_PNNF → deletes_name m.call ≡ true → FindsIn m found name
       → look_up found.file.contents name ≡ None → FileCause m number
   may_not_pass : (names : List (List ℕ)) (place : FilePlace) (v : DiskVolume) → number ≡ E_FNA
-      → Walks m names place v WalkEnd.not_allowed → FileCause m number
-  forbidden : (names : List (List ℕ)) (found : Found) → number ≡ E_FNA → Finds m names found
+      → WalksOnVolume m names place v WalkEnd.not_allowed → FileCause m number
+  forbidden : (names : List (List ℕ)) (found : Found) → number ≡ E_FNA → FindsNamedFile m names found
       → IsForbidden m.call m.asker found → FileCause m number
   forbidden_in : (found : Found) (name : List ℕ) → number ≡ E_FNA → FindsIn m found name
       → IsForbiddenIn m found name → FileCause m number
   a_root : (names : List (List ℕ)) (place : FilePlace) → number ≡ E_FNA → deletes_name m.call ≡ true
-      → Leads m (along place names) → last_of names ≡ None → FileCause m number
+      → ListHasRoute m (along place names) → last_of names ≡ None → FileCause m number
   not_owned : (found : OpenFile) → number ≡ E_FNA → m.call ≡ Call.SetStt → m.asker.caller.regs.b ≡ SS_ATTR
-      → Names m found → owns_file found.file m.asker.user ≡ false → FileCause m number
+      → NamesOpenFile m found → owns_file found.file m.asker.user ≡ false → FileCause m number
   there_already : (found : Found) (name : List ℕ) → number ≡ E_CEF → makes_new m.call ≡ true → FindsIn m found name
       → IsSome (look_up found.file.contents name) → FileCause m number
-  not_shared : (names : List (List ℕ)) (found : Found) → number ≡ E_SHARE → m.call ≡ Call.Open → Finds m names found
+  not_shared : (names : List (List ℕ)) (found : Found) → number ≡ E_SHARE → m.call ≡ Call.Open
+      → FindsNamedFile m names found
       → is_not_shared m.files found m.asker.caller.regs.a ≡ true → FileCause m number
   is_used : (found : Found) (name : List ℕ) (n : ℕ) → number ≡ E_SHARE → deletes_name m.call ≡ true
       → FindsIn m found name → look_up found.file.contents name ≡ Some n
@@ -299,13 +303,14 @@ pub data FileCause (m : Made) (number : ℕ) : Type 0 where
       → new_number m.files.io.paths m.asker.caller.process.0 ≡ None → FileCause m number
   no_room : number ≡ E_FULL → HasNoRoom m → FileCause m number
   cannot_grow : number ≡ E_FULL → CannotGrow m → FileCause m number
-  no_segment : number ≡ E_SLF → HasNoSegment m → FileCause m number
+  no_segment : number ≡ E_SLF → CallHasNoSegment m → FileCause m number
   finds_no_segment : number ≡ E_SLF → FindsNoSegment m → FileCause m number
-  end_of_file : (found : OpenFile) → number ≡ E_EOF → NeedsByte m.call m.asker.caller.regs → Names m found
+  end_of_file : (found : OpenFile) → number ≡ E_EOF → NeedsByte m.call m.asker.caller.regs → NamesOpenFile m found
       → length found.file.contents ≤ first_byte m.call m.asker m.files found → FileCause m number
   -- a lock of another process conflicts with its request, which does not wait, or waits no longer
   locked : number ≡ E_LOCK → IsLockedOut m → FileCause m number
   -- its request would wait, and that would close a cycle of waits
   deadlock : number ≡ E_DEADLK → ClosesCycle m → FileCause m number
-  no_status : (found : OpenFile) → number ≡ E_UNKSVC → Names m found → HasNoStatus m.call m.asker.caller.regs.b
+  no_status : (found : OpenFile) → number ≡ E_UNKSVC → NamesOpenFile m found
+      → HasNoFileStatus m.call m.asker.caller.regs.b
       → FileCause m number

@@ -24,15 +24,15 @@ use Rattle.file_rules.specs.declared.status.TheConstants.{SS_LOCK, SS_SIZE}
 use Rattle.file_laws.specs.Devices.{number_in}
 
 -- a call that a process makes, on a machine with `terms` terminals
-pub record Made : Type 0 where
+pub record MadePathCall : Type 0 where
   pub call : PathCall
   pub asker : Asker
   pub files : Files
   pub terms : ℕ
 
 -- its number names a path on this file
-abbrev pub Names : Made → OpenFile → Type 0
-Names m found = open_file m.files m.asker.caller.process.0 (number_in m.call m.asker) ≡ Some found
+abbrev pub NamesOpenFile : MadePathCall → OpenFile → Type 0
+NamesOpenFile m found = open_file m.files m.asker.caller.process.0 (number_in m.call m.asker) ≡ Some found
 
 -- ---- the bytes that a call requests
 
@@ -74,35 +74,35 @@ pub data Claims (call : PathCall) (asker : Asker) (files : Files) (found : OpenF
 
 -- an attempt makes this request, for bytes of the file that its number names: at the first attempt those that the
 -- call claims, and at a further one those that it has waited for
-pub record Requests (m : Made) (request : Request) : Type 0 where
+pub record Requests (m : MadePathCall) (request : Request) : Type 0 where
   pub found : OpenFile
-  pub names : Names m found
+  pub names : NamesOpenFile m found
   pub claim : Claim
   pub claims : Claims m.call m.asker m.files found claim
   pub is : request ≡ request_now m.asker m.files found claim
 
 -- it is the first attempt of its call: the process waits in no request
-abbrev pub IsFirst : Made → Type 0
-IsFirst m = request_of m.files.records.locks m.asker.caller.process.0 ≡ None
+abbrev pub IsFirstAttempt : MadePathCall → Type 0
+IsFirstAttempt m = request_of m.files.records.locks m.asker.caller.process.0 ≡ None
 
 -- an attempt is the first one of its call, its request would wait, and that would close a cycle of waits
-pub record ClosesCycle (m : Made) : Type 0 where
+pub record ClosesCycle (m : MadePathCall) : Type 0 where
   pub request : Request
   pub requests : Requests m request
-  pub first : IsFirst m
+  pub first : IsFirstAttempt m
   pub waits : request.ticks ≢ 1
   pub closes : Closes m.files.records.locks request.lock
 
 -- a request does not wait: at the first attempt of its call if its path has 1 tick, and at a further one if the ticks
 -- of its path have passed since the first one
-abbrev pub WaitsNot : Made → Request → Type 0
+abbrev pub WaitsNot : MadePathCall → Request → Type 0
 WaitsNot m request =
-    IsFirst m × (request.ticks ≡ 1)
+    IsFirstAttempt m × (request.ticks ≡ 1)
     ⊎ (request_of m.files.records.locks m.asker.caller.process.0 ≡ Some request) × (1 < request.ticks)
     × (request.since + request.ticks ≤ m.asker.tick)
 
 -- a lock of another process conflicts with the request of an attempt, which does not wait
-pub record IsLockedOut (m : Made) : Type 0 where
+pub record IsLockedOut (m : MadePathCall) : Type 0 where
   pub request : Request
   pub requests : Requests m request
   pub owner : ℕ

@@ -15,7 +15,7 @@ use Rattle.io_model.specs.PathList.{PathList}
 use Rattle.io_model.specs.declared.io_call.IoCall.{IoCall}
 use Rattle.io_model.specs.declared.io_call.IoCall.TheVariants as Device
 use Rattle.io_model.specs.declared.modes.TheConstants.{STANDARD_ERROR}
-use Rattle.file_rules.specs.Files.{Asker, Files, NoneFailed, directory_of, open_file, place_of_target, volume_at}
+use Rattle.file_rules.specs.Files.{Asker, Files, KeepsDriveFaults, directory_of, open_file, place_of_target, volume_at}
 use Rattle.file_rules.specs.Open.{is_for_execution}
 use Rattle.file_rules.specs.Route.{list_of, to_device, route_of, route_to_new}
 use Rattle.file_rules.specs.declared.path_call.PathCall.{PathCall}
@@ -88,7 +88,7 @@ pub data LocksStay (call : PathCall) (files : Files) (p n : ℕ) (now : Records)
 -- An attempt has the result of an attempt of the call on terminals and pipes; the directories of processes and the
 -- volumes are unchanged, and no drive fails. This does not say that the call is on no file, since a file may give that
 -- result too.
-pub record IsOnDevice (call : PathCall) (processes : Processes) (files : Files) (p : ℕ) (result : CallResult)
+pub record DeviceAttempted (call : PathCall) (processes : Processes) (files : Files) (p : ℕ) (result : CallResult)
     (new : Files)
     (before after : List TerminalState) : Type 0 where
   pub device : IoCall
@@ -96,7 +96,7 @@ pub record IsOnDevice (call : PathCall) (processes : Processes) (files : Files) 
   pub attempted : IoAttempts device processes files.io (length files.drives) p result new.io before after
   pub directories : new.directories ≡ files.directories
   pub volumes : new.volumes ≡ files.volumes
-  pub none_failed : NoneFailed files.drives new.drives
+  pub none_failed : KeepsDriveFaults files.drives new.drives
   pub requests : NoneRequested p files new
   pub locks : LocksStay call files p (regs_at processes p).a new.records
 

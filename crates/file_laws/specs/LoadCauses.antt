@@ -21,13 +21,13 @@ use Rattle.file_rules.specs.Program.{loaded_program, parameters_of}
 use Rattle.file_rules.specs.ProgramFile.{ProgramFile}
 use Rattle.file_rules.specs.Route.{Found, to_device}
 use Rattle.file_rules.specs.declared.path_call.PathCall.TheVariants as Call
-use Rattle.file_laws.specs.Causes.{FileCause, Finds, Leads}
-use Rattle.file_laws.specs.Claims.{Made}
+use Rattle.file_laws.specs.Causes.{FileCause, FindsNamedFile, ListHasRoute}
+use Rattle.file_laws.specs.Claims.{MadePathCall}
 
 -- ---- the file
 
 -- a file of modules is looked up as by I$Open, with the execution mode
-abbrev pub looking : Asker → Files → ℕ → Made
+abbrev pub looking : Asker → Files → ℕ → MadePathCall
 looking asker files terms = record {
   call = Call.Open;
   asker = record asker {
@@ -41,16 +41,16 @@ looking asker files terms = record {
 pub data ReadCause (asker : Asker) (files : Files) (terms number : ℕ) : Type 0 where
   -- I$Open would be refused for the same reason; only I$Open needs a number for a path
   as_opened : number ≢ E_PTHFUL → FileCause (looking asker files terms) number → ReadCause asker files terms number
-  to_a_device : number ≡ E_FNA → Leads (looking asker files terms) to_device → ReadCause asker files terms number
+  to_a_device : number ≡ E_FNA → ListHasRoute (looking asker files terms) to_device → ReadCause asker files terms number
   too_long : (names : List (List ℕ)) (found : Found) → number ≡ E_MEMFUL
-      → Finds (looking asker files terms) names found → MOST_GROUP_BYTES < length found.file.contents
+      → FindsNamedFile (looking asker files terms) names found → MOST_GROUP_BYTES < length found.file.contents
       → ReadCause asker files terms number
 
 -- it is read: these are its bytes
-pub record IsRead (asker : Asker) (files : Files) (terms : ℕ) (file : ProgramFile) : Type 0 where
+pub record IsModuleFileRead (asker : Asker) (files : Files) (terms : ℕ) (file : ProgramFile) : Type 0 where
   pub names : List (List ℕ)
   pub found : Found
-  pub finds : Finds (looking asker files terms) names found
+  pub finds : FindsNamedFile (looking asker files terms) names found
   pub may : may_open found.file asker.user MODE_EXECUTE ≡ true
   pub short : length found.file.contents ≤ MOST_GROUP_BYTES
   pub bytes : file.bytes ≡ found.file.contents
@@ -58,14 +58,15 @@ pub record IsRead (asker : Asker) (files : Files) (terms : ℕ) (file : ProgramF
 -- ---- its modules
 
 -- its modules are tried one after another, with this outcome
-abbrev pub Enters : Processes → List ℕ → Result (List (Option ModuleEntry)) (ℕ × ℕ) → Type 0
-Enters m file outcome = EntersModules file (new_numbers m.memory (file_blocks file)) false 0 m.memory.modules outcome
+abbrev pub EntersFileModules : Processes → List ℕ → Result (List (Option ModuleEntry)) (ℕ × ℕ) → Type 0
+EntersFileModules m file outcome = EntersModules file (new_numbers m.memory (file_blocks file)) false 0 m.memory.modules
+    outcome
 
 -- why it is not in memory: the number is that of its first refused module, or it has no module, or it needs more blocks
 -- than are free
 pub data GroupCause (m : Processes) (file : List ℕ) (number : ℕ) : Type 0 where
-  a_module : (at : ℕ) → Enters m file (Err (at, number)) → GroupCause m file number
-  no_module : (entries : List (Option ModuleEntry)) → number ≡ E_BMID → Enters m file (Ok entries)
+  a_module : (at : ℕ) → EntersFileModules m file (Err (at, number)) → GroupCause m file number
+  no_module : (entries : List (Option ModuleEntry)) → number ≡ E_BMID → EntersFileModules m file (Ok entries)
       → first_entered m.memory entries ≡ None → GroupCause m file number
   no_blocks : number ≡ E_NORAM → free_blocks m.memory < file_blocks file → GroupCause m file number
 
@@ -115,9 +116,9 @@ pub data CauseOfLoad (m : Processes) (asker : Asker) (files : Files) (terms : �
     (Ends : ProgramFile → Loaded → ℕ → Type 0) (number : ℕ) : Type 0 where
   tested : Tested number → CauseOfLoad m asker files terms Tested Ends number
   not_read : ReadCause asker files terms number → CauseOfLoad m asker files terms Tested Ends number
-  not_entered : (file : ProgramFile) → IsRead asker files terms file → GroupCause m file.bytes number
+  not_entered : (file : ProgramFile) → IsModuleFileRead asker files terms file → GroupCause m file.bytes number
       → CauseOfLoad m asker files terms Tested Ends number
-  not_ended : (file : ProgramFile) (loaded : Loaded) → IsRead asker files terms file
+  not_ended : (file : ProgramFile) (loaded : Loaded) → IsModuleFileRead asker files terms file
       → Loads m.memory file.bytes (Ok loaded) → Ends file loaded number
       → CauseOfLoad m asker files terms Tested Ends number
 

@@ -3,7 +3,7 @@ use Rattle.std.specs.Prelude.{◌≡◌, ℕ, is_some, length}
 use Rattle.file_rules.specs.Files.{Files, volume_at}
 
 -- the same drives have a volume, and the numbers of drives and of places for directories of processes are the same
-pub record AreAsMany (old new : Files) : Type 0 where
+pub record KeepsMountedDrives (old new : Files) : Type 0 where
   pub drives : length new.drives ≡ length old.drives
   pub directories : length new.directories ≡ length old.directories
   pub volumes : length new.volumes ≡ length old.volumes

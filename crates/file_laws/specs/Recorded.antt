@@ -17,30 +17,31 @@ use Rattle.file_rules.specs.Write.{line_moved}
 use Rattle.file_rules.specs.declared.path_call.PathCall.{PathCall}
 use Rattle.file_rules.specs.declared.path_call.PathCall.TheVariants as Call
 use Rattle.file_rules.specs.declared.status.TheConstants.{SS_LOCK, SS_SIZE}
-use Rattle.file_laws.specs.Claims.{Made, Names, Requests, read_call}
+use Rattle.file_laws.specs.Claims.{MadePathCall, NamesOpenFile, Requests, read_call}
 
 -- the records without a request of the process
-abbrev pub settled : Made → Records
+abbrev pub settled : MadePathCall → Records
 settled m = with_waiting m.files.records m.asker.caller.process.0 None
 
 -- an attempt makes a request, which is granted
-pub record IsGranted (m : Made) (request : Request) : Type 0 where
+pub record IsGranted (m : MadePathCall) (request : Request) : Type 0 where
   pub requests : Requests m request
   pub answer : answer_to m.asker m.files request ≡ Granted
 
 -- the system path of the call
-abbrev pub path_in : {m : Made} {request : Request} → IsGranted m request → ℕ
+abbrev pub path_in : {m : MadePathCall} {request : Request} → IsGranted m request → ℕ
 path_in it = it.requests.found.opened.path.0
 
 -- a lock is taken with these bytes: a read has those of the file from the start of its range on, and SS.Lock has none
-pub data IsTaken (m : Made) (found : OpenFile) (request : Request) (kind : ReadKind) (bytes : List ℕ) : Type 0 where
-  by_read : m.call ≡ read_call kind → bytes ≡ bytes_at kind m.asker found request.lock.range.start
-      → IsTaken m found request kind bytes
-  by_lock : m.call ≡ Call.SetStt → m.asker.caller.regs.b ≡ SS_LOCK → kind ≡ Bytes → bytes ≡ []
-      → IsTaken m found request kind bytes
+pub data IsTaken (m : MadePathCall) (found : OpenFile) (request : Request) (kind : ReadKind) (bytes : List ℕ) : Type 0
+  where
+    by_read : m.call ≡ read_call kind → bytes ≡ bytes_at kind m.asker found request.lock.range.start
+        → IsTaken m found request kind bytes
+    by_lock : m.call ≡ Call.SetStt → m.asker.caller.regs.b ≡ SS_LOCK → kind ≡ Bytes → bytes ≡ []
+        → IsTaken m found request kind bytes
 
 -- a call writes these bytes; SS.Size of another size writes none
-pub data IsSent (m : Made) (found : OpenFile) (bytes : List ℕ) : Type 0 where
+pub data IsSent (m : MadePathCall) (found : OpenFile) (bytes : List ℕ) : Type 0 where
   by_write : m.call ≡ Call.Write
       → user_bytes m.asker.caller.cells m.asker.caller.regs.x m.asker.caller.regs.y ≡ Some bytes → IsSent m found bytes
   by_line : m.call ≡ Call.WritLn → line_moved m.asker (pending_request m.asker m.files) ≡ Some bytes
@@ -51,7 +52,7 @@ pub data IsSent (m : Made) (found : OpenFile) (bytes : List ℕ) : Type 0 where
 
 -- a call ends the lock of its path: I$Close with the last number of the path, SS.Lock of no byte, and SS.Size of the
 -- present size if its request is granted
-pub data EndsLock (m : Made) (found : OpenFile) : Type 0 where
+pub data EndsLock (m : MadePathCall) (found : OpenFile) : Type 0 where
   by_close : m.call ≡ Call.Close
       → desc_of (after_close m.files.io m.asker.caller.process.0 m.asker.caller.regs.a).paths found.opened.path.0 ≡ None
       → EndsLock m found
@@ -61,7 +62,7 @@ pub data EndsLock (m : Made) (found : OpenFile) : Type 0 where
       → m.asker.caller.regs.b ≡ SS_SIZE → length found.file.contents ≡ long_of m.asker.caller.regs → EndsLock m found
 
 -- what an attempt makes of the records. A request of its process waits afterwards only if the attempt waits in it
-pub data RecordsCome (m : Made) (now : Records) : Type 0 where
+pub data RecordsCome (m : MadePathCall) (now : Records) : Type 0 where
   stay : now ≡ settled m → RecordsCome m now
   -- its path holds the range requested, or the line in it that was read
   holds : (request : Request) (kind : ReadKind) (bytes : List ℕ) (it : IsGranted m request)
@@ -71,7 +72,7 @@ pub data RecordsCome (m : Made) (now : Records) : Type 0 where
   writes : (request : Request) (bytes : List ℕ) (it : IsGranted m request) → IsSent m it.requests.found bytes
       → now ≡ written_by (settled m) (path_in it) request.lock bytes → RecordsCome m now
   -- the lock of its path ends
-  ends : (found : OpenFile) → Names m found → EndsLock m found
+  ends : (found : OpenFile) → NamesOpenFile m found → EndsLock m found
       → now ≡ without_lock (settled m) found.opened.path.0 → RecordsCome m now
   -- it waits in its request
   waits : (request : Request) → Requests m request → answer_to m.asker m.files request ≡ Wait

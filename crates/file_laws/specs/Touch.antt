@@ -17,14 +17,14 @@ use Rattle.io_model.specs.declared.path.Desc.{Desc}
 use Rattle.io_model.specs.declared.path.Target.{Target}
 use Rattle.io_model.specs.Io.{Io, OpenPath, pending_at, new_desc, open_path, with_call, with_paths}
 use Rattle.file_rules.specs.Attempts.{asker_of, file_step}
-use Rattle.file_rules.specs.Files.{Asker, Files, NoneFailed, OneFailed, OpenFile, directories_at, open_file, place_of_target, volume_at}
+use Rattle.file_rules.specs.Files.{Asker, Files, KeepsDriveFaults, OneFailed, OpenFile, directories_at, open_file, place_of_target, volume_at}
 use Rattle.file_rules.specs.Locking.{answer_to, call_of, waiting_in}
 use Rattle.file_rules.specs.Step.{drive_of}
 use Rattle.file_rules.specs.declared.path_call.PathCall.{PathCall}
 use Rattle.file_rules.specs.declared.path_call.PathCall.TheVariants as Call
 use Rattle.file_rules.specs.declared.status.TheConstants.{SS_TICKS}
 use Rattle.lock_model.specs.declared.place.FilePlace.{FilePlace}
-use Rattle.file_laws.specs.Claims.{Made, Requests}
+use Rattle.file_laws.specs.Claims.{MadePathCall, Requests}
 use Rattle.file_laws.specs.Devices.{IsDevice, NoneRequested, number_in}
 use Rattle.file_laws.specs.Recorded.{RecordsCome}
 
@@ -71,22 +71,22 @@ abbrev pub drive_reached : PathCall → Asker → Files → ℕ → Option ℕ
 drive_reached call asker files terms = drive_of (file_step call asker files terms)
 
 -- the call that a process makes at a time
-abbrev pub made_by : PathCall → Processes → Files → TimePacket → ℕ → ℕ → Made
+abbrev pub made_by : PathCall → Processes → Files → TimePacket → ℕ → ℕ → MadePathCall
 made_by call processes files now p terms =
     record { call = call; asker = asker_of processes p now; files = files; terms = terms }
 
 -- ---- its end
 
 -- the call is done: the process has these registers, and these bytes were stored at its addresses
-pub record IsDone (processes : Processes) (p : ℕ) (result : CallResult) : Type 0 where
+pub record IsDoneResult (processes : Processes) (p : ℕ) (result : CallResult) : Type 0 where
   pub regs : Regs
   pub at : ℕ
   pub bytes : List ℕ
   pub is : result ≡ done (with_regs_of (with_memory processes (stored processes.memory p at bytes)) p regs)
 
 -- the call is done or refused: it does not wait, and the process goes on
-abbrev pub IsOver : Processes → ℕ → CallResult → Type 0
-IsOver processes p result = IsDone processes p result ⊎ ((number : ℕ) × (result ≡ refused number))
+abbrev pub IsFinalResult : Processes → ℕ → CallResult → Type 0
+IsFinalResult processes p result = IsDoneResult processes p result ⊎ ((number : ℕ) × (result ≡ refused number))
 
 -- ---- its effect on the paths
 
@@ -127,7 +127,7 @@ PathsMove call asker files paths =
 -- no volume has changed, and no drive has failed
 pub record NoVolumeChanges (files new : Files) : Type 0 where
   pub volumes : new.volumes ≡ files.volumes
-  pub none_failed : NoneFailed files.drives new.drives
+  pub none_failed : KeepsDriveFaults files.drives new.drives
 
 -- only the volume of the reached drive has changed, and no drive has failed
 pub record OneVolumeChanges (reached : Option ℕ) (files new : Files) : Type 0 where
@@ -137,7 +137,7 @@ pub record OneVolumeChanges (reached : Option ℕ) (files new : Files) : Type 0 
   pub was : volume_at files drive ≡ Some old
   pub changed : DiskVolume
   pub is : new.volumes ≡ slice_set files.volumes drive (Some changed)
-  pub none_failed : NoneFailed files.drives new.drives
+  pub none_failed : KeepsDriveFaults files.drives new.drives
 
 -- the reached drive has failed: the call is refused with the number of its fault, and only the volume of that drive may
 -- have changed
@@ -164,9 +164,9 @@ pub record RefusalLeaves (reached : Option ℕ) (files : Files) (p : ℕ) (resul
 -- an attempt touches no terminal and no pipe: only the paths of input and output change, and the process has no pending
 -- call then. The other processes keep their directories, and the process keeps its own except in I$ChgDir. The volumes
 -- are unchanged, or that of the reached drive changes, in a call that changes one
-pub record LeavesDevices (call : PathCall) (processes : Processes) (files : Files) (now : TimePacket) (p : ℕ)
+pub record TouchesNoDevice (call : PathCall) (processes : Processes) (files : Files) (now : TimePacket) (p : ℕ)
     (result : CallResult) (new : Files) (before after : List TerminalState) : Type 0 where
-  pub over : IsOver processes p result
+  pub over : IsFinalResult processes p result
   pub paths : PathsMove call (asker_of processes p now) files new.io.paths
   pub rest : new.io ≡ with_call (with_paths files.io new.io.paths) p None
   pub terminals : after ≡ before
@@ -195,7 +195,7 @@ pub record WaitsForRecord (call : PathCall) (processes : Processes) (files : Fil
   pub records : new.records ≡ (waiting_in files request).records
   pub directories : new.directories ≡ files.directories
   pub volumes : new.volumes ≡ files.volumes
-  pub none_failed : NoneFailed files.drives new.drives
+  pub none_failed : KeepsDriveFaults files.drives new.drives
   pub terminals : after ≡ before
 
 -- the reached drive has failed, and the call returns the number of its fault
@@ -213,7 +213,7 @@ pub record LeavesFiles (reached : Option ℕ) (old : Files) (result : CallResult
   pub directories : new.directories ≡ old.directories
   pub volumes : new.volumes ≡ old.volumes
   pub records : new.records ≡ old.records
-  pub drives : NoneFailed old.drives new.drives ⊎ FaultAnswers reached old result new
+  pub drives : KeepsDriveFaults old.drives new.drives ⊎ FaultAnswers reached old result new
 
 -- ---- the same by each path and each process
 
@@ -248,10 +248,10 @@ pub record KeepsIo (p : ℕ) (old new : Io) : Type 0 where
   pub pipes : new.pipes ≡ old.pipes
 
 -- every path in the table is held by some process
-abbrev pub AreHeld : PathTable → Type 0
-AreHeld paths = (s : ℕ) (desc : Desc) → desc_of paths s ≡ Some desc → is_held paths s ≡ true
+abbrev pub PathsAreHeld : PathTable → Type 0
+PathsAreHeld paths = (s : ℕ) (desc : Desc) → desc_of paths s ≡ Some desc → is_held paths s ≡ true
 
 -- the table of paths stays in order, and each path in it stays held
 pub record KeepsTable (old new : PathTable) : Type 0 where
   pub paths : ArePaths old → ArePaths new
-  pub held : AreHeld old → AreHeld new
+  pub held : PathsAreHeld old → PathsAreHeld new

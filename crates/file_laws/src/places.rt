@@ -17,17 +17,17 @@ ghost use Rattle.file_rules.specs.Attempts.{AskerAttempts, FileAttempts};
 ghost use Rattle.file_rules.specs.Files.{Files, Asker, DriveState, OpenFile, open_file, volume_at, with_io, with_volume};
 ghost use Rattle.file_rules.specs.Load.{LoadAttempts};
 ghost use Rattle.file_rules.specs.Locking.{files_interrupted};
-ghost use Rattle.file_rules.specs.Processes.{StartsOn, files_ended, files_started};
+ghost use Rattle.file_rules.specs.Processes.{StartsWithImages, files_ended, files_started};
 ghost use Rattle.file_rules.specs.Program.{ChainAttempts, ForkAttempts};
 ghost use Rattle.file_rules.specs.declared.path_call.PathCall.{PathCall};
 ghost use Rattle.file_laws.specs.Kinds.{AreKinds};
-ghost use Rattle.file_laws.specs.Mounted.{AreAsMany};
+ghost use Rattle.file_laws.specs.Mounted.{KeepsMountedDrives};
 
 /// At the start the first process's directories are directories on the volume of D0, and no path is
 /// on a file (Level Two manual, "Booting").
 pub fn directories_are_there_at_the_start()
     ensures { (images : List (List ℕ)) (drives : List DriveState) (files : Files)
-        → StartsOn images drives files → AreKinds files }
+        → StartsWithImages images drives files → AreKinds files }
 {}
 
 /// If a process begins or ends, the targets of paths and the directories of processes still exist,
@@ -37,8 +37,9 @@ pub fn processes_begin_and_end_on_what_is_there()
         → AreKinds (files_started files parent child) }
     ensures ends { (files : Files) (p : ℕ) → AreKinds files → AreKinds (files_ended files p) }
     ensures begins_mounted { (files : Files) (parent child : ℕ)
-        → AreAsMany files (files_started files parent child) }
-    ensures ends_mounted { (files : Files) (p : ℕ) → AreAsMany files (files_ended files p) }
+        → KeepsMountedDrives files (files_started files parent child) }
+    ensures ends_mounted { (files : Files) (p : ℕ)
+        → KeepsMountedDrives files (files_ended files p) }
 {}
 
 /// The targets of paths and the directories still exist if no path changes, as when a key arrives
@@ -98,20 +99,20 @@ pub fn attempts_lose_no_volume()
     ensures attempt { (call : PathCall) (m : Processes) (files : Files) (now : TimePacket) (p : ℕ)
         (result : CallResult) (new : Files) (before after : List TerminalState)
         → FileAttempts call m files now p result new before after → AreKinds files
-        → AreAsMany files new }
+        → KeepsMountedDrives files new }
     ensures asked { (call : PathCall) (asker : Asker) (files : Files) (end : CallEnd) (regs : Regs)
         (cells : Cells) (new : Files) (before after : List TerminalState)
         → AskerAttempts call asker files end regs cells new before after → AreKinds files
-        → AreAsMany files new }
+        → KeepsMountedDrives files new }
 {}
 
 /// The same for F$Load, and for F$Fork and F$Chain of a program in a file.
 pub fn loads_lose_no_volume()
     ensures load { (m : Processes) (asker : Asker) (old : Files) (terms p : ℕ) (result : CallResult)
-        (new : Files) → LoadAttempts m asker old terms p result new → AreAsMany old new }
+        (new : Files) → LoadAttempts m asker old terms p result new → KeepsMountedDrives old new }
     ensures fork { (m : Processes) (asker : Asker) (old : Files) (terms p : ℕ) (result : CallResult)
-        (new : Files) → ForkAttempts m asker old terms p result new → AreAsMany old new }
+        (new : Files) → ForkAttempts m asker old terms p result new → KeepsMountedDrives old new }
     ensures chain { (m : Processes) (asker : Asker) (old : Files) (terms p : ℕ)
         (result : CallResult)
-        (new : Files) → ChainAttempts m asker old terms p result new → AreAsMany old new }
+        (new : Files) → ChainAttempts m asker old terms p result new → KeepsMountedDrives old new }
 {}

@@ -22,7 +22,7 @@ ghost use Rattle.file_rules.specs.Step.{drive_of};
 ghost use Rattle.file_rules.specs.Route.{to_device, route_of, route_to_new};
 ghost use Rattle.file_rules.specs.declared.path_call.PathCall.{PathCall};
 ghost use Rattle.file_rules.specs.declared.path_call.PathCall.TheVariants as Call;
-ghost use Rattle.file_laws.specs.Attempt.{Attempt, HasFault, HasList, IsAsOnDevice, IsOnNumber, IsWithoutFiles, KeepsDevices, KeepsPathTable, OnDevice, TouchesNone, Waits, WaitsOnRecord, asker_in, made_in, route_to_create, route_to_open};
+ghost use Rattle.file_laws.specs.Attempt.{Attempt, ReportsDriveFault, HasList, IsAsOnDevice, IsOnNumber, IsWithoutFiles, KeepsDevices, KeepsPathTable, OnDevice, TouchesNone, AttemptWaits, WaitsOnRecord, asker_in, made_in, route_to_create, route_to_open};
 ghost use Rattle.file_laws.specs.Causes.{FileCause};
 ghost use Rattle.file_laws.specs.LoadCauses.{ChainCause, ForkCause, LoadCause};
 ghost use Rattle.file_laws.specs.Touch.{FaultAnswers, LeavesFiles};
@@ -89,7 +89,7 @@ pub fn numbers_of_devices_are_theirs()
 /// terminals and pipes (Level Two manual, "I/O system").
 pub fn calls_that_wait_are_on_devices()
     ensures waits { (it : Attempt) → IsSome (pending_at it.new.io it.process)
-        → Waits it ⊎ WaitsOnRecord it }
+        → AttemptWaits it ⊎ WaitsOnRecord it }
     ensures again { (it : Attempt) (n : ℕ) (opened : OpenPath) → IsOnNumber it n
         → open_path it.files.io it.process n ≡ Some opened → IsDevice opened.desc.target
         → OnDevice it }
@@ -122,7 +122,7 @@ pub fn lists_lead_to_the_same_devices()
 /// Manual, "I/O service requests").
 pub fn refusals_on_files_have_their_causes()
     ensures { (it : Attempt) (number : ℕ) → it.result ≡ refused number
-        → OnDevice it ⊎ HasFault it ⊎ FileCause (made_in it) number }
+        → OnDevice it ⊎ ReportsDriveFault it ⊎ FileCause (made_in it) number }
 {}
 
 /// F$Load, and F$Fork and F$Chain of a program in a file, at most read a drive, and leave paths,

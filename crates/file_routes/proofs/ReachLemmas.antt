@@ -14,18 +14,18 @@ use Rattle.file_rules.specs.Step.{Step, refused, reaches, needs, drive_of}
 use Rattle.file_rules.specs.Route.{Found, walk_ends, walks}
 use Rattle.lock_model.specs.declared.place.FilePlace.{FilePlace}
 use Rattle.file_drives.specs.Drives.{DriveView}
-use Rattle.file_drives.specs.Mounted.{AgreesOnDrive, AreMounted, HasFileAt, kept_at, mounted_at, number_arrived}
-use Rattle.file_routes.specs.Reached.{EndsOn, Finds}
-use Rattle.file_routes.specs.Walks.{Walks}
+use Rattle.file_drives.specs.Mounted.{AgreesOnDrive, AreMounted, HasFileAt, disk_at, mounted_at, number_arrived}
+use Rattle.file_routes.specs.Reached.{HasWalkEnd, FindsFilePlace}
+use Rattle.file_routes.specs.Walks.{WalksAlongNames}
 use Rattle.file_routes.specs.declared.walk.Walker.{Walker}
 use Rattle.file_routes.proofs.VolumeLemmas.{agrees-at, file-there, view-there}
 
 -- what a walk comes to, by its result
 abbrev pub WalkComes : Walker → Files → FilePlace → List (List ℕ) → Result FilePlace DirError → Type 0
-WalkComes walker files from names (Ok place) = Finds walker files from names place
-WalkComes walker files from names (Err NotAllowed) = EndsOn walker files from names not_allowed
+WalkComes walker files from names (Ok place) = FindsFilePlace walker files from names place
+WalkComes walker files from names (Err NotAllowed) = HasWalkEnd walker files from names not_allowed
 WalkComes walker files from names (Err BadPath) = ⊥
-WalkComes walker files from names (Err NotFound) = EndsOn walker files from names not_found
+WalkComes walker files from names (Err NotFound) = HasWalkEnd walker files from names not_found
 WalkComes walker files from names (Err Exists) = ⊥
 WalkComes walker files from names (Err (File (Device number))) =
     (v : DiskVolume) × (volume_at files from.drive ≡ Some v)
@@ -46,7 +46,7 @@ pub volume-there : (disks : List (Option Volume)) (views : List DriveView) (plac
     → (v : DiskVolume) × (mounted_at volumes place.drive ≡ Some v)
 volume-there disks views place volumes has mounted =
     let there : (view : DriveView) × (slice_get views place.drive ≡ Some view) = view-there disks views has.volumes place.drive has.volume has.mounted has.is in
-    some-agrees (kept_at disks place.drive) there.0 has.volume (mounted_at volumes place.drive)
+    some-agrees (disk_at disks place.drive) there.0 has.volume (mounted_at volumes place.drive)
     (agrees-at disks views has.volumes place.drive has.volume there.0 has.mounted has.is there.1)
     (mounted.each place.drive there.0 there.1)
 
@@ -58,11 +58,11 @@ module _ (walker : Walker) (files : Files) (from : FilePlace) (names : List (Lis
   there : (v : DiskVolume) × (mounted_at files.volumes from.drive ≡ Some v)
   there = volume-there disks before from files.volumes has mounted
 
-  answered : (result : Result FilePlace DirError) → Walks walker from names result disks before new after
+  answered : (result : Result FilePlace DirError) → WalksAlongNames walker from names result disks before new after
       → AnswersWalk (walk there.0.files walker.by.user walker.by.execute from.number names) (number_arrived result)
   answered result walks = walks.walked files.volumes there.0 has.file mounted there.1 (file-there disks before from has files.volumes there.0 mounted there.1)
 
-  pub walk-comes : (result : Result FilePlace DirError) → Walks walker from names result disks before new after → WalkComes walker files from names result
+  pub walk-comes : (result : Result FilePlace DirError) → WalksAlongNames walker from names result disks before new after → WalkComes walker files from names result
   walk-comes (Ok place) walks =
       let at = walks.file in
       let now = walks.drive.mounted files.volumes mounted in
@@ -94,7 +94,7 @@ module _ {E : Type 0} (asker : Asker) (walker : Walker) (files : Files) (from : 
       ∙ ap (λ (end : WalkEnd). reaches from.drive (walk_ends from.drive v end next)) ends
 
   -- with the file that is found
-  pub walks-found : (place : FilePlace) (it : Finds walker files from names place) → walks asker files walker.by.execute from names next ≡ reaches from.drive (next it.found)
+  pub walks-found : (place : FilePlace) (it : FindsFilePlace walker files from names place) → walks asker files walker.by.execute from names next ≡ reaches from.drive (next it.found)
   walks-found place it =
       on-volume it.found.volume (arrives place.number) it.volume_is it.end_is
       ∙ ap (λ (file : Option DiskFile). reaches from.drive
@@ -109,10 +109,10 @@ module _ {E : Type 0} (asker : Asker) (walker : Walker) (files : Files) (from : 
       same = ap (λ (drive : ℕ). let at : FilePlace = record { drive = drive; number = place.number } in at) (sym it.drive_is) ∙ sym it.place_is
 
   -- or it is refused
-  pub walks-forbidden : EndsOn walker files from names not_allowed → walks asker files walker.by.execute from names next ≡ reaches from.drive (refused E_FNA)
+  pub walks-forbidden : HasWalkEnd walker files from names not_allowed → walks asker files walker.by.execute from names next ≡ reaches from.drive (refused E_FNA)
   walks-forbidden it = on-volume it.volume not_allowed it.volume_is it.end_is
 
-  pub walks-unfound : EndsOn walker files from names not_found → walks asker files walker.by.execute from names next ≡ reaches from.drive (refused E_PNNF)
+  pub walks-unfound : HasWalkEnd walker files from names not_found → walks asker files walker.by.execute from names next ≡ reaches from.drive (refused E_PNNF)
   walks-unfound it = on-volume it.volume not_found it.volume_is it.end_is
 
   -- or its drive is reached

@@ -26,7 +26,7 @@ use Rattle.file_routes.specs.declared.route.Purpose.TheVariants.{Existing, New}
 use Rattle.file_routes.specs.declared.route.Route.{Route}
 use Rattle.file_routes.specs.declared.route.Course.{Course}
 use Rattle.file_routes.specs.declared.route.Course.TheVariants.{Along, Device}
-use Rattle.file_routes.specs.Routes.{HasNames, IsRouteOf, NamesOn, RouteIs, StartsOn, along_from, led_by, leads, makes_nothing, names_root, next_step, refuses_by, mode_refusal, unless_refused, route_for, route_on}
+use Rattle.file_routes.specs.Routes.{HasCourseNames, IsRouteOf, NamesOn, RouteIs, StartsAtFile, along_from, led_by, leads, makes_nothing, names_root, next_step, refuses_by, mode_refusal, unless_refused, route_for, route_on}
 
 -- ---- by where it starts
 
@@ -65,7 +65,7 @@ along-names cells (Some from) first number names stand = stand
 
 pub along-starts : (disks : List (Option Volume)) (views : List DriveView) (start : Option FilePlace)
     (first : Option ℕ) (number : ℕ) → IfSome start (HasFileAt disks views) → IfOk (along_from start first number)
-    (StartsOn disks views)
+    (StartsAtFile disks views)
 along-starts disks views None first number has = tt
 along-starts disks views (Some from) first number has = has
 
@@ -73,11 +73,11 @@ pub device-names : (cells : Cells) (slash : Bool) (names : List (List ℕ)) → 
 device-names cells true names = tt
 device-names cells false names = tt
 
-pub device-starts : (disks : List (Option Volume)) (views : List DriveView) (slash : Bool) → IfOk {E = ℕ} (if slash then Err E_BPNAM else Ok Device) (StartsOn disks views)
+pub device-starts : (disks : List (Option Volume)) (views : List DriveView) (slash : Bool) → IfOk {E = ℕ} (if slash then Err E_BPNAM else Ok Device) (StartsAtFile disks views)
 device-starts disks views true = tt
 device-starts disks views false = tt
 
-pub has-names : (cells : Cells) (course : Course) (names : List (List ℕ)) → NamesOn cells course names → HasNames cells course
+pub has-names : (cells : Cells) (course : Course) (names : List (List ℕ)) → NamesOn cells course names → HasCourseNames cells course
 has-names cells (Along start) names stand = record { names = names; from = stand }
 has-names cells Device names stand = tt
 

@@ -9,7 +9,7 @@ use Rattle.rbf_access.proofs.Counting.{no_calls, counts_most, counts_then}
 use Rattle.rbf_walk.proofs.Stepping.{same_content}
 use Rattle.lock_model.specs.declared.place.FilePlace.{FilePlace}
 use Rattle.file_drives.specs.Drives.{DriveView, ReadsDrive}
-use Rattle.file_drives.specs.Mounted.{AgreesOnDrive, AreMounted, HasFileAt, kept_at, mounted_at}
+use Rattle.file_drives.specs.Mounted.{AgreesOnDrive, AreMounted, HasFileAt, disk_at, mounted_at}
 use Rattle.file_drives.proofs.MountedLemmas.{mounted-below}
 
 -- ---- which volume is mounted
@@ -31,9 +31,9 @@ view-there disks views volumes n v mounted is =
 
 pub agrees-at : (disks : List (Option Volume)) (views : List DriveView) (volumes : List (Option DiskVolume)) (n : ℕ)
     (v : DiskVolume) (view : DriveView) → AreMounted disks views volumes → mounted_at volumes n ≡ Some v
-    → slice_get views n ≡ Some view → AgreesOnDrive (kept_at disks n) view (Some v)
+    → slice_get views n ≡ Some view → AgreesOnDrive (disk_at disks n) view (Some v)
 agrees-at disks views volumes n v view mounted is there =
-    subst (λ (o : Option DiskVolume). AgreesOnDrive (kept_at disks n) view o) is (mounted.each n view there)
+    subst (λ (o : Option DiskVolume). AgreesOnDrive (disk_at disks n) view o) is (mounted.each n view there)
 
 -- one volume alone is mounted on a drive
 pub same-volume : (disks : List (Option Volume)) (views : List DriveView) (volumes others : List (Option DiskVolume))
@@ -41,7 +41,7 @@ pub same-volume : (disks : List (Option Volume)) (views : List DriveView) (volum
     ≡ Some v → mounted_at others n ≡ Some w → v ≡ w
 same-volume disks views volumes others n v w mounted other_mounted is other_is =
     let there = view-there disks views volumes n v mounted is in
-    agree-same (kept_at disks n) there.0 v w (agrees-at disks views volumes n v there.0 mounted is there.1) (agrees-at disks views others n w there.0 other_mounted other_is there.1)
+    agree-same (disk_at disks n) there.0 v w (agrees-at disks views volumes n v there.0 mounted is there.1) (agrees-at disks views others n w there.0 other_mounted other_is there.1)
 
 -- the file at a place is that of the volume that is mounted
 pub file-there : (disks : List (Option Volume)) (views : List DriveView) (place : FilePlace)

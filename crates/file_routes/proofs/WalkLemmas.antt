@@ -23,7 +23,7 @@ use Rattle.file_routes.specs.declared.walk.NamePlace.{NamePlace}
 use Rattle.file_routes.specs.declared.walk.Stepped.{Stepped}
 use Rattle.file_routes.specs.declared.walk.Stepped.TheVariants.{Last, Onward}
 use Rattle.file_routes.specs.declared.walk.Walker.{Walker}
-use Rattle.file_routes.specs.Walks.{GoesUp, LastStands, ReachesLast, Steps, StepsBy, StepsToLast, Walks, WalksBy, WalksToLast, stepped_to}
+use Rattle.file_routes.specs.Walks.{StepsToLaterName, LastStands, ReachesLast, StepsAlongNames, StepsBy, StepsToLast, WalksAlongNames, WalksBy, WalksToLast, stepped_to}
 use Rattle.file_routes.proofs.NameLemmas.{before-first, calls-last, last-first, walk-last}
 use Rattle.file_routes.proofs.VolumeLemmas.{file-there, reads-most, reads-none, reads-then, view-there}
 
@@ -45,7 +45,8 @@ goes-on end next n result is ends = subst (λ (x : WalkEnd). AnswersWalk (go_on 
 
 -- ---- no names
 
-pub walks-nowhere : (walker : Walker) (from : FilePlace) (disks : List (Option Volume)) (views : List DriveView) → HasFileAt disks views from → Walks walker from [] (Ok from) disks views disks views
+pub walks-nowhere : (walker : Walker) (from : FilePlace) (disks : List (Option Volume)) (views : List DriveView)
+    → HasFileAt disks views from → WalksAlongNames walker from [] (Ok from) disks views disks views
 walks-nowhere walker from disks views has = record {
   walked = λ volumes v file mounted is there. refl;
   file = record { drive_is = refl; file = has };
@@ -201,7 +202,7 @@ module _ (walker : Walker) (from at : FilePlace) (disks : List (Option Volume)) 
                 omega (arith, few, by_name),
               )
 
-      pub stops-there : (error : DirError) → result ≡ Err error → Walks walker from (before_last names) (Err error) disks before new after
+      pub stops-there : (error : DirError) → result ≡ Err error → WalksAlongNames walker from (before_last names) (Err error) disks before new after
       stops-there error failed = record {
         walked = λ volumes v file mounted is there. stopped volumes v file mounted is there error failed;
         file = tt;
@@ -221,7 +222,7 @@ module _ (walker : Walker) (from at : FilePlace) (disks : List (Option Volume)) 
       }
 
     -- it is the last name of all
-    module _ (names : List (List ℕ)) (last : last_of names ≡ Some name) (walks_before : Walks walker from (before_last names) (Ok at) disks before now views) where
+    module _ (names : List (List ℕ)) (last : last_of names ≡ Some name) (walks_before : WalksAlongNames walker from (before_last names) (Ok at) disks before now views) where
       module _ (volumes : List (Option DiskVolume)) (v : DiskVolume) (file : DiskFile) (mounted : AreMounted disks
           before volumes) (is : mounted_at volumes from.drive ≡ Some v) (there : v.files from.number ≡ Some file)
         where
@@ -249,7 +250,7 @@ module _ (walker : Walker) (from at : FilePlace) (disks : List (Option Volume)) 
               before views after (walks_before.drive.drive volumes v file mounted is there)
               (read volumes v mounted is))
 
-      pub walks-all : Walks walker from names result disks before new after
+      pub walks-all : WalksAlongNames walker from names result disks before new after
       walks-all = record {
         walked = all-walked;
         file = subst (λ (drive : ℕ). IfOk result (ArrivesOn drive new after)) so_far.drive_is walks.file;
@@ -287,7 +288,7 @@ module _ (walker : Walker) (from at : FilePlace) (disks : List (Option Volume)) 
 
 -- the directory that was reached is there
 pub there-before : (walker : Walker) (from at : FilePlace) (names : List (List ℕ)) (disks : List (Option Volume))
-    (before : List DriveView) (now : List (Option Volume)) (views : List DriveView) → Walks walker from names (Ok at)
+    (before : List DriveView) (now : List (Option Volume)) (views : List DriveView) → WalksAlongNames walker from names (Ok at)
     disks before now views → IsThere from at disks before now views
 there-before walker from at names disks before now views walks = record {
   drive_is = walks.file.drive_is;
@@ -301,7 +302,7 @@ some-last names some = (_, slice_get-get_or names (length names - 1) [] (omega a
 -- it stopped before the last name
 pub stops-before : (walker : Walker) (from : FilePlace) (names : List (List ℕ)) (error : DirError)
     (disks : List (Option Volume)) (before : List DriveView) (new : List (Option Volume)) (after : List DriveView)
-    → 1 ≤ length names → Walks walker from (before_last names) (Err error) disks before new after → Walks walker from
+    → 1 ≤ length names → WalksAlongNames walker from (before_last names) (Err error) disks before new after → WalksAlongNames walker from
     names (Err error) disks before new after
 stops-before walker from names error disks before new after some walks =
     let last : (last : List ℕ) × (last_of names ≡ Some last) = some-last names some in
@@ -329,31 +330,31 @@ stops-before walker from names error disks before new after some walks =
 pub steps-of : (now old : Cells) (walker : Walker) (at : FilePlace) (next : ℕ) (result found : Result Stepped
     DirError) (disks : List (Option Volume)) (before : List DriveView) (new : List (Option Volume))
     (after : List DriveView) → now ≡ old → result ≡ found → ((names : List (List ℕ)) → NamesStand now next names
-    → Steps now walker at names result disks before new after) → (names : List (List ℕ)) → NamesStand old next names
-    → Steps old walker at names found disks before new after
+    → StepsAlongNames now walker at names result disks before new after) → (names : List (List ℕ)) → NamesStand old next names
+    → StepsAlongNames old walker at names found disks before new after
 steps-of now old walker at next result found disks before new after same is steps =
-    subst (λ (found : Result Stepped DirError). (names : List (List ℕ)) → NamesStand old next names → Steps old walker at names found disks before new after) is
-    (subst (λ (cells : Cells). (names : List (List ℕ)) → NamesStand cells next names → Steps cells walker at names result disks before new after) same steps)
+    subst (λ (found : Result Stepped DirError). (names : List (List ℕ)) → NamesStand old next names → StepsAlongNames old walker at names found disks before new after) is
+    (subst (λ (cells : Cells). (names : List (List ℕ)) → NamesStand cells next names → StepsAlongNames cells walker at names result disks before new after) same steps)
 
 module _ (cells : Cells) (walker : Walker) (from at : FilePlace) (names : List (List ℕ)) (next : ℕ)
     (disks : List (Option Volume)) (before : List DriveView) (now : List (Option Volume)) (views : List DriveView)
     (new : List (Option Volume)) (after : List DriveView) (so_far : IsThere from at disks before now views)
     (walked_to : IsWalkedTo cells walker from names at next disks before now views) where
-  pub walk-stopped : (error : DirError) → Steps cells walker at walked_to.rest (Err error) now views new after → ReachesLast cells walker from names (Err error) disks before new after
+  pub walk-stopped : (error : DirError) → StepsAlongNames cells walker at walked_to.rest (Err error) now views new after → ReachesLast cells walker from names (Err error) disks before new after
   walk-stopped error (later, step) = record {
     walks = stops-there walker from at disks before now views so_far step.name (Err error) new after step.walks cells names next walked_to step.rest later step.are step.stand error refl;
     last = tt;
   }
 
-  pub walk-onward : (onto : NamePlace) → Steps cells walker at walked_to.rest (Ok (Onward onto)) now views new after
+  pub walk-onward : (onto : NamePlace) → StepsAlongNames cells walker at walked_to.rest (Ok (Onward onto)) now views new after
       → IsWalkedTo cells walker from names onto.directory onto.at disks before new after
   walk-onward onto step =
       walked-more walker from at disks before now views so_far step.name (Ok onto.directory) new after step.walks cells names next walked_to step.rest onto.at step.are step.stand onto.directory refl
 
-  pub there-onward : (onto : NamePlace) → Steps cells walker at walked_to.rest (Ok (Onward onto)) now views new after → IsThere from onto.directory disks before new after
+  pub there-onward : (onto : NamePlace) → StepsAlongNames cells walker at walked_to.rest (Ok (Onward onto)) now views new after → IsThere from onto.directory disks before new after
   there-onward onto step = there-more walker from at disks before now views so_far step.name (Ok onto.directory) new after step.walks onto.directory refl
 
-  pub walk-ended : Steps cells walker at walked_to.rest (Ok Last) now views new after → ReachesLast cells walker from names (Ok (record { directory = at; at = next })) disks before new after
+  pub walk-ended : StepsAlongNames cells walker at walked_to.rest (Ok Last) now views new after → ReachesLast cells walker from names (Ok (record { directory = at; at = next })) disks before new after
   walk-ended step =
       let result : Result NamePlace DirError = Ok (record { directory = at; at = next }) in
       subst (λ (disks_now : List (Option Volume)). ReachesLast cells walker from names result disks before disks_now after) (sym step.disks_kept)
@@ -384,7 +385,7 @@ steps-last cells names named disks views first none = record {
 steps-by : (cells : Cells) (walker : Walker) (at : FilePlace) (names : List (List ℕ)) (next : ℕ)
     (answer : Result FilePlace DirError) (disks : List (Option Volume)) (before : List DriveView)
     (new : List (Option Volume)) (after : List DriveView) → StepsBy cells walker at names next answer disks before new
-    after → Steps cells walker at names (stepped_to next answer) disks before new after
+    after → StepsAlongNames cells walker at names (stepped_to next answer) disks before new after
 steps-by cells walker at names next (Ok place) disks before new after step = step
 steps-by cells walker at names next (Err error) disks before new after step = (next, step)
 
@@ -392,9 +393,9 @@ pub steps-onward : (cells : Cells) (walker : Walker) (at : FilePlace) (names : L
     (next : ℕ) (answer : Result FilePlace DirError) (result : Result Stepped DirError) (disks : List (Option Volume))
     (before : List DriveView) (new : List (Option Volume)) (after : List DriveView) → IsFirstOf cells names named
     → named.next ≡ Some next → result ≡ stepped_to next answer → WalksBy walker at named.name answer disks before new
-    after → Steps cells walker at names result disks before new after
+    after → StepsAlongNames cells walker at names result disks before new after
 steps-onward cells walker at names named next answer result disks before new after first some is walks =
-    subst (λ (result : Result Stepped DirError). Steps cells walker at names result disks before new after) (sym is)
+    subst (λ (result : Result Stepped DirError). StepsAlongNames cells walker at names result disks before new after) (sym is)
     (steps-by cells walker at names next answer disks before new after (record {
       name = named.name;
       rest = first.rest;
@@ -403,16 +404,16 @@ steps-onward cells walker at names named next answer result disks before new aft
       walks = walks;
     }))
 
-up-by : (at next : ℕ) (answer : Result FilePlace DirError) → (at < next) × (next < 65536) → IfOk (stepped_to next answer) (GoesUp at)
+up-by : (at next : ℕ) (answer : Result FilePlace DirError) → (at < next) × (next < 65536) → IfOk (stepped_to next answer) (StepsToLaterName at)
 up-by at next (Ok place) up = up
 up-by at next (Err error) up = tt
 
 pub goes-up : (at next : ℕ) (answer : Result FilePlace DirError) (result : Result Stepped DirError)
     (read : Result Named NameFault) (named : Named) → read ≡ Ok named → NextIsBehind at read → named.next ≡ Some next
-    → result ≡ stepped_to next answer → IfOk result (GoesUp at)
+    → result ≡ stepped_to next answer → IfOk result (StepsToLaterName at)
 goes-up at next answer result read named is behind some result_is =
     let up : IfSome named.next (λ next. (at < next) × (next < 65536)) = subst (NextIsBehind at) is behind in
-    subst (λ (result : Result Stepped DirError). IfOk result (GoesUp at)) (sym result_is)
+    subst (λ (result : Result Stepped DirError). IfOk result (StepsToLaterName at)) (sym result_is)
     (up-by at next answer (subst (λ (next : Option ℕ). IfSome next (λ next. (at < next) × (next < 65536))) some up))
 
 -- ---- the last name
@@ -430,10 +431,10 @@ last-read cells names at named it first =
 
 pub walks-none : (cells : Cells) (walker : Walker) (from : FilePlace) (names : List (List ℕ)) (first : Option ℕ)
     (disks : List (Option Volume)) (views : List DriveView) → first ≡ None → NamesFrom cells first names
-    → HasFileAt disks views from → Walks walker from names (Ok from) disks views disks views
+    → HasFileAt disks views from → WalksAlongNames walker from names (Ok from) disks views disks views
 walks-none cells walker from names first disks views none stand has =
     let no : names ≡ [] = subst (λ (first : Option ℕ). NamesFrom cells first names) none stand in
-    subst (λ (names : List (List ℕ)). Walks walker from names (Ok from) disks views disks views) (sym no) (walks-nowhere walker from disks views has)
+    subst (λ (names : List (List ℕ)). WalksAlongNames walker from names (Ok from) disks views disks views) (sym no) (walks-nowhere walker from disks views has)
 
 pub from-some : (cells : Cells) (names : List (List ℕ)) (first : Option ℕ) (at : ℕ) → first ≡ Some at → NamesFrom cells first names → NamesStand cells at names
 from-some cells names first at some stand = subst (λ (first : Option ℕ). NamesFrom cells first names) some stand
@@ -442,7 +443,7 @@ pub walks-last : (walker : Walker) (from : FilePlace) (names : List (List ℕ)) 
     (result : Result FilePlace DirError) (disks : List (Option Volume)) (before : List DriveView)
     (now : List (Option Volume)) (views : List DriveView) (new : List (Option Volume)) (after : List DriveView)
     → WalksToLast walker from names (Ok last) disks before now views → WalksBy walker last.directory last.name result
-    now views new after → Walks walker from names result disks before new after
+    now views new after → WalksAlongNames walker from names result disks before new after
 walks-last walker from names last result disks before now views new after to_last by =
     walks-all walker from last.directory disks before now views (there-before walker from last.directory
     (before_last names) disks before now views to_last.walks) last.name result new after by names to_last.name

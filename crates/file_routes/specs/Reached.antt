@@ -8,14 +8,15 @@ use Rattle.lock_model.specs.declared.place.FilePlace.{FilePlace}
 use Rattle.file_routes.specs.declared.walk.Walker.{Walker}
 
 -- it has this end on the volume of the drive
-pub record EndsOn (walker : Walker) (files : Files) (from : FilePlace) (names : List (List ℕ)) (end : WalkEnd)
+pub record HasWalkEnd (walker : Walker) (files : Files) (from : FilePlace) (names : List (List ℕ)) (end : WalkEnd)
     : Type 0 where
   pub volume : DiskVolume
   pub volume_is : volume_at files from.drive ≡ Some volume
   pub end_is : walk volume.files walker.by.user walker.by.execute from.number names ≡ end
 
 -- it arrives at this file
-pub record Finds (walker : Walker) (files : Files) (from : FilePlace) (names : List (List ℕ)) (place : FilePlace)
+pub record FindsFilePlace (walker : Walker) (files : Files) (from : FilePlace) (names : List (List ℕ))
+    (place : FilePlace)
     : Type 0 where
   pub found : Found
   pub place_is : found.place ≡ place

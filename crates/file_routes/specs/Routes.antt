@@ -44,14 +44,14 @@ NamesOn cells (Along start) names = NamesFrom cells start.first names
 NamesOn cells Device names = ⊤
 
 -- there is a file where it starts
-abbrev pub StartsOn : List (Option Volume) → List DriveView → Course → Type 0
-StartsOn disks views (Along start) = HasFileAt disks views start.directory
-StartsOn disks views Device = ⊤
+abbrev pub StartsAtFile : List (Option Volume) → List DriveView → Course → Type 0
+StartsAtFile disks views (Along start) = HasFileAt disks views start.directory
+StartsAtFile disks views Device = ⊤
 
 -- it has some names, or no names
-abbrev pub HasNames : Cells → Course → Type 0
-HasNames cells (Along start) = SomeFrom cells start.first
-HasNames cells Device = ⊤
+abbrev pub HasCourseNames : Cells → Course → Type 0
+HasCourseNames cells (Along start) = SomeFrom cells start.first
+HasCourseNames cells Device = ⊤
 
 -- the route of a list, by the purpose of the call
 abbrev pub route_for : Purpose → Asker → Files → ℕ → Bool → PathList → Rule.Route
@@ -61,10 +61,10 @@ route_for New asker files terms execute list = route_to_new asker files terms ex
 -- ---- devices
 
 -- a drive is one of four
-abbrev pub IsDevice : Dev → Type 0
-IsDevice (Drive drive) = drive < 4
-IsDevice (Term terminal) = ⊤
-IsDevice Pipe = ⊤
+abbrev pub IsDriveInRange : Dev → Type 0
+IsDriveInRange (Drive drive) = drive < 4
+IsDriveInRange (Term terminal) = ⊤
+IsDriveInRange Pipe = ⊤
 
 -- a list is the root of a drive, on a machine with `drives` drives and `terms` terminals
 abbrev pub names_root : ℕ → ℕ → Listed → Bool
@@ -154,8 +154,8 @@ IsRouteFor purpose refusal cells asker files terms execute result =
 
 -- a found route has some names, or no names
 abbrev pub RouteHasNames : Cells → Result Route ℕ → Type 0
-RouteHasNames cells result = IfOk result (λ route. HasNames cells route.course)
+RouteHasNames cells result = IfOk result (λ route. HasCourseNames cells route.course)
 
 -- and there is a file at its start
 abbrev pub RouteStarts : List (Option Volume) → List DriveView → Result Route ℕ → Type 0
-RouteStarts disks views result = IfOk result (λ route. StartsOn disks views route.course)
+RouteStarts disks views result = IfOk result (λ route. StartsAtFile disks views route.course)

@@ -41,7 +41,8 @@ pub record WalksBy (walker : Walker) (at : FilePlace) (name : List ℕ) (result 
       step_calls (Some file) walker.by.user walker.by.execute name) disks before new after
 
 -- along these names: it has the end of the walk on the volume, unless a fault of the drive ended it before
-pub record Walks (walker : Walker) (from : FilePlace) (names : List (List ℕ)) (result : Result FilePlace DirError)
+pub record WalksAlongNames (walker : Walker) (from : FilePlace) (names : List (List ℕ))
+    (result : Result FilePlace DirError)
     (disks : List (Option Volume)) (before : List DriveView) (new : List (Option Volume)) (after : List DriveView)
     : Type 0 where
   pub walked : OnDisks disks before from (λ v file.
@@ -59,7 +60,7 @@ directory_reached (Err error) = Err error
 pub record WalksToLast (walker : Walker) (from : FilePlace) (names : List (List ℕ)) (result : Result LastName DirError)
     (disks : List (Option Volume)) (before : List DriveView) (new : List (Option Volume)) (after : List DriveView)
     : Type 0 where
-  pub walks : Walks walker from (before_last names) (directory_reached result) disks before new after
+  pub walks : WalksAlongNames walker from (before_last names) (directory_reached result) disks before new after
   pub name : IfOk result (λ last. last_of names ≡ Some last.name)
 
 -- the last of some names is at an address, and no other after it
@@ -76,7 +77,7 @@ place_reached (Err error) = Err error
 pub record ReachesLast (cells : Cells) (walker : Walker) (from : FilePlace) (names : List (List ℕ))
     (result : Result NamePlace DirError) (disks : List (Option Volume)) (before : List DriveView)
     (new : List (Option Volume)) (after : List DriveView) : Type 0 where
-  pub walks : Walks walker from (before_last names) (place_reached result) disks before new after
+  pub walks : WalksAlongNames walker from (before_last names) (place_reached result) disks before new after
   pub last : IfOk result (λ last. LastStands cells names last.at)
 
 -- ---- one step of it
@@ -105,14 +106,14 @@ stepped_to next (Ok place) = Ok (Onward (record { directory = place; at = next }
 stepped_to next (Err error) = Err error
 
 -- the next name is at a later address
-abbrev pub GoesUp : ℕ → Stepped → Type 0
-GoesUp at Last = ⊤
-GoesUp at (Onward next) = (at < next.at) × (next.at < 65536)
+abbrev pub StepsToLaterName : ℕ → Stepped → Type 0
+StepsToLaterName at Last = ⊤
+StepsToLaterName at (Onward next) = (at < next.at) × (next.at < 65536)
 
-abbrev pub Steps : Cells → Walker → FilePlace → List (List ℕ) → Result Stepped DirError → List (Option Volume)
+abbrev pub StepsAlongNames : Cells → Walker → FilePlace → List (List ℕ) → Result Stepped DirError → List (Option Volume)
     → List DriveView → List (Option Volume) → List DriveView → Type 0
-Steps cells walker at names (Ok Last) disks before new after = StepsToLast names disks before new after
-Steps cells walker at names (Ok (Onward next)) disks before new after =
+StepsAlongNames cells walker at names (Ok Last) disks before new after = StepsToLast names disks before new after
+StepsAlongNames cells walker at names (Ok (Onward next)) disks before new after =
     StepsBy cells walker at names next.at (Ok next.directory) disks before new after
-Steps cells walker at names (Err error) disks before new after =
+StepsAlongNames cells walker at names (Err error) disks before new after =
     (next : ℕ) × StepsBy cells walker at names next (Err error) disks before new after

@@ -4,14 +4,14 @@ ghost use Rattle.std.specs.Prelude.{◌≡◌, ◌<◌, ℕ, Bool, IfSome, Optio
 ghost use Rattle.proc_model.specs.Processes.{Processes, cells_at};
 ghost use Rattle.guest_memory.specs.Tie.{cells_of};
 ghost use Rattle.os9_base.specs.declared.registers.TimePacket.{TimePacket};
-ghost use Rattle.proc_state.specs.Tie.{IsSame, Represents};
+ghost use Rattle.proc_state.specs.Tie.{AreProcessesSame, RepresentsProcesses};
 ghost use Rattle.rbf_model.specs.Volume.{DiskVolume};
 ghost use Rattle.file_rules.specs.Attempts.{asker_of};
 ghost use Rattle.file_rules.specs.Files.{Files};
 ghost use Rattle.file_drives.specs.Drives.{DriveView, drives_seen};
 ghost use Rattle.file_drives.specs.Mounted.{AreMounted, HasFileAt};
 ghost use Rattle.device_paths.specs.Standing.{NamesFrom, NamesStand};
-ghost use Rattle.file_routes.specs.Walks.{SomeFrom, SomeStand, Walks, WalksToLast};
+ghost use Rattle.file_routes.specs.Walks.{SomeFrom, SomeStand, WalksAlongNames, WalksToLast};
 ghost use Rattle.file_routes.specs.Routes.{Asks, IsRouteFor, RouteHasNames, RouteStarts};
 
 use crate::route::{Query, Route, find_route};
@@ -36,7 +36,7 @@ pub fn call_route(
 ) -> Result<Route, u8>
     requires { query.process.0 < 33 }
     ensures route { (m : Processes) (now : TimePacket) (files : Files) (execute : Bool)
-        (views : List DriveView) → Represents s.old m
+        (views : List DriveView) → RepresentsProcesses s.old m
         → Asks query (cells_at m query.process.0) disks.now views (vec_len devices.now.drives)
         (asker_of m query.process.0 now) files execute
         → IsRouteFor query.purpose query.refusal (cells_at m query.process.0)
@@ -45,7 +45,7 @@ pub fn call_route(
     ensures start { (views : List DriveView) (volumes : List (Option DiskVolume))
         → AreMounted disks.now views volumes → IfSome query.directory (HasFileAt disks.now views)
         → RouteStarts disks.now views result }
-    ensures same { IsSame s.old s.new }
+    ensures same { AreProcessesSame s.old s.new }
 {
     find_route(&mut s.memory, disks, devices, query)
 }
@@ -65,12 +65,12 @@ pub fn call_walk(
     requires process { walker.process.0 < 33 }
     requires names { SomeFrom (cells_of s.old.memory walker.process.0) start.first }
     requires file { HasFileAt disks.old (drives_seen BlockDriver-box devices.old) start.directory }
-    ensures walks { (m : Processes) (names : List (List ℕ)) → Represents s.old m
+    ensures walks { (m : Processes) (names : List (List ℕ)) → RepresentsProcesses s.old m
         → NamesFrom (cells_at m walker.process.0) start.first names
-        → Walks walker start.directory names result
+        → WalksAlongNames walker start.directory names result
         disks.old (drives_seen BlockDriver-box devices.old)
         disks.new (drives_seen BlockDriver-box devices.new) }
-    ensures same { IsSame s.old s.new }
+    ensures same { AreProcessesSame s.old s.new }
     ensures terms_kept { devices.new.terms ≡ devices.old.terms }
 {
     walk(&mut s.memory, disks, devices, walker, start)
@@ -92,12 +92,12 @@ pub fn call_walk_to_last(
     requires process { walker.process.0 < 33 }
     requires names { SomeStand (cells_of s.old.memory walker.process.0) first.at }
     requires file { HasFileAt disks.old (drives_seen BlockDriver-box devices.old) first.directory }
-    ensures walks { (m : Processes) (names : List (List ℕ)) → Represents s.old m
+    ensures walks { (m : Processes) (names : List (List ℕ)) → RepresentsProcesses s.old m
         → NamesStand (cells_at m walker.process.0) first.at names
         → WalksToLast walker first.directory names result
         disks.old (drives_seen BlockDriver-box devices.old)
         disks.new (drives_seen BlockDriver-box devices.new) }
-    ensures same { IsSame s.old s.new }
+    ensures same { AreProcessesSame s.old s.new }
     ensures terms_kept { devices.new.terms ≡ devices.old.terms }
 {
     walk_to_last(&mut s.memory, disks, devices, walker, first)

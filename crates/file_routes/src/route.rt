@@ -1,7 +1,7 @@
 //! The routes of path lists.
 
 ghost use Rattle.std.specs.Prelude.{◌≡◌, ◌||◌, ◌<◌, ℕ, Bool, Option, Some, Ok, Err, IfOk, IfSome, List, vec_len, if◌then◌else◌};
-ghost use Rattle.guest_memory.specs.Tie.{IsSame, cells_of};
+ghost use Rattle.guest_memory.specs.Tie.{IsMemorySame, cells_of};
 ghost use Rattle.os9_base.specs.Cells.{Cells};
 ghost use Rattle.io_model.specs.PathList.{PathList, path_list};
 ghost use Rattle.rbf_model.specs.Volume.{DiskVolume};
@@ -12,7 +12,7 @@ ghost use Rattle.file_drives.specs.Mounted.{AreMounted, HasFileAt};
 ghost use Rattle.device_paths.specs.Listed.{listed};
 ghost use Rattle.device_paths.specs.Standing.{NamesFrom};
 ghost use Rattle.file_routes.specs.Routes as model;
-ghost use Rattle.file_routes.specs.Routes.{Asks, IsDevice, IsRouteFor, IsRouteOf, NamesOn, RouteHasNames, RouteStarts, StartsOn, along_from, names_root, route_for, route_on};
+ghost use Rattle.file_routes.specs.Routes.{Asks, IsDriveInRange, IsRouteFor, IsRouteOf, NamesOn, RouteHasNames, RouteStarts, StartsAtFile, along_from, names_root, route_for, route_on};
 
 use crate::walk::WalkStart;
 use device_paths::list::{Listed, read_path_list};
@@ -101,7 +101,7 @@ pub fn find_route(
     ensures start { (views : List DriveView) (volumes : List (Option DiskVolume))
         → AreMounted disks.now views volumes → IfSome query.directory (HasFileAt disks.now views)
         → RouteStarts disks.now views result }
-    ensures same { IsSame memory.old memory.new }
+    ensures same { IsMemorySame memory.old memory.new }
 {
     match read_path_list(memory, query.process, query.at) {
         Err(NameFault::Unreadable) => Err(E_BPADDR),
@@ -174,7 +174,7 @@ fn course_by(disks: &Disks, devices: &Devices, query: Query, list: &Listed) -> R
         → list.now ≡ listed named → IfOk result (λ course. NamesOn cells course named.names) }
     ensures start { (views : List DriveView) (volumes : List (Option DiskVolume))
         → AreMounted disks.now views volumes → IfSome query.directory (HasFileAt disks.now views)
-        → IfOk result (StartsOn disks.now views) }
+        → IfOk result (StartsAtFile disks.now views) }
 {
     if makes_nothing(query.purpose, devices, list) {
         return Err(E_BPNAM);
@@ -196,14 +196,14 @@ fn course_by(disks: &Disks, devices: &Devices, query: Query, list: &Listed) -> R
 /// E$MNF exactly if it is a drive without a volume, E$BPNam exactly if it is a terminal or a pipe
 /// followed by a slash.
 fn course_on(disks: &Disks, device: Dev, list: &Listed, first: Option<u16>) -> Result<Course, u8>
-    requires { IsDevice device }
+    requires { IsDriveInRange device }
     ensures course { (files : Files) (views : List DriveView) (named : PathList)
         → AreMounted disks.now views files.volumes → list.now ≡ listed named
         → route_on result named.names ≡ route_of_device files named (Some device) }
     ensures names { (cells : Cells) (names : List (List ℕ)) → NamesFrom cells first names
         → IfOk result (λ course. NamesOn cells course names) }
     ensures start { (views : List DriveView) (volumes : List (Option DiskVolume))
-        → AreMounted disks.now views volumes → IfOk result (StartsOn disks.now views) }
+        → AreMounted disks.now views volumes → IfOk result (StartsAtFile disks.now views) }
 {
     match device {
         Dev::Drive(n) => along(disks.root(n), first, E_MNF),

@@ -1,11 +1,11 @@
 //! The walk along the names of a path list.
 
 ghost use Rattle.std.specs.Prelude.{◌≡◌, ◌<◌, ℕ, Ok, IfOk, List};
-ghost use Rattle.guest_memory.specs.Tie.{IsSame, cells_of};
+ghost use Rattle.guest_memory.specs.Tie.{IsMemorySame, cells_of};
 ghost use Rattle.file_drives.specs.Drives.{drives_seen};
 ghost use Rattle.file_drives.specs.Mounted.{HasFileAt};
 ghost use Rattle.device_paths.specs.Standing.{NamesFrom, NamesStand};
-ghost use Rattle.file_routes.specs.Walks.{GoesUp, ReachesLast, SomeFrom, SomeStand, Steps, Walks, WalksBy, WalksToLast, stepped_to};
+ghost use Rattle.file_routes.specs.Walks.{StepsToLaterName, ReachesLast, SomeFrom, SomeStand, StepsAlongNames, WalksAlongNames, WalksBy, WalksToLast, stepped_to};
 
 use device_paths::named::read_name;
 use device_table::devices::Devices;
@@ -77,10 +77,10 @@ pub fn walk(
     requires file { HasFileAt disks.old (drives_seen BlockDriver-box devices.old) start.directory }
     ensures walks { (names : List (List ℕ))
         → NamesFrom (cells_of memory.old walker.process.0) start.first names
-        → Walks walker start.directory names result
+        → WalksAlongNames walker start.directory names result
         disks.old (drives_seen BlockDriver-box devices.old)
         disks.new (drives_seen BlockDriver-box devices.new) }
-    ensures same { IsSame memory.old memory.new }
+    ensures same { IsMemorySame memory.old memory.new }
     ensures terms_kept { devices.new.terms ≡ devices.old.terms }
 {
     let Some(at) = start.first else {
@@ -117,7 +117,7 @@ pub fn walk_to_last(
         → WalksToLast walker first.directory names result
         disks.old (drives_seen BlockDriver-box devices.old)
         disks.new (drives_seen BlockDriver-box devices.new) }
-    ensures same { IsSame memory.old memory.new }
+    ensures same { IsMemorySame memory.old memory.new }
     ensures terms_kept { devices.new.terms ≡ devices.old.terms }
 {
     match reach_last(memory, disks, devices, walker, first) {
@@ -153,7 +153,7 @@ fn reach_last(
         → ReachesLast (cells_of memory.old walker.process.0) walker first.directory names result
         disks.old (drives_seen BlockDriver-box devices.old)
         disks.new (drives_seen BlockDriver-box devices.new) }
-    ensures same { IsSame memory.old memory.new }
+    ensures same { IsMemorySame memory.old memory.new }
     ensures terms_kept { devices.new.terms ≡ devices.old.terms }
 {
     let mut place = first;
@@ -183,11 +183,11 @@ fn step(
     requires file { HasFileAt disks.old (drives_seen BlockDriver-box devices.old) place.directory }
     ensures steps { (names : List (List ℕ))
         → NamesStand (cells_of memory.old walker.process.0) place.at names
-        → Steps (cells_of memory.old walker.process.0) walker place.directory names result
+        → StepsAlongNames (cells_of memory.old walker.process.0) walker place.directory names result
         disks.old (drives_seen BlockDriver-box devices.old)
         disks.new (drives_seen BlockDriver-box devices.new) }
-    ensures up { IfOk result (GoesUp place.at) }
-    ensures same { IsSame memory.old memory.new }
+    ensures up { IfOk result (StepsToLaterName place.at) }
+    ensures same { IsMemorySame memory.old memory.new }
     ensures terms_kept { devices.new.terms ≡ devices.old.terms }
 {
     match read_name(memory, walker.process, place.at) {

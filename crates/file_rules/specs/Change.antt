@@ -6,7 +6,7 @@ use Rattle.rbf_model.specs.File.{DiskFile}
 use Rattle.rbf_model.specs.Volume.{DiskVolume, Vol}
 use Rattle.rbf_change.specs.Contents.{written}
 use Rattle.rbf_change.specs.Growth.{IsOneTooMany}
-use Rattle.rbf_change.specs.Calls.{cluster_size, is_free_in, Writes, SetsSize, SetsAttributes}
+use Rattle.rbf_change.specs.Calls.{cluster_size, is_free_in, WritesFileAt, SetsSize, SetsAttributes}
 use Rattle.rbf_change.specs.NewFiles.{file_plan, directory_plan, Creates, MakesDirectory, Deletes}
 use Rattle.rbf_change.specs.Faults.{WriteEnds, SizeEnds, NewFileEnds, DeletionEnds}
 
@@ -26,13 +26,13 @@ pub data Change : Type 0 where
 
 -- the effect of the change on a volume, for a user and at a time; `new` is the number of the new file, if the change
 -- makes one
-abbrev pub Makes : Change → ℕ → TimePacket → DiskVolume → DiskVolume → ℕ → Type 0
-Makes (writes n at bytes) user now v w new = Writes v w n at bytes now
-Makes (sizes n size) user now v w new = SetsSize v w n size now
-Makes (sets_attributes n attributes) user now v w new = SetsAttributes v w n attributes now
-Makes (creates d name attributes) user now v w new = Creates v w d new name attributes user now
-Makes (makes_directory d name attributes) user now v w new = MakesDirectory v w d new name attributes user now
-Makes (deletes d n name) user now v w new = Deletes v w d n name
+abbrev pub AppliesChange : Change → ℕ → TimePacket → DiskVolume → DiskVolume → ℕ → Type 0
+AppliesChange (writes n at bytes) user now v w new = WritesFileAt v w n at bytes now
+AppliesChange (sizes n size) user now v w new = SetsSize v w n size now
+AppliesChange (sets_attributes n attributes) user now v w new = SetsAttributes v w n attributes now
+AppliesChange (creates d name attributes) user now v w new = Creates v w d new name attributes user now
+AppliesChange (makes_directory d name attributes) user now v w new = MakesDirectory v w d new name attributes user now
+AppliesChange (deletes d n name) user now v w new = Deletes v w d n name
 
 -- the list of segments of file n has no place for a cluster that the file may gain for a size
 pub record FindsNoPlace (v : DiskVolume) (n : ℕ) (size : DiskFile → ℕ) : Type 0 where
@@ -55,11 +55,12 @@ abbrev pub OnImage : DiskVolume → (List ℕ → Type 0) → Type 0
 OnImage left fact = (image : List ℕ) × Vol image left × fact image
 
 -- what a fault of the drive may leave of the volume
-abbrev pub MayLeave : Change → ℕ → TimePacket → DiskVolume → DiskVolume → Type 0
-MayLeave (writes n at bytes) user now v left = WriteEnds v left n at bytes
-MayLeave (sizes n size) user now v left = OnImage left (λ image. SizeEnds image v left n size now)
-MayLeave (sets_attributes n attributes) user now v left = left ≡ v
-MayLeave (creates d name attributes) user now v left = NewFileEnds v left d name (λ n. file_plan attributes user now)
-MayLeave (makes_directory d name attributes) user now v left =
+abbrev pub ChangeMayLeave : Change → ℕ → TimePacket → DiskVolume → DiskVolume → Type 0
+ChangeMayLeave (writes n at bytes) user now v left = WriteEnds v left n at bytes
+ChangeMayLeave (sizes n size) user now v left = OnImage left (λ image. SizeEnds image v left n size now)
+ChangeMayLeave (sets_attributes n attributes) user now v left = left ≡ v
+ChangeMayLeave (creates d name attributes) user now v left = NewFileEnds v left d name
+    (λ n. file_plan attributes user now)
+ChangeMayLeave (makes_directory d name attributes) user now v left =
     NewFileEnds v left d name (directory_plan attributes user now d)
-MayLeave (deletes d n name) user now v left = OnImage left (λ image. DeletionEnds image v left d n name)
+ChangeMayLeave (deletes d n name) user now v left = OnImage left (λ image. DeletionEnds image v left d n name)

@@ -137,8 +137,8 @@ abbrev pub drive_at : List DriveState → ℕ → DriveState
 drive_at drives n = slice_index_or drives n new_drive
 
 -- no drive failed: each count and each last fault is unchanged
-abbrev pub NoneFailed : List DriveState → List DriveState → Type 0
-NoneFailed before now = now ≡ before
+abbrev pub KeepsDriveFaults : List DriveState → List DriveState → Type 0
+KeepsDriveFaults before now = now ≡ before
 
 -- only this drive failed: its count rose, and the error of its last fault is this number
 pub record OneFailed (drive number : ℕ) (before now : List DriveState) : Type 0 where

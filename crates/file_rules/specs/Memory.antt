@@ -23,7 +23,7 @@ pub record LacksMemory (call : PathCall) (m : Processes) (files : Files) (now : 
   pub wants : WantsMemory step (caller_of m p) files.io before after
 
 -- a lock that was granted, or a write, is the last entry of the history now. The end of a lock wants no memory
-pub record Enters (old new : Records) : Type 0 where
+pub record AddsHistoryEntry (old new : Records) : Type 0 where
   pub entry : Entry
   pub is : new.history ≡ old.history ++ entry ∷ []
   pub no_end : entry.kind ≢ Drop
@@ -34,4 +34,4 @@ pub record LacksEntry (call : PathCall) (m : Processes) (files : Files) (now : T
     (before after : List TerminalState) : Type 0 where
   pub result : CallResult
   pub attempts : FileAttempts call m files now p result done before after
-  pub enters : Enters files.records done.records
+  pub enters : AddsHistoryEntry files.records done.records

@@ -66,7 +66,7 @@ first_files volumes drives = record {
 }
 
 -- the state at the start of a machine with these images in its first drives
-pub record StartsOn (images : List (List ℕ)) (drives : List DriveState) (files : Files) : Type 0 where
+pub record StartsWithImages (images : List (List ℕ)) (drives : List DriveState) (files : Files) : Type 0 where
   pub volumes : List DiskVolume
   pub mounted : AllZip Vol images volumes
   pub is : files ≡ first_files volumes drives

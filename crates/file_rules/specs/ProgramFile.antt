@@ -7,7 +7,7 @@ use Rattle.os9_base.specs.declared.errors.TheConstants.{E_FNA, E_SHARE, E_MEMFUL
 use Rattle.os9_base.specs.declared.limits.TheConstants.{MOST_GROUP_BYTES}
 use Rattle.io_model.specs.PathList.{PathList}
 use Rattle.io_model.specs.declared.modes.TheConstants.{MODE_EXECUTE}
-use Rattle.file_rules.specs.Files.{Files, Asker, DriveState, NoneFailed, OneFailed, with_drives}
+use Rattle.file_rules.specs.Files.{Files, Asker, DriveState, KeepsDriveFaults, OneFailed, with_drives}
 use Rattle.file_rules.specs.Open.{may_open}
 use Rattle.file_rules.specs.Sharing.{is_not_shared}
 use Rattle.file_rules.specs.Step.{Step, refused, comes, reaches, drive_of, refuses}
@@ -56,6 +56,6 @@ pub record ReadingIsBroken (step : Step ProgramFile) (reading : Result ProgramFi
 -- changed in the state
 pub record ReadsProgram (step : Step ProgramFile) (reading : Result ProgramFile ℕ) (old new : Files) : Type 0 where
   pub drives : List DriveState
-  pub outcome : ((reading ≡ reading_of step) × NoneFailed old.drives drives)
+  pub outcome : ((reading ≡ reading_of step) × KeepsDriveFaults old.drives drives)
       ⊎ ReadingIsBroken step reading old.drives drives
   pub state : new ≡ with_drives old drives

@@ -6,10 +6,10 @@ use Rattle.os9_base.specs.declared.registers.Regs.{Regs}
 use Rattle.os9_outer.specs.TerminalState.{TerminalState}
 use Rattle.lock_model.specs.Records.{with_waiting}
 use Rattle.rbf_model.specs.Volume.{DiskVolume}
-use Rattle.io_model.specs.Attempts.{Does}
+use Rattle.io_model.specs.Attempts.{IoDoes}
 use Rattle.io_model.specs.Step.{IoEnd, answers, fails, IoEffect, IoStep}
-use Rattle.file_rules.specs.Change.{Change, Makes, MayBeTooLong, MayLeave}
-use Rattle.file_rules.specs.Files.{Files, Asker, DriveState, NoneFailed, OneFailed, volume_at, with_io, with_records, with_volume, with_drives}
+use Rattle.file_rules.specs.Change.{Change, AppliesChange, MayBeTooLong, ChangeMayLeave}
+use Rattle.file_rules.specs.Files.{Files, Asker, DriveState, KeepsDriveFaults, OneFailed, volume_at, with_io, with_records, with_volume, with_drives}
 
 -- ---- steps
 
@@ -108,7 +108,7 @@ pub record IsChanged (it : VolumeChange) (asker : Asker) (files : Files) (effect
   pub is : volume_at files it.drive ≡ Some old
   pub new : DiskVolume
   pub number : ℕ
-  pub makes : Makes it.change asker.user asker.now old new number
+  pub makes : AppliesChange it.change asker.user asker.now old new number
   pub effect_is : effect ≡ with_volume_after (it.effect number) it.drive new
 
 -- a list of segments had no place for a chosen cluster
@@ -122,7 +122,7 @@ pub record IsTooLong (it : VolumeChange) (files : Files) (effect : FileEffect) :
 abbrev pub DoesDeed : Deed → Asker → Files → FileEffect → List TerminalState → List TerminalState → Type 0
 DoesDeed (leaves_so it) asker files effect before after = (effect ≡ it) × (after ≡ before)
 DoesDeed (as_io step) asker files effect before after =
-    (it : IoEffect) × Does step asker.caller files.io it before after
+    (it : IoEffect) × IoDoes step asker.caller files.io it before after
     × (effect ≡ on_files asker.caller.process.0 files it)
 DoesDeed (changes it) asker files effect before after =
     (IsChanged it asker files effect ⊎ IsTooLong it files effect) × (after ≡ before)
@@ -133,14 +133,14 @@ pub record GoesWell (step : FileStep) (asker : Asker) (files : Files) (effect : 
   pub it : FileEffect
   pub does : DoesDeed (deed_of step files) asker files it before after
   pub drives : List DriveState
-  pub none_failed : NoneFailed files.drives drives
+  pub none_failed : KeepsDriveFaults files.drives drives
   pub effect_is : effect ≡ with_drives_after it drives
 
 -- what a fault may leave of a volume on which this was to be done
 abbrev pub MayBeLeft : Deed → Asker → DiskVolume → DiskVolume → Type 0
 MayBeLeft (leaves_so it) asker old left = left ≡ old
 MayBeLeft (as_io step) asker old left = left ≡ old
-MayBeLeft (changes it) asker old left = MayLeave it.change asker.user asker.now old left
+MayBeLeft (changes it) asker old left = ChangeMayLeave it.change asker.user asker.now old left
 
 -- the drive that the step reached has failed. The call returns the number of the fault that the drive had in this
 -- attempt, and nothing but the volume and the drives' counts has changed

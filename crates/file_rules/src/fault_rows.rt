@@ -3,7 +3,7 @@ ghost use Rattle.os9_base.specs.declared.errors.TheConstants.{E_WRITE};
 ghost use Rattle.os9_base.specs.declared.registers.TimePacket.{TimePacket};
 ghost use Rattle.os9_outer.specs.TerminalState.{TerminalState};
 ghost use Rattle.rbf_model.specs.Volume.{DiskVolume};
-ghost use Rattle.file_rules.specs.Change.{MayLeave, creates, makes_directory, sets_attributes, deletes};
+ghost use Rattle.file_rules.specs.Change.{ChangeMayLeave, creates, makes_directory, sets_attributes, deletes};
 ghost use Rattle.file_rules.specs.Files.{Files, Asker, with_drives};
 ghost use Rattle.file_rules.specs.Rows.{on, volume_e, creation, d0_failed, new_opened};
 ghost use Rattle.file_rules.specs.Step.{FileEffect, FileStep, Deed, refused, comes, IsBroken, FileDoes, refuses_so};
@@ -35,12 +35,12 @@ pub fn faults_come_from_drives_that_are_reached()
 /// that was to be deleted is deleted, or nothing has changed.
 pub fn the_old_tree_stands()
     ensures file { (d attributes user : ℕ) (name : List ℕ) (now : TimePacket) (v left : DiskVolume)
-        → MayLeave (creates d name attributes) user now v left → left.files ≡ v.files }
+        → ChangeMayLeave (creates d name attributes) user now v left → left.files ≡ v.files }
     ensures directory { (d attributes user : ℕ) (name : List ℕ) (now : TimePacket)
-        (v left : DiskVolume)
-        → MayLeave (makes_directory d name attributes) user now v left → left.files ≡ v.files }
+        (v left : DiskVolume) → ChangeMayLeave (makes_directory d name attributes) user now v left
+        → left.files ≡ v.files }
     ensures attributes { (n attributes user : ℕ) (now : TimePacket) (v left : DiskVolume)
-        → MayLeave (sets_attributes n attributes) user now v left → left ≡ v }
+        → ChangeMayLeave (sets_attributes n attributes) user now v left → left ≡ v }
     ensures deleted { (d n user : ℕ) (name : List ℕ) (now : TimePacket) (v left : DiskVolume)
-        → MayLeave (deletes d n name) user now v left → (left ≡ v) ⊎ (left.files n ≡ None) }
+        → ChangeMayLeave (deletes d n name) user now v left → (left ≡ v) ⊎ (left.files n ≡ None) }
 {}

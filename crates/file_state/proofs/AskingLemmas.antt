@@ -29,7 +29,7 @@ use Rattle.lock_model.specs.declared.lock.Request.{Request}
 use Rattle.file_rules.specs.Locking.{answer_in, call_of}
 use Rattle.lock_model.specs.declared.place.FilePlace.{FilePlace}
 use Rattle.file_rules.specs.Files.{place_of_target}
-use Rattle.file_state.specs.Asking.{IsGranted, IsPendingRequest, IsRequestOf, KeepsRequest, MayAsk}
+use Rattle.file_state.specs.Asking.{MayBeGranted, IsPendingRequest, IsRequestOf, KeepsRequest, MayAsk}
 use Rattle.file_state.specs.Opened.{IsPathOf, path_of}
 use Rattle.file_state.specs.declared.state.OpenFile.{OpenFile}
 
@@ -75,13 +75,13 @@ forgotten-at locks p =
     ]
 
 -- its process then waits in none, and may hold the lock
-pub is-granted : (locks : Locks) (p tick : ℕ) (request : Request) → request.lock.owner.0 ≡ p → answer_in locks p tick request ≡ Granted → IsGranted (with_request locks p None) request.lock
+pub is-granted : (locks : Locks) (p tick : ℕ) (request : Request) → request.lock.owner.0 ≡ p → answer_in locks p tick request ≡ Granted → MayBeGranted (with_request locks p None) request.lock
 is-granted locks p tick request owner is = record {
   quiet = ap (request_of (with_request locks p None)) owner ∙ forgotten-at locks p;
   free = granted-free locks p tick request is;
 }
 
-pub granted-holds : (locks : Locks) (lock : Held) → IsGranted locks lock → MayHold locks lock
+pub granted-holds : (locks : Locks) (lock : Held) → MayBeGranted locks lock → MayHold locks lock
 granted-holds locks lock it = may-hold locks lock it.quiet it.free
 
 -- ---- who may ask

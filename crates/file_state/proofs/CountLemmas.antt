@@ -12,11 +12,11 @@ use Rattle.file_rules.specs.Files.{Files, volume_at}
 use Rattle.lock_model.specs.declared.place.FilePlace.{FilePlace}
 use Rattle.file_drives.proofs.DriveLemmas.{changes-weaker}
 use Rattle.file_drives.specs.Changed.{Asked, ChangesVolume}
-use Rattle.file_drives.specs.Drives.{DriveView, OneDriveMoves, Reads, ReadsDrive, unused_drive}
+use Rattle.file_drives.specs.Drives.{DriveView, OneDriveMoves, OnlyReadsDrive, ReadsDrive, unused_drive}
 use Rattle.file_drives.specs.Mounted.{ReadsFile}
 use Rattle.file_state.proofs.ReachedLemmas.{HasChanged, has-changed}
 use Rattle.file_state.specs.Counted.{CalledAtMost, calls_at}
-use Rattle.file_state.specs.Tie.{StandsFor}
+use Rattle.file_state.specs.Tie.{RepresentsFiles}
 use Rattle.file_state.specs.declared.state.FileState.{FileState}
 
 -- a change with its result, and the number of drive calls for it, by the volume that it left
@@ -69,19 +69,19 @@ called-one fault most n before after (old, new, is, after_is, moved) =
 
 -- a read of a file, by the volume and the file
 pub called-read : (state new : FileState) (views now : List DriveView) (files : Files) (place : FilePlace)
-    (v : DiskVolume) (file : DiskFile) (fault : Option ℕ) (most : DiskVolume → DiskFile → ℕ) → StandsFor state views
+    (v : DiskVolume) (file : DiskFile) (fault : Option ℕ) (most : DiskVolume → DiskFile → ℕ) → RepresentsFiles state views
     files → volume_at files place.drive ≡ Some v → v.files place.number ≡ Some file → ReadsFile place fault most
     state.disks views new.disks now → CalledAtMost (most v file) views now
 called-read state new views now files place v file fault most stands is there read =
     let calls = most v file in
     let drive : ReadsDrive fault calls place.drive views now = read.drive files.volumes v file stands.mounted is there in
-    called-one fault calls place.drive views now (changes-weaker (Reads fault calls) (λ old new. MovesCounts fault
+    called-one fault calls place.drive views now (changes-weaker (OnlyReadsDrive fault calls) (λ old new. MovesCounts fault
     calls old.counts new.counts) place.drive views now (λ old new reads. reads.counts) drive)
 
 -- a change of a volume, as has-changed has it, and the calls that it made
 pub has-changed-in : (state new : FileState) (views now : List DriveView) (files : Files) (place : FilePlace)
     (v : DiskVolume) (file : DiskFile) (asked : Asked) (answer : Result ℕ DirError) (most : DiskVolume → DiskFile
-    → DiskVolume → ℕ) → StandsFor state views files → volume_at files place.drive ≡ Some v → v.files place.number ≡
+    → DiskVolume → ℕ) → RepresentsFiles state views files → volume_at files place.drive ≡ Some v → v.files place.number ≡
     Some file → new.io ≡ state.io → new.directories ≡ state.directories → new.records ≡ state.records
     → ChangesVolume place asked answer most state.disks views new.disks now → HasChangedIn (most v file) asked answer
     place.drive v file files new views now

@@ -13,13 +13,13 @@ use Rattle.os9_base.specs.declared.call.CallEnd.{CallEnd}
 use Rattle.std.proofs.lemmas.Option.{none-some}
 use Rattle.io_model.specs.declared.pending.PendingCall.{PendingCall}
 use Rattle.lock_model.specs.Records.{Records, with_waiting}
-use Rattle.io_model.specs.Attempts.{Does, result_by, result_of}
+use Rattle.io_model.specs.Attempts.{IoDoes, result_by, result_of}
 use Rattle.io_model.specs.Step.{IoEffect, IoEnd, IoStep, answers, fails, keeps}
-use Rattle.proc_state.specs.Tie.{Comes}
+use Rattle.proc_state.specs.Tie.{ReturnsCallEnd}
 use Rattle.proc_state.specs.declared.state.ProcState.{ProcState}
 use Rattle.file_rules.specs.Attempts.{FileAttempts, asker_of, file_step, files_after, io_effect}
-use Rattle.file_rules.specs.Change.{Change, writes, sizes, sets_attributes, creates, makes_directory, deletes, MayBeTooLong, MayLeave}
-use Rattle.file_rules.specs.Files.{DriveState, Files, Asker, NoneFailed, OneFailed, volume_at, with_drives, with_records, with_volume}
+use Rattle.file_rules.specs.Change.{Change, writes, sizes, sets_attributes, creates, makes_directory, deletes, MayBeTooLong, ChangeMayLeave}
+use Rattle.file_rules.specs.Files.{DriveState, Files, Asker, KeepsDriveFaults, OneFailed, volume_at, with_drives, with_records, with_volume}
 use Rattle.file_rules.specs.Step.{Deed, DoesDeed, FileDoes, FileEffect, FileStep, IsChanged, IsTooLong, MayBeLeft, VolumeChange, as_io, changes, deed_of, drive_of, leaves_so, on_files, refuses_so, with_drives_after, with_volume_after}
 use Rattle.file_rules.specs.declared.path_call.PathCall.{PathCall}
 use Rattle.file_rules.specs.Locking.{records_after}
@@ -27,7 +27,7 @@ use Rattle.file_drives.specs.Changed.{AnswersChange, Asked, has_full_list}
 use Rattle.file_drives.specs.Drives.{DriveView}
 use Rattle.file_state.specs.Attempt.{settled, unrequested, without_request}
 use Rattle.file_state.specs.Ends.{StandsAfter}
-use Rattle.file_state.specs.Tie.{StandsFor}
+use Rattle.file_state.specs.Tie.{RepresentsFiles}
 use Rattle.file_state.specs.declared.state.FileState.{FileState}
 use Rattle.file_state.proofs.StateLemmas.{stands-with_records}
 
@@ -39,7 +39,7 @@ asked_of it asker = record { change = it.change; user = asker.user; now = asker.
 
 -- the attempt leaves this, and changes no volume; so it is too where it is refused
 pub goes-well : (step : FileStep) (asker : Asker) (files : Files) (it : FileEffect) (drives : List DriveState)
-    (terms : List TerminalState) → deed_of step files ≡ leaves_so it → NoneFailed files.drives drives
+    (terms : List TerminalState) → deed_of step files ≡ leaves_so it → KeepsDriveFaults files.drives drives
     → FileDoes step asker files (with_drives_after it drives) terms terms
 goes-well step asker files it drives terms deed none = inl (record {
   it = it;
@@ -53,7 +53,7 @@ goes-well step asker files it drives terms deed none = inl (record {
 pub is-made : (step : FileStep) (asker : Asker) (files : Files) (it : VolumeChange) (v left : DiskVolume)
     (file : DiskFile) (n : ℕ) (drives : List DriveState) (terms : List TerminalState) → deed_of step files ≡ changes
     it → volume_at files it.drive ≡ Some v → AnswersChange (asked_of it asker) v file left (Ok n)
-    → NoneFailed files.drives drives → FileDoes step asker files
+    → KeepsDriveFaults files.drives drives → FileDoes step asker files
     (with_drives_after (with_volume_after (it.effect n) it.drive left) drives) terms terms
 is-made step asker files it v left file n drives terms deed is made none =
     let changed : IsChanged it asker files (with_volume_after (it.effect n) it.drive left) = record { old = v; is = is; new = left; number = n; makes = made.makes; effect_is = refl } in
@@ -69,7 +69,7 @@ is-made step asker files it v left file n drives terms deed is made none =
 pub is-too-long : (step : FileStep) (asker : Asker) (files : Files) (it : VolumeChange) (v left : DiskVolume)
     (file : DiskFile) (drives : List DriveState) (terms : List TerminalState) → deed_of step files ≡ changes it
     → volume_at files it.drive ≡ Some v → has_full_list it.change v file ≡ false → AnswersChange (asked_of it asker) v
-    file left (Err (File TooManyRuns)) → NoneFailed files.drives drives → FileDoes step asker files
+    file left (Err (File TooManyRuns)) → KeepsDriveFaults files.drives drives → FileDoes step asker files
     (with_drives_after (refuses_so E_SLF files) drives) terms terms
 is-too-long step asker files it v left file drives terms deed is list long none =
     let found : MayBeTooLong it.change v = elim (long.full) [
@@ -141,7 +141,7 @@ WritesNothing (leaves_so it) = Unit {0}
 WritesNothing (as_io step) = Unit {0}
 WritesNothing (changes it) = IsNoWrite it.change
 
-pub may-stay : (change : Change) (user : ℕ) (now : TimePacket) (v : DiskVolume) (image : List ℕ) → Vol image v → IsNoWrite change → MayLeave change user now v v
+pub may-stay : (change : Change) (user : ℕ) (now : TimePacket) (v : DiskVolume) (image : List ℕ) → Vol image v → IsNoWrite change → ChangeMayLeave change user now v v
 may-stay (writes n at bytes) user now v image vol none = absurd none
 may-stay (sizes n size) user now v image vol none = (image, vol, ends.before refl)
 may-stay (sets_attributes n attributes) user now v image vol none = refl
@@ -167,7 +167,7 @@ breaks-before step asker files drive number v image drives terms reached none is
 
 -- what they do is done in the state of files
 pub goes-as-io : (step : FileStep) (asker : Asker) (files : Files) (deed : IoStep) (it : IoEffect)
-    (before after : List TerminalState) → deed_of step files ≡ as_io deed → Does deed asker.caller files.io it before
+    (before after : List TerminalState) → deed_of step files ≡ as_io deed → IoDoes deed asker.caller files.io it before
     after → FileDoes step asker files (on_files asker.caller.process.0 files it) before after
 goes-as-io step asker files deed it before after is does = inl (record {
   it = on_files asker.caller.process.0 files it;
@@ -187,32 +187,33 @@ attempts call m files now p effect before after does = record { effect = effect;
 -- ---- requests
 
 -- files that stand for those of the machine do so without a request
-stands-without : (p : ℕ) (state : FileState) (views : List DriveView) (files : Files) → StandsFor state views files → StandsFor (without_request p state) views (unrequested p files)
+stands-without : (p : ℕ) (state : FileState) (views : List DriveView) (files : Files) → RepresentsFiles state views files → RepresentsFiles (without_request p state) views (unrequested p files)
 stands-without p state views files stands =
     stands-with_records state views files (with_waiting files.records p None) (with_waiting state.records p None) (ap (λ (records : Records). with_waiting records p None) stands.records) stands
 
 -- an attempt that has come to an end
 pub stands-settled : (m : Processes) (p : ℕ) (effect : IoEffect) (end : IoEnd) (came : CallEnd) (processes : ProcState)
-    (state : FileState) (views : List DriveView) (files : Files) → Comes m p (result_by end m p effect) came processes
-    → StandsAfter p end state views files → StandsFor (settled p came state) views
+    (state : FileState) (views : List DriveView) (files : Files) → ReturnsCallEnd m p (result_by end m p effect) came processes
+    → StandsAfter p end state views files → RepresentsFiles (settled p came state) views
     (with_records files (records_after end files.records p))
 stands-settled m p effect end came processes state views files comes stands = by_end end comes stands
   where
     dropped : IoEnd → Type 0
     dropped end = StandsAfter p end state views files
 
-    over : (end : IoEnd) → dropped end → StandsFor (without_request p state) views (unrequested p files)
+    over : (end : IoEnd) → dropped end → RepresentsFiles (without_request p state) views (unrequested p files)
     over end (inl stands) = stands-without p state views files stands
     over end (inr (none, stands)) = stands
 
-    waits : (pending : PendingCall) → dropped (keeps pending) → StandsFor state views files
+    waits : (pending : PendingCall) → dropped (keeps pending) → RepresentsFiles state views files
     waits pending (inl stands) = stands
     waits pending (inr (none, stands)) = absurd (none-some pending (sym none))
 
-    by_end : (end : IoEnd) → Comes m p (result_by end m p effect) came processes → dropped end → StandsFor (settled p came state) views (with_records files (records_after end files.records p))
+    by_end : (end : IoEnd) → ReturnsCallEnd m p (result_by end m p effect) came processes → dropped end
+        → RepresentsFiles (settled p came state) views (with_records files (records_after end files.records p))
     by_end (answers regs) comes stands =
-        subst (λ (came : CallEnd). StandsFor (settled p came state) views (with_records files (with_waiting files.records p None))) (sym comes.0) (over (answers regs) stands)
+        subst (λ (came : CallEnd). RepresentsFiles (settled p came state) views (with_records files (with_waiting files.records p None))) (sym comes.0) (over (answers regs) stands)
     by_end (fails number) comes stands =
-        subst (λ (came : CallEnd). StandsFor (settled p came state) views (with_records files (with_waiting files.records p None))) (sym comes.0) (over (fails number) stands)
+        subst (λ (came : CallEnd). RepresentsFiles (settled p came state) views (with_records files (with_waiting files.records p None))) (sym comes.0) (over (fails number) stands)
     by_end (keeps pending) comes stands =
-        subst (λ (came : CallEnd). StandsFor (settled p came state) views files) (sym comes.0) (waits pending stands)
+        subst (λ (came : CallEnd). RepresentsFiles (settled p came state) views files) (sym comes.0) (waits pending stands)

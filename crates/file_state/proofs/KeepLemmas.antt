@@ -21,16 +21,16 @@ use Rattle.io_model.specs.Attempts.{result_of}
 use Rattle.io_model.specs.Step.{IoEnd, answers, fails, keeps}
 use Rattle.lock_model.specs.Records.{Records}
 use Rattle.file_rules.specs.Locking.{records_after}
-use Rattle.file_drives.specs.Changed.{Asked, IsRefused, is_refused}
+use Rattle.file_drives.specs.Changed.{Asked, IsRefusedChange, is_refused}
 use Rattle.file_drives.specs.Drives.{DriveView, KeepsIdent, drive_states, media_at, media_of}
 use Rattle.file_state.proofs.EndLemmas.{asked_of, stands-settled}
 use Rattle.file_state.proofs.MediaLemmas.{ident-same, media-of_same, media-same}
 use Rattle.file_state.specs.Attempt.{Standing}
 use Rattle.file_state.specs.Counted.{AttemptsIn}
-use Rattle.file_state.specs.Ends.{Ends, EndsUnentered}
+use Rattle.file_state.specs.Ends.{EndsFileAttempt, EndsUnentered}
 use Rattle.file_state.specs.Lacks.{LacksItsEntry}
 use Rattle.file_state.specs.Media.{ChangesDisk, KeepsDrives, MediaAfter, MediaAfterChange, file_changed}
-use Rattle.file_state.specs.Reached.{HasRead, OthersStay}
+use Rattle.file_state.specs.Reached.{HasReadDrive, OthersStay}
 use Rattle.file_state.proofs.ReachedLemmas.{HasChanged}
 use Rattle.file_state.specs.declared.state.FileState.{FileState}
 
@@ -84,12 +84,12 @@ module _ (step : FileStep) (asker : Asker) (files : Files) (end : CallEnd) where
     }
 
     -- the drive was only read
-    pub keeps-read : (fault : Option ℕ) (new : FileState) → HasRead fault drive files new before after → KeepsDrives step asker files end before after
+    pub keeps-read : (fault : Option ℕ) (new : FileState) → HasReadDrive fault drive files new before after → KeepsDrives step asker files end before after
     keeps-read fault new read = keeps-media read.others read.media_kept
 
     -- a change was refused, or was to be when the drive failed
     pub keeps-refused : (asked : Asked) (answer : Result ℕ DirError) (v : DiskVolume) (file : DiskFile)
-        (new : FileState) → HasChanged asked answer drive v file files new before after → IsRefused answer ⊎
+        (new : FileState) → HasChanged asked answer drive v file files new before after → IsRefusedChange answer ⊎
         (is_refused asked v file ≡ true) → KeepsDrives step asker files end before after
     keeps-refused asked answer v file new changed quiet = keeps-media changed.others (changed.refused quiet)
 
@@ -140,7 +140,7 @@ module _ (step : FileStep) (asker : Asker) (files : Files) (it : VolumeChange) (
 
 pub ends-attempt : (most : ℕ) (call : PathCall) (m : Processes) (was : Files) (now : TimePacket) (p : ℕ) (end : CallEnd)
     (terms : List TerminalState) (before after : Standing)
-    → Ends (file_step call (asker_of m p now) was (length terms)) most m was now p end after.processes after.files
+    → EndsFileAttempt (file_step call (asker_of m p now) was (length terms)) most m was now p end after.processes after.files
     before.views after.views terms → AttemptsIn most call m was now p end terms terms before after
 ends-attempt most call m was now p end terms before after ends = record {
   attempts = record {

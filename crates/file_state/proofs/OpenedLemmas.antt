@@ -18,8 +18,8 @@ use Rattle.file_laws.specs.Kinds.{AreKinds, IsOfKind, IsOnTarget}
 use Rattle.file_state.proofs.ReachedLemmas.{on-volume}
 use Rattle.record_locks.specs.Places.{IsPath}
 use Rattle.io_state.specs.Files.{IsOnDisk}
-use Rattle.file_state.specs.Opened.{IsFileOf, IsPathOf, NamesFile, NamesNoFile, opened_by, path_of}
-use Rattle.file_state.specs.Tie.{StandsFor}
+use Rattle.file_state.specs.Opened.{IsOpenFileOf, IsPathOf, NumberNamesFile, NamesNoFile, opened_by, path_of}
+use Rattle.file_state.specs.Tie.{RepresentsFiles}
 use Rattle.file_state.specs.declared.state.FileState.{FileState}
 
 abbrev pub path-and-desc : SysPath → Desc → OpenPath
@@ -67,7 +67,7 @@ no-file io p n path desc is none =
     by (Term terminal) none on = on
     by (Pipe pipe) none on = on
 
-module _ (state : FileState) (views : List DriveView) (files : Files) (p n : ℕ) (stands : StandsFor state views files) (kinds : AreKinds files) where
+module _ (state : FileState) (views : List DriveView) (files : Files) (p n : ℕ) (stands : RepresentsFiles state views files) (kinds : AreKinds files) where
   -- what follows once the path is known
   abbrev goes-on : (opened : OpenPath) → Option Found
   goes-on opened = option_and_then (open_file_at files opened) (place_of_target opened.desc.target)
@@ -75,7 +75,7 @@ module _ (state : FileState) (views : List DriveView) (files : Files) (p n : ℕ
   -- of a path at the place of a file
   named-at : (path : SysPath) (desc : Desc) (place : FilePlace) (directory : Bool) → open_path files.io p n ≡ Some
       (path-and-desc path desc) → place_of_target desc.target ≡ Some place → IsOfKind files place directory
-      → (directory ≡ true → can_write desc.mode ≡ false) → IsFileOf state views files p n
+      → (directory ≡ true → can_write desc.mode ≡ false) → IsOpenFileOf state views files p n
       (record { path = path; desc = desc; place = place; is_directory = directory })
   named-at path desc place directory is at kind unwritten =
       let on = on-volume files place kind.file kind.there in
@@ -99,7 +99,7 @@ module _ (state : FileState) (views : List DriveView) (files : Files) (p n : ℕ
 
   -- of a path that was opened on this
   named-by : (path : SysPath) (desc : Desc) (target : Target) → open_path files.io p n ≡ Some
-      (path-and-desc path desc) → desc.target ≡ target → NamesFile state views files p n (opened_by path desc target)
+      (path-and-desc path desc) → desc.target ≡ target → NumberNamesFile state views files p n (opened_by path desc target)
   named-by path desc (File drive number) is on =
       named-at path desc (record { drive = drive; number = number }) false is (ap place_of_target on)
       (subst (λ target. IsOnTarget files desc.mode target) on (kinds.paths path.0 desc (open-desc files.io p n path desc is)))
@@ -113,10 +113,10 @@ module _ (state : FileState) (views : List DriveView) (files : Files) (p n : ℕ
       ap (option_and_then goes-on) is ∙ ap (option_and_then (open_file_at files (path-and-desc path desc))) (ap place_of_target on)
 
   -- a number that names a path
-  pub names-path : (path : SysPath) (desc : Desc) → Some (path-and-desc path desc) ≡ open_path state.io p n → NamesFile state views files p n (opened_by path desc desc.target)
+  pub names-path : (path : SysPath) (desc : Desc) → Some (path-and-desc path desc) ≡ open_path state.io p n → NumberNamesFile state views files p n (opened_by path desc desc.target)
   names-path path desc is =
       named-by path desc desc.target (ap (λ io. open_path io p n) stands.io ∙ sym is) refl
 
   -- and one that names none
-  pub names-none : None ≡ open_path state.io p n → NamesFile state views files p n None
+  pub names-none : None ≡ open_path state.io p n → NumberNamesFile state views files p n None
   names-none is = ap (option_and_then goes-on) (ap (λ io. open_path io p n) stands.io ∙ sym is)

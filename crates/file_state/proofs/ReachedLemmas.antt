@@ -9,15 +9,15 @@ use Rattle.rbf_model.specs.Volume.{DiskVolume}
 use Rattle.rbf_access.specs.Drive.{MovesCounts}
 use Rattle.rbf_walk.specs.Walk.{directory_fault}
 use Rattle.rbf_walk.specs.declared.error.DirError.{DirError}
-use Rattle.file_rules.specs.Files.{DriveState, Files, NoneFailed, OneFailed, file_in, volume_at, with_drives, with_volume}
+use Rattle.file_rules.specs.Files.{DriveState, Files, KeepsDriveFaults, OneFailed, file_in, volume_at, with_drives, with_volume}
 use Rattle.lock_model.specs.declared.place.FilePlace.{FilePlace}
 use Rattle.file_drives.proofs.DriveLemmas.{changes-weaker, none-failed, one-failed}
-use Rattle.file_drives.specs.Changed.{AnswersOnDisk, Asked, ChangesVolume, AnswersChange, IsRefused, is_refused}
-use Rattle.file_drives.specs.Drives.{DriveView, KeepsIdent, OneDriveMoves, Reads, ReadsDrive, drive_states, media_at, media_of}
+use Rattle.file_drives.specs.Changed.{AnswersOnDisk, Asked, ChangesVolume, AnswersChange, IsRefusedChange, is_refused}
+use Rattle.file_drives.specs.Drives.{DriveView, KeepsIdent, OneDriveMoves, OnlyReadsDrive, ReadsDrive, drive_states, media_at, media_of}
 use Rattle.file_drives.specs.Mounted.{HasFileAt, ReadsFile}
 use Rattle.file_state.proofs.MediaLemmas.{media-read, media-same, others-none, others-one, others-then}
-use Rattle.file_state.specs.Reached.{DrivesMove, HasRead, OthersStay}
-use Rattle.file_state.specs.Tie.{StandsFor}
+use Rattle.file_state.specs.Reached.{DrivesMove, HasReadDrive, OthersStay}
+use Rattle.file_state.specs.Tie.{RepresentsFiles}
 use Rattle.file_state.specs.declared.state.FileState.{FileState}
 
 -- a change of the volume `v` of the drive was asked for, with this result; `file` is the file to change, or the
@@ -27,10 +27,10 @@ pub record HasChanged (asked : Asked) (answer : Result ℕ DirError) (drive : �
   pub left : DiskVolume
   pub answers : AnswersChange asked v file left answer
   pub moved : DrivesMove (directory_fault answer) drive files.drives (drive_states now)
-  pub stands : StandsFor new now (with_drives (with_volume files drive left) (drive_states now))
+  pub stands : RepresentsFiles new now (with_drives (with_volume files drive left) (drive_states now))
   pub others : OthersStay drive before now
   -- if it is refused, or had to be when the drive failed, the media are unchanged
-  pub refused : IsRefused answer ⊎ (is_refused asked v file ≡ true) → media_of now ≡ media_of before
+  pub refused : IsRefusedChange answer ⊎ (is_refused asked v file ≡ true) → media_of now ≡ media_of before
   -- the media of the drive is as the disk's own call leaves it
   pub disk : AnswersOnDisk asked.change asked.user asked.now v file answer (media_at before drive) (media_at now drive)
   pub ident : KeepsIdent (media_at before drive) (media_at now drive)
@@ -57,7 +57,7 @@ file-there files place v file is there =
 
 -- it is there on the mounted volumes
 pub has-file : (state : FileState) (views : List DriveView) (files : Files) (place : FilePlace) (file : DiskFile)
-    → StandsFor state views files → file_in files place ≡ Some file → HasFileAt state.disks views place
+    → RepresentsFiles state views files → file_in files place ≡ Some file → HasFileAt state.disks views place
 has-file state views files place file stands there =
     let on = on-volume files place file there in
     record { volumes = files.volumes; mounted = stands.mounted; volume = on.volume; is = on.is; file = file; there = on.there }
@@ -69,16 +69,16 @@ drives-move None most n before after moved = none-failed most n before after mov
 drives-move (Some number) most n before after moved = one-failed number most n before after moved
 
 -- calls behind calls that did not fail
-pub moved-then : (fault : Option ℕ) (drive : ℕ) (before mid now : List DriveState) → NoneFailed before mid → DrivesMove fault drive mid now → DrivesMove fault drive before now
+pub moved-then : (fault : Option ℕ) (drive : ℕ) (before mid now : List DriveState) → KeepsDriveFaults before mid → DrivesMove fault drive mid now → DrivesMove fault drive before now
 moved-then None drive before mid now none moved = moved ∙ none
 moved-then (Some number) drive before mid now none moved = subst (λ drives. OneFailed drive number drives now) none moved
 
 -- ---- the files
 
 -- no drive was read
-pub read-none : (drive : ℕ) (state : FileState) (views : List DriveView) (files : Files) → StandsFor state views files → HasRead None drive files state views views
+pub read-none : (drive : ℕ) (state : FileState) (views : List DriveView) (files : Files) → RepresentsFiles state views files → HasReadDrive None drive files state views views
 read-none drive state views files stands = record {
-  moved = subst (λ drives. NoneFailed drives (drive_states views)) (sym stands.drives) refl;
+  moved = subst (λ drives. KeepsDriveFaults drives (drive_states views)) (sym stands.drives) refl;
   stands = record { io = stands.io; directories = stands.directories; records = stands.records; drives = refl; mounted = stands.mounted };
   media_kept = refl;
   others = others-none drive views;
@@ -86,15 +86,15 @@ read-none drive state views files stands = record {
 
 -- a drive was read
 pub has-read : (state new : FileState) (views now : List DriveView) (files : Files) (place : FilePlace)
-    (file : DiskFile) (fault : Option ℕ) (most : DiskVolume → DiskFile → ℕ) → StandsFor state views files
+    (file : DiskFile) (fault : Option ℕ) (most : DiskVolume → DiskFile → ℕ) → RepresentsFiles state views files
     → file_in files place ≡ Some file → new.io ≡ state.io → new.directories ≡ state.directories
     → new.records ≡ state.records → ReadsFile place fault most state.disks views new.disks now
-    → HasRead fault place.drive files new views now
+    → HasReadDrive fault place.drive files new views now
 has-read state new views now files place file fault most stands there io directories records read =
     let on = on-volume files place file there in
     let calls = most on.volume file in
     let drive : ReadsDrive fault calls place.drive views now = read.drive files.volumes on.volume file stands.mounted on.is on.there in
-    let moved = changes-weaker (Reads fault calls) (λ old new. MovesCounts fault calls old.counts new.counts) place.drive views now (λ old new reads. reads.counts) drive in
+    let moved = changes-weaker (OnlyReadsDrive fault calls) (λ old new. MovesCounts fault calls old.counts new.counts) place.drive views now (λ old new reads. reads.counts) drive in
     record {
       moved = subst (λ drives. DrivesMove fault place.drive drives (drive_states now)) (sym stands.drives) (drives-move fault calls place.drive views now moved);
       stands = record {
@@ -105,13 +105,13 @@ has-read state new views now files place file fault most stands there io directo
         mounted = read.mounted files.volumes stands.mounted;
       };
       media_kept = media-read fault calls place.drive views now drive;
-      others = others-one (Reads fault calls) place.drive views now drive;
+      others = others-one (OnlyReadsDrive fault calls) place.drive views now drive;
     }
 
 -- a volume was changed, or was to be
 unfoldable pub has-changed : (state new : FileState) (views now : List DriveView) (files : Files) (place : FilePlace)
     (v : DiskVolume) (file : DiskFile) (asked : Asked) (answer : Result ℕ DirError) (most : DiskVolume → DiskFile
-    → DiskVolume → ℕ) → StandsFor state views files → volume_at files place.drive ≡ Some v → v.files place.number ≡
+    → DiskVolume → ℕ) → RepresentsFiles state views files → volume_at files place.drive ≡ Some v → v.files place.number ≡
     Some file → new.io ≡ state.io → new.directories ≡ state.directories → new.records ≡ state.records
     → ChangesVolume place asked answer most state.disks views new.disks now → HasChanged asked answer place.drive v
     file files new views now
@@ -140,8 +140,8 @@ has-changed state new views now files place v file asked answer most stands is t
 
 -- what was read of one drive, or of none, stands for what was read of another
 pub read-at : (first drive : ℕ) (files : Files) (mid : FileState) (before views : List DriveView) → (first ≡ drive) ⊎
-    (views ≡ before) → HasRead None first files mid before views → HasRead None drive files mid before views
-read-at first drive files mid before views (inl same) was = subst (λ (n : ℕ). HasRead None n files mid before views) same was
+    (views ≡ before) → HasReadDrive None first files mid before views → HasReadDrive None drive files mid before views
+read-at first drive files mid before views (inl same) was = subst (λ (n : ℕ). HasReadDrive None n files mid before views) same was
 read-at first drive files mid before views (inr same) was = record {
   moved = was.moved;
   stands = was.stands;
@@ -151,8 +151,8 @@ read-at first drive files mid before views (inr same) was = record {
 
 -- a read behind reads of the same drive that did not fail
 pub has-read-then : (fault : Option ℕ) (drive : ℕ) (files : Files) (mid new : FileState)
-    (before views now : List DriveView) → HasRead None drive files mid before views → HasRead fault drive
-    (with_drives files (drive_states views)) new views now → HasRead fault drive files new before now
+    (before views now : List DriveView) → HasReadDrive None drive files mid before views → HasReadDrive fault drive
+    (with_drives files (drive_states views)) new views now → HasReadDrive fault drive files new before now
 has-read-then fault drive files mid new before views now was is = record {
   moved = moved-then fault drive files.drives (drive_states views) (drive_states now) was.moved is.moved;
   stands = is.stands;
@@ -162,7 +162,7 @@ has-read-then fault drive files mid new before views now was is = record {
 
 -- and a change
 pub has-changed-then : (asked : Asked) (answer : Result ℕ DirError) (drive : ℕ) (v : DiskVolume) (file : DiskFile)
-    (files : Files) (mid new : FileState) (before views now : List DriveView) → HasRead None drive files mid before
+    (files : Files) (mid new : FileState) (before views now : List DriveView) → HasReadDrive None drive files mid before
     views → HasChanged asked answer drive v file (with_drives files (drive_states views)) new views now
     → HasChanged asked answer drive v file files new before now
 has-changed-then asked answer drive v file files mid new before views now was is =

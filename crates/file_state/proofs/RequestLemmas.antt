@@ -28,7 +28,7 @@ use Rattle.lock_model.specs.declared.lock.Request.{Request}
 use Rattle.io_model.specs.Attempts.{result_of}
 use Rattle.io_model.specs.Io.{Io, OpenPath, with_call}
 use Rattle.io_model.specs.Step.{keeps}
-use Rattle.proc_state.specs.Tie.{Comes, Represents}
+use Rattle.proc_state.specs.Tie.{ReturnsCallEnd, RepresentsProcesses}
 use Rattle.proc_state.specs.declared.state.ProcState.{ProcState}
 use Rattle.file_rules.specs.Attempts.{asker_of, io_effect}
 use Rattle.file_rules.specs.Files.{Asker, DriveState, Files, OneFailed, volume_at, with_drives, with_io, with_records, with_volume}
@@ -49,16 +49,16 @@ use Rattle.file_state.specs.Opened.{path_of}
 use Rattle.file_state.specs.declared.state.OpenFile.{OpenFile}
 use Rattle.file_state.specs.Attempt.{unrequested, without_request}
 use Rattle.file_state.specs.Counted.{CalledAtMost}
-use Rattle.file_state.specs.Ends.{Ends, EndsOrLacks}
+use Rattle.file_state.specs.Ends.{EndsFileAttempt, EndsOrLacks}
 use Rattle.file_state.specs.Media.{ChangesDisk, KeepsDrives, MediaAfter, MediaAfterChange}
-use Rattle.file_state.specs.Reached.{HasRead}
-use Rattle.file_state.specs.Tie.{StandsFor}
+use Rattle.file_state.specs.Reached.{HasReadDrive}
+use Rattle.file_state.specs.Tie.{RepresentsFiles}
 use Rattle.file_state.specs.declared.state.FileState.{FileState}
 
 -- ---- want of memory
 
 -- an attempt has another result
-pub not-memory : (m : Processes) (p : ℕ) (result : CallResult) (end : CallEnd) (processes : ProcState) → Comes m p result end processes → end ≢ NoMemory
+pub not-memory : (m : Processes) (p : ℕ) (result : CallResult) (end : CallEnd) (processes : ProcState) → ReturnsCallEnd m p result end processes → end ≢ NoMemory
 not-memory m p (came.done after) end processes told is = let e : Done ≡ NoMemory = sym told.0 ∙ is in cc
 not-memory m p (came.refused number) end processes told is = let e : Error number ≡ NoMemory = sym told.0 ∙ is in cc
 not-memory m p (came.waits after) end processes told is = let e : Wait ≡ NoMemory = sym told.0 ∙ is in cc
@@ -67,7 +67,7 @@ not-memory m p (came.ends status) end processes told is = let e : Ended ≡ NoMe
 -- so an attempt that has come to an end lacks none
 pub lacks-none : (step : FileStep) (most : ℕ) (m : Processes) (files : Files) (now : TimePacket) (p : ℕ) (end : CallEnd)
     (processes : ProcState) (new : FileState) (before after : List DriveView) (terms : List TerminalState)
-    → Ends step most m files now p end processes new before after terms → EndsOrLacks step most m files now p end
+    → EndsFileAttempt step most m files now p end processes new before after terms → EndsOrLacks step most m files now p end
     processes new before after terms
 lacks-none step most m files now p end processes new before after terms it = record {
   ends = λ some. it;
@@ -82,15 +82,15 @@ forgotten-again p records =
     (set-set records.locks.requests p None None)
 
 -- files that stand for those of the machine without a request of a process, with the records of the machine
-pub stands-restored : (p : ℕ) (state : FileState) (views : List DriveView) (files : Files) → StandsFor state views
-    (unrequested p files) → StandsFor (record state { records = files.records }) views files
+pub stands-restored : (p : ℕ) (state : FileState) (views : List DriveView) (files : Files) → RepresentsFiles state views
+    (unrequested p files) → RepresentsFiles (record state { records = files.records }) views files
 stands-restored p state views files stands =
     record { io = stands.io; directories = stands.directories; records = refl; drives = stands.drives; mounted = stands.mounted }
 
 -- the state after an attempt, without a request of its process
 pub stands-beside : (p : ℕ) (mid : FileState) (views : List DriveView) (files : Files) (io : Io) (records : Records)
     (new : FileState) → new ≡ record mid { io = new.io; records = new.records } → io ≡ new.io → with_waiting records p
-    None ≡ with_waiting new.records p None → StandsFor mid views files → StandsFor (without_request p new) views
+    None ≡ with_waiting new.records p None → RepresentsFiles mid views files → RepresentsFiles (without_request p new) views
     (with_records (with_io files io) (with_waiting records p None))
 stands-beside p mid views files io records new is io_is records_are stands = record {
   io = io_is;
@@ -103,7 +103,7 @@ stands-beside p mid views files io records new is io_is records_are stands = rec
 -- ---- what is left of the drives, behind a read
 
 module _ (asker : Asker) (files : Files) (drive : ℕ) (mid : FileState) (before views after : List DriveView)
-    (drives_are : files.drives ≡ drive_states before) (read : HasRead None drive files mid before views) where
+    (drives_are : files.drives ≡ drive_states before) (read : HasReadDrive None drive files mid before views) where
   states : drive_states views ≡ drive_states before
   states = read.moved ∙ drives_are
 
@@ -153,9 +153,9 @@ module _ (m : Processes) (files : Files) (now : TimePacket) (p : ℕ) (drive : �
   drives = drive_states views
 
   -- what is left if nothing is kept of the call
-  left-over : (new : FileState) → StandsFor mid views (with_drives files drives)
+  left-over : (new : FileState) → RepresentsFiles mid views (with_drives files drives)
       → new ≡ record mid { io = with_call mid.io p None; records = new.records } → with_waiting files.records p None ≡
-      with_waiting new.records p None → StandsFor (without_request p new) views
+      with_waiting new.records p None → RepresentsFiles (without_request p new) views
       (with_records (with_io (with_drives files drives) (with_call files.io p None)) (with_waiting files.records p
       None))
   left-over new stands is records_are =
@@ -166,9 +166,9 @@ module _ (m : Processes) (files : Files) (now : TimePacket) (p : ℕ) (drive : �
 
   -- it is refused
   pub reached-refused : (number : ℕ) (new : FileState) → deed_of next files ≡ leaves_so (refuses_so number files)
-      → HasRead None drive files mid before views → end ≡ Error number → Represents processes m
+      → HasReadDrive None drive files mid before views → end ≡ Error number → RepresentsProcesses processes m
       → new ≡ record mid { io = with_call mid.io p None; records = new.records } → with_waiting files.records p None ≡
-      with_waiting new.records p None → Ends (reaches drive next) most m files now p end processes new before views
+      with_waiting new.records p None → EndsFileAttempt (reaches drive next) most m files now p end processes new before views
       terms
   reached-refused number new deed read end_is tied is records_are = record {
     effect = with_drives_after (refuses_so number files) drives;
@@ -181,12 +181,12 @@ module _ (m : Processes) (files : Files) (now : TimePacket) (p : ℕ) (drive : �
 
   -- the drive failed
   pub reached-fails : (number : ℕ) (v : DiskVolume) (new : FileState) → volume_at files drive ≡ Some v
-      → MayBeLeft (deed_of next files) asker v v → HasRead (Some number) drive files mid before views
-      → end ≡ Error number → Represents processes m → new ≡ record mid {
+      → MayBeLeft (deed_of next files) asker v v → HasReadDrive (Some number) drive files mid before views
+      → end ≡ Error number → RepresentsProcesses processes m → new ≡ record mid {
         io = with_call mid.io p None;
         records =
             new.records;
-      } → with_waiting files.records p None ≡ with_waiting new.records p None → Ends (reaches drive next)
+      } → with_waiting files.records p None ≡ with_waiting new.records p None → EndsFileAttempt (reaches drive next)
       most m files now p end processes new before views terms
   reached-fails number v new volume may read end_is tied is records_are = record {
     effect = refuses_so number (with_drives (with_volume files drive v) drives);
@@ -194,7 +194,7 @@ module _ (m : Processes) (files : Files) (now : TimePacket) (p : ℕ) (drive : �
     comes = (end_is, tied);
     stands = inr (
       refl,
-      subst (λ (f : Files). StandsFor (without_request p new) views
+      subst (λ (f : Files). RepresentsFiles (without_request p new) views
           (with_records (with_io (with_drives f drives) (with_call f.io p None)) (with_waiting f.records p None)))
           (sym (same-volume files drive v volume))
           (left-over new read.stands is records_are),
@@ -208,15 +208,15 @@ module _ (m : Processes) (files : Files) (now : TimePacket) (p : ℕ) (drive : �
 
   -- it waits in a request
   pub reached-waits : (request : Request) (new : FileState) → request.lock.owner.0 ≡ p → deed_of next files ≡
-      leaves_so (leaves (keeps (call_of request)) (waiting_in files request)) → HasRead None drive files mid before
-      views → end ≡ Wait → Represents processes m → new ≡ asked mid p request Grants.Wait → Ends (reaches drive next)
+      leaves_so (leaves (keeps (call_of request)) (waiting_in files request)) → HasReadDrive None drive files mid before
+      views → end ≡ Wait → RepresentsProcesses processes m → new ≡ asked mid p request Grants.Wait → EndsFileAttempt (reaches drive next)
       most m files now p end processes new before views terms
   reached-waits request new owner deed read end_is tied is = record {
     effect = with_drives_after (leaves (keeps (call_of request)) (waiting_in files request)) drives;
     does = goes-well (reaches drive next) asker files (leaves (keeps (call_of request)) (waiting_in files request)) drives terms deed read.moved;
     comes = (end_is, tied);
     stands =
-        inl (subst (λ (state : FileState). StandsFor state views (with_drives (with_io (waiting_in files request) (with_call files.io p (Some (call_of request)))) drives)) (sym is) (record {
+        inl (subst (λ (state : FileState). RepresentsFiles state views (with_drives (with_io (waiting_in files request) (with_call files.io p (Some (call_of request)))) drives)) (sym is) (record {
           io = ap (λ (io : Io). with_call io p (Some (call_of request))) read.stands.io;
           directories = read.stands.directories;
           records = ap (λ (q : ℕ). with_waiting files.records q (Some request)) owner ∙ ap (λ (records : Records). with_waiting records p (Some request)) read.stands.records;
@@ -232,7 +232,7 @@ module _ (m : Processes) (files : Files) (now : TimePacket) (p : ℕ) (drive : �
   with-records new io is =
       is ∙ ap (λ (records : Records). record mid { io = io; records = records }) (sym (ap (λ (state : FileState). state.records) is))
 
-  forgets : (new : FileState) {io : Io} → HasRead None drive files mid before views
+  forgets : (new : FileState) {io : Io} → HasReadDrive None drive files mid before views
       → new ≡ record mid { io = io; records = with_waiting mid.records p None } → with_waiting files.records p None ≡
       with_waiting new.records p None
   forgets new read is =
@@ -242,7 +242,7 @@ module _ (m : Processes) (files : Files) (now : TimePacket) (p : ℕ) (drive : �
 
   -- and it goes on
   pub reached-then : (more : ℕ) (after : List DriveView) (new : FileState) → files.drives ≡ drive_states before
-      → HasRead None drive files mid before views → EndsOrLacks (reaches drive next) more m files now p end processes
+      → HasReadDrive None drive files mid before views → EndsOrLacks (reaches drive next) more m files now p end processes
       new views after terms → EndsOrLacks (reaches drive next) (most + more) m files now p end processes new before
       after terms
   reached-then more after new drives_are read it = record {
@@ -271,8 +271,8 @@ module _ (m : Processes) (files : Files) (now : TimePacket) (p : ℕ) (drive : �
 
   -- it is refused or waits
   pub asks-ends : (grant : Grant) (request : Request) (then : FileStep) (new : FileState) → next ≡ asks_by grant files
-      request then → request.lock.owner.0 ≡ p → HasRead None drive files mid before views → Some end ≡ end_by grant
-      → Represents processes m → new ≡ asked mid p request grant → Ends (reaches drive next) most m files now p end
+      request then → request.lock.owner.0 ≡ p → HasReadDrive None drive files mid before views → Some end ≡ end_by grant
+      → RepresentsProcesses processes m → new ≡ asked mid p request grant → EndsFileAttempt (reaches drive next) most m files now p end
       processes new before views terms
   asks-ends Granted request then new next_is owner read end_is tied is = absurd (none-some end (sym end_is))
   asks-ends Locked request then new next_is owner read end_is tied is =
@@ -325,10 +325,10 @@ start-same (Some request) first at is = refl
 
 -- the files once it is granted
 pub granted-stands : (p : ℕ) (was : Files) (request : Request) (drive : ℕ) (mid new : FileState)
-    (before views : List DriveView) → HasRead None drive was mid before views → new ≡ asked mid p request Granted
-    → StandsFor new views (unrequested p was)
+    (before views : List DriveView) → HasReadDrive None drive was mid before views → new ≡ asked mid p request Granted
+    → RepresentsFiles new views (unrequested p was)
 granted-stands p was request drive mid new before views read is =
-    subst (λ (state : FileState). StandsFor state views (unrequested p was)) (sym is) (record {
+    subst (λ (state : FileState). RepresentsFiles state views (unrequested p was)) (sym is) (record {
       io = read.stands.io;
       directories = read.stands.directories;
       records = ap (λ (records : Records). with_waiting records p None) read.stands.records;

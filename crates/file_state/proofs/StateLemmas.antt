@@ -30,11 +30,11 @@ use Rattle.file_rules.specs.Sharing.{is_path_on, is_same_place, some_path_on}
 use Rattle.file_rules.specs.declared.places.Directories.{Directories}
 use Rattle.lock_model.specs.declared.place.FilePlace.{FilePlace}
 use Rattle.file_drives.specs.Drives.{DriveView, drive_states}
-use Rattle.file_drives.specs.Mounted.{AgreesOnDrive, HasFileAt, MountsAs, kept_at, mounted_at}
+use Rattle.file_drives.specs.Mounted.{AgreesOnDrive, HasFileAt, MountsAs, disk_at, mounted_at}
 use Rattle.file_laws.specs.Kinds.{AreKinds}
 use Rattle.file_state.proofs.ReachedLemmas.{has-file}
 use Rattle.file_state.specs.Reached.{MountsOn}
-use Rattle.file_state.specs.Tie.{StandsFor}
+use Rattle.file_state.specs.Tie.{RepresentsFiles}
 use Rattle.file_state.specs.declared.state.FileState.{FileState}
 
 -- ---- the paths on a file
@@ -66,7 +66,7 @@ some-path io files place test is =
 
 -- other paths
 pub stands-with_io : (state : FileState) (views : List DriveView) (files : Files) (io new : Io) → io ≡ new
-    → StandsFor state views files → StandsFor (record state { io = new }) views (with_io files io)
+    → RepresentsFiles state views files → RepresentsFiles (record state { io = new }) views (with_io files io)
 stands-with_io state views files io new is stands = record {
   io = is;
   directories = stands.directories;
@@ -77,8 +77,8 @@ stands-with_io state views files io new is stands = record {
 
 -- other directories
 pub stands-with_directories : (state : FileState) (views : List DriveView) (files : Files) (p : ℕ)
-    (directories other : Directories) → directories ≡ other → StandsFor state views files
-    → StandsFor (record state { directories = slice_set state.directories p other }) views
+    (directories other : Directories) → directories ≡ other → RepresentsFiles state views files
+    → RepresentsFiles (record state { directories = slice_set state.directories p other }) views
     (with_directories_of files p directories)
 stands-with_directories state views files p directories other same stands = record {
   io = stands.io;
@@ -92,14 +92,14 @@ stands-with_directories state views files p directories other same stands = reco
 
 -- each is there
 has-directory : (state : FileState) (views : List DriveView) (files : Files) (p : ℕ) (execute : Bool)
-    (place : FilePlace) → StandsFor state views files → AreKinds files → directory_of files p execute ≡ Some place
+    (place : FilePlace) → RepresentsFiles state views files → AreKinds files → directory_of files p execute ≡ Some place
     → HasFileAt state.disks views place
 has-directory state views files p execute place stands kinds is =
     let kind = kinds.directories p execute place is in
     has-file state views files place kind.file stands kind.there
 
 pub has-directories : (state : FileState) (views : List DriveView) (files : Files) (p : ℕ) (execute : Bool)
-    (found : Option FilePlace) → StandsFor state views files → AreKinds files → found ≡ directory_of files p execute
+    (found : Option FilePlace) → RepresentsFiles state views files → AreKinds files → found ≡ directory_of files p execute
     → IfSome found (HasFileAt state.disks views)
 has-directories state views files p execute None stands kinds is = tt
 has-directories state views files p execute (Some place) stands kinds is = has-directory state views files p execute place stands kinds (sym is)
@@ -128,7 +128,7 @@ mounts-on state (Err fault) n before after disks stays = λ files stands. record
 
 -- other locks
 pub stands-with_records : (state : FileState) (views : List DriveView) (files : Files) (records new : Records)
-    → records ≡ new → StandsFor state views files → StandsFor (record state { records = new }) views
+    → records ≡ new → RepresentsFiles state views files → RepresentsFiles (record state { records = new }) views
     (with_records files records)
 stands-with_records state views files records new is stands = record {
   io = stands.io;
@@ -144,8 +144,8 @@ ended-records io p records =
     ends_locks_below (lock_ends io.paths (λ owner. owner == p)) PATH_PLACES (with_waiting records p None)
 
 pub stands-ended : (state : FileState) (views : List DriveView) (files : Files) (p : ℕ) (new : Io) (records : Records)
-    → new ≡ io_ended state.io p → records ≡ ended-records new p state.records → StandsFor state views files
-    → StandsFor (record {
+    → new ≡ io_ended state.io p → records ≡ ended-records new p state.records → RepresentsFiles state views files
+    → RepresentsFiles (record {
       io = new;
       disks = state.disks;
       directories = slice_set state.directories p no_directories;
@@ -190,7 +190,7 @@ keeps-there io path records there = by (lock_of records.locks path) (desc_of io.
 
 pub stands-closed : (state : FileState) (views : List DriveView) (files : Files) (p n path : ℕ) (new : Io)
     (records : Records) → new ≡ after_close state.io p n → records ≡ closed-records new path state.records
-    → StandsFor state views files → StandsFor (record state { io = new; records = records }) views
+    → RepresentsFiles state views files → RepresentsFiles (record state { io = new; records = records }) views
     (files_after_close files p n path)
 stands-closed state views files p n path new records is ends stands =
     let io : after_close files.io p n ≡ new = ap (λ (io : Io). after_close io p n) stands.io ∙ sym is in
@@ -207,7 +207,7 @@ stands-closed state views files p n path new records is ends stands =
 
 pub stands-interrupted : (state : FileState) (views : List DriveView) (files : Files) (p : ℕ) (new : Io)
     (records : Records) → new ≡ io_interrupted state.io p → records ≡ with_waiting state.records p None
-    → StandsFor state views files → StandsFor (record state { io = new; records = records }) views
+    → RepresentsFiles state views files → RepresentsFiles (record state { io = new; records = records }) views
     (files_interrupted files p)
 stands-interrupted state views files p new records is dropped stands = record {
   io = ap (λ (io : Io). io_interrupted io p) stands.io ∙ sym is;
@@ -231,7 +231,7 @@ none-at {X} k n = elim (cases_lt n k) [
 -- a new state is that of drives without volumes
 pub stands-first : (state : FileState) (views : List DriveView) → length views ≤ 4 → state.io ≡ first_io
     → state.disks ≡ replicate 4 None → state.directories ≡ replicate 33 no_directories → state.records ≡ no_records
-    → StandsFor state views (record {
+    → RepresentsFiles state views (record {
       io = first_io;
       directories = replicate 33 no_directories;
       volumes = replicate
@@ -254,5 +254,5 @@ stands-first state views few io disks directories records = record {
   };
 }
   where
-    nothing-kept : (n : ℕ) → kept_at state.disks n ≡ None
-    nothing-kept n = ap (λ disks. kept_at disks n) disks ∙ none-at {X = Volume} 4 n
+    nothing-kept : (n : ℕ) → disk_at state.disks n ≡ None
+    nothing-kept n = ap (λ disks. disk_at disks n) disks ∙ none-at {X = Volume} 4 n

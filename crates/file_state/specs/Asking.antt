@@ -75,7 +75,7 @@ pub record IsRequestOf (io : Io) (locks : Locks) (p : ℕ) (request : Request) :
   pub covers : Covers request.lock.range request.count
 
 -- a lock may be granted: its process waits in no request, and it conflicts with no lock
-pub record IsGranted (locks : Locks) (lock : Held) : Type 0 where
+pub record MayBeGranted (locks : Locks) (lock : Held) : Type 0 where
   pub quiet : request_of locks lock.owner.0 ≡ None
   pub free : conflicts locks lock ≡ false
 

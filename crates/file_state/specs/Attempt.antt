@@ -7,14 +7,14 @@ use Rattle.os9_outer.specs.TerminalState.{TerminalState}
 use Rattle.proc_model.specs.CallResult.{CallResult}
 use Rattle.proc_model.specs.Processes.{Processes}
 use Rattle.lock_model.specs.Records.{Records, with_waiting}
-use Rattle.proc_state.specs.Tie.{Comes, Represents}
+use Rattle.proc_state.specs.Tie.{ReturnsCallEnd, RepresentsProcesses}
 use Rattle.proc_state.specs.declared.state.ProcState.{ProcState}
 use Rattle.file_rules.specs.Attempts.{FileAttempts}
 use Rattle.file_rules.specs.Files.{Files, with_records}
 use Rattle.file_rules.specs.declared.path_call.PathCall.{PathCall}
 use Rattle.file_drives.specs.Drives.{DriveView}
 use Rattle.file_laws.specs.Kinds.{AreKinds}
-use Rattle.file_state.specs.Tie.{StandsFor}
+use Rattle.file_state.specs.Tie.{RepresentsFiles}
 use Rattle.file_state.specs.declared.state.FileState.{FileState}
 
 -- the kernel's files without a request of a process
@@ -35,14 +35,14 @@ settled p end state = record state { records = records_settled p end state.recor
 
 -- an attempt of a call by a process, at a time: how it ends, and the processes, the files and the terminals then; its
 -- process is not told yet, and a request of it may be kept yet
-pub record Attempts (call : PathCall) (m : Processes) (files : Files) (now : TimePacket) (p : ℕ) (end : CallEnd)
+pub record FileAttempted (call : PathCall) (m : Processes) (files : Files) (now : TimePacket) (p : ℕ) (end : CallEnd)
     (processes : ProcState) (new : FileState) (views : List DriveView) (before after : List TerminalState)
     : Type 0 where
   pub result : CallResult
   pub left : Files
   pub attempt : FileAttempts call m files now p result left before after
-  pub comes : Comes m p result end processes
-  pub stands : StandsFor (settled p end new) views left
+  pub comes : ReturnsCallEnd m p result end processes
+  pub stands : RepresentsFiles (settled p end new) views left
 
 -- ---- from any state that the kernel's state represents
 
@@ -55,13 +55,14 @@ pub record Standing : Type 0 where
 -- a fact of each state of the machine that it represents, in which the targets of paths and directories exist
 abbrev pub OnEach : Standing → (Processes → Files → Type 0) → Type 0
 OnEach before fact =
-    (m : Processes) (was : Files) → Represents before.processes m → StandsFor before.files before.views was
+    (m : Processes) (was : Files) → RepresentsProcesses before.processes m
+    → RepresentsFiles before.files before.views was
     → AreKinds was
     → fact m was
 
 -- an attempt of a call by a process, at a time, from each such state
-abbrev pub AttemptsFrom : PathCall → TimePacket → ℕ → CallEnd → List TerminalState → List TerminalState → Standing
+abbrev pub FileAttemptedFrom : PathCall → TimePacket → ℕ → CallEnd → List TerminalState → List TerminalState → Standing
     → Standing → Type 0
-AttemptsFrom call now p end terms terms_after before after =
+FileAttemptedFrom call now p end terms terms_after before after =
     OnEach before
-    (λ m was. Attempts call m was now p end after.processes after.files after.views terms terms_after)
+    (λ m was. FileAttempted call m was now p end after.processes after.files after.views terms terms_after)

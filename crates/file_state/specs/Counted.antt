@@ -9,7 +9,7 @@ use Rattle.file_rules.specs.Files.{Asker, Files}
 use Rattle.file_rules.specs.Step.{Step, refused, comes, reaches}
 use Rattle.file_rules.specs.declared.path_call.PathCall.{PathCall}
 use Rattle.file_drives.specs.Drives.{DriveView, unused_drive}
-use Rattle.file_state.specs.Attempt.{Attempts, OnEach, Standing}
+use Rattle.file_state.specs.Attempt.{FileAttempted, OnEach, Standing}
 use Rattle.file_state.specs.Media.{KeepsDrives}
 
 -- the number of calls of the drive of this number; 0 if there is none
@@ -34,7 +34,7 @@ calls_of (reaches drive step) most = most
 pub record AttemptsIn (most : ℕ) (call : PathCall) (m : Processes) (was : Files) (now : TimePacket) (p : ℕ)
     (end : CallEnd)
     (terms terms_after : List TerminalState) (before after : Standing) : Type 0 where
-  pub attempts : Attempts call m was now p end after.processes after.files after.views terms terms_after
+  pub attempts : FileAttempted call m was now p end after.processes after.files after.views terms terms_after
   pub calls : CalledAtMost (calls_of (file_step call (asker_of m p now) was (length terms)) most) before.views
       after.views
   pub drives : KeepsDrives (file_step call (asker_of m p now) was (length terms)) (asker_of m p now) was end

@@ -32,7 +32,8 @@ abbrev pub NamesNoFile : Io → ℕ → ℕ → Type 0
 NamesNoFile io p n = IfSome (open_path io p n) (λ opened. IsOnDisk opened.desc.target → ⊥)
 
 -- a number of a process names this file or directory, which exists
-pub record IsFileOf (state : FileState) (views : List DriveView) (files : Files) (p n : ℕ) (opened : OpenFile) : Type 0
+pub record IsOpenFileOf (state : FileState) (views : List DriveView) (files : Files) (p n : ℕ) (opened : OpenFile) :
+    Type 0
   where
     pub found : Found
     pub is : open_file files p n ≡ Some found
@@ -46,9 +47,9 @@ pub record IsFileOf (state : FileState) (views : List DriveView) (files : Files)
     pub data_file : opened.is_directory ≡ false → HasDataFileAt state.disks views opened.place
 
 -- by the result: the file or directory that a number of a process names, or it names none
-abbrev pub NamesFile : FileState → List DriveView → Files → ℕ → ℕ → Option OpenFile → Type 0
-NamesFile state views files p n None = open_file files p n ≡ None
-NamesFile state views files p n (Some opened) = IsFileOf state views files p n opened
+abbrev pub NumberNamesFile : FileState → List DriveView → Files → ℕ → ℕ → Option OpenFile → Type 0
+NumberNamesFile state views files p n None = open_file files p n ≡ None
+NumberNamesFile state views files p n (Some opened) = IsOpenFileOf state views files p n opened
 
 -- ---- by descriptors and directories
 

@@ -7,7 +7,7 @@ use Rattle.file_laws.specs.Kinds.{AreKinds}
 use Rattle.file_state.specs.declared.state.FileState.{FileState}
 
 -- the kernel's files are those of the machine: its volumes are mounted on the drives, and all else is equal
-pub record StandsFor (state : FileState) (views : List DriveView) (files : Files) : Type 0 where
+pub record RepresentsFiles (state : FileState) (views : List DriveView) (files : Files) : Type 0 where
   pub io : files.io ≡ state.io
   pub directories : files.directories ≡ state.directories
   pub records : files.records ≡ state.records
@@ -15,7 +15,7 @@ pub record StandsFor (state : FileState) (views : List DriveView) (files : Files
   pub mounted : AreMounted state.disks views files.volumes
 
 -- the kernel's files are those of some state in which the targets of paths and directories exist
-pub record IsSound (state : FileState) (views : List DriveView) : Type 0 where
+pub record AreSoundFiles (state : FileState) (views : List DriveView) : Type 0 where
   pub files : Files
-  pub stands : StandsFor state views files
+  pub stands : RepresentsFiles state views files
   pub kinds : AreKinds files

@@ -7,7 +7,7 @@ ghost use Rattle.lock_model.specs.Locks.{request_of};
 ghost use Rattle.lock_model.specs.Records.{with_waiting};
 ghost use Rattle.file_rules.specs.Locking as model;
 ghost use Rattle.file_rules.specs.Locking.{answer_in, end_by, request_by, start_of};
-ghost use Rattle.file_state.specs.Asking.{IsClaim, IsGranted, IsRequestOf, MayAsk, asked, claimed};
+ghost use Rattle.file_state.specs.Asking.{IsClaim, MayBeGranted, IsRequestOf, MayAsk, asked, claimed};
 
 use crate::state::{FileState, OpenFile};
 use file_rules::claim::Claim;
@@ -76,7 +76,7 @@ impl FileState {
         ensures end { result ≡ end_by (answer_in self.old.records.locks p.0 tick request) }
         ensures state { self.new ≡ asked self.old p.0 request
             (answer_in self.old.records.locks p.0 tick request) }
-        ensures granted { result ≡ None → IsGranted self.new.records.locks request.lock }
+        ensures granted { result ≡ None → MayBeGranted self.new.records.locks request.lock }
     {
         match self.answer(p, request, tick) {
             Grant::Granted => None,

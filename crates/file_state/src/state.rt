@@ -20,9 +20,9 @@ ghost use Rattle.file_rules.specs.Route.{Found};
 ghost use Rattle.file_drives.specs.Drives.{ChangesOneDrive, DriveView, drive_states, drives_seen};
 ghost use Rattle.file_drives.specs.Mounted.{HasFileAt, ReadsToMount};
 ghost use Rattle.file_laws.specs.Kinds.{AreKinds};
-ghost use Rattle.file_state.specs.Opened.{IsPathOf, NamesFile, NamesNoFile, directory_in, opened_by, path_of};
+ghost use Rattle.file_state.specs.Opened.{IsPathOf, NumberNamesFile, NamesNoFile, directory_in, opened_by, path_of};
 ghost use Rattle.file_state.specs.Reached.{MountsOn, OthersKept};
-ghost use Rattle.file_state.specs.Tie.{StandsFor};
+ghost use Rattle.file_state.specs.Tie.{RepresentsFiles};
 
 use device_table::devices::Devices;
 use file_drives::disks::Disks;
@@ -119,8 +119,8 @@ impl FileState {
             (λ file. open_path self.now.io p.0 n ≡ Some (path_of file)) }
         ensures none { result ≡ None → NamesNoFile self.now.io p.0 n }
         ensures file { (views : List DriveView) (files : Files)
-            → StandsFor self.now views files → AreKinds files
-            → NamesFile self.now views files p.0 n result }
+            → RepresentsFiles self.now views files → AreKinds files
+            → NumberNamesFile self.now views files p.0 n result }
     {
         match self.io.open_path(p, n) {
             Some((path, desc)) => opened_on(path, desc),
@@ -132,7 +132,7 @@ impl FileState {
     /// paths are in use.
     pub fn next_number(&self, p: Pid) -> Option<u8>
         requires { p.0 < 33 }
-        ensures { (views : List DriveView) (files : Files) → StandsFor self.now views files
+        ensures { (views : List DriveView) (files : Files) → RepresentsFiles self.now views files
             → result ≡ new_number files.io.paths p.0 }
     {
         self.io.next_number(p)
@@ -140,7 +140,7 @@ impl FileState {
 
     /// Is some path of any process on the file at a place?
     pub fn is_open(&self, place: FilePlace) -> bool
-        ensures { (views : List DriveView) (files : Files) → StandsFor self.now views files
+        ensures { (views : List DriveView) (files : Files) → RepresentsFiles self.now views files
             → result ≡ is_open_model files place }
     {
         self.io.is_on_path(place.drive, place.number)
@@ -151,7 +151,7 @@ impl FileState {
     /// FD.ATT)?
     pub fn is_not_shared(&self, place: FilePlace, attributes: u8, mode: u8) -> bool
         ensures { (views : List DriveView) (files : Files) (found : Found)
-            → StandsFor self.now views files → found.place ≡ place
+            → RepresentsFiles self.now views files → found.place ≡ place
             → found.file.attributes ≡ attributes → result ≡ is_not_shared_model files found mode }
     {
         self.is_open(place)
@@ -160,7 +160,7 @@ impl FileState {
 
     /// Is some path for a single user on the file at a place?
     fn is_open_for_one(&self, place: FilePlace) -> bool
-        ensures { (views : List DriveView) (files : Files) → StandsFor self.now views files
+        ensures { (views : List DriveView) (files : Files) → RepresentsFiles self.now views files
             → result ≡ some_path_on files place (λ desc. is_single_model desc.mode) }
     {
         self.io
@@ -172,9 +172,9 @@ impl FileState {
     pub fn directory(&self, p: Pid, execute: bool) -> Option<FilePlace>
         requires { p.0 < 33 }
         ensures directory { (views : List DriveView) (files : Files)
-            → StandsFor self.now views files → result ≡ directory_of files p.0 execute }
+            → RepresentsFiles self.now views files → result ≡ directory_of files p.0 execute }
         ensures there { (views : List DriveView) (files : Files)
-            → StandsFor self.now views files → AreKinds files
+            → RepresentsFiles self.now views files → AreKinds files
             → IfSome result (HasFileAt self.now.disks views) }
     {
         chosen(self.directories[p.0 as usize], execute)
@@ -184,8 +184,8 @@ impl FileState {
     /// I$ChgDir).
     pub fn set_directory(&mut self, p: Pid, execute: bool, place: FilePlace)
         requires { p.0 < 33 }
-        ensures { (views : List DriveView) (files : Files) → StandsFor self.old views files
-            → StandsFor self.new views (with_directories_of files p.0
+        ensures { (views : List DriveView) (files : Files) → RepresentsFiles self.old views files
+            → RepresentsFiles self.new views (with_directories_of files p.0
             (with_directory (directories_at files p.0) execute place)) }
     {
         let directories = self.directories[p.0 as usize];
@@ -198,8 +198,8 @@ impl FileState {
         requires parent { parent.0 < 33 }
         requires child { child.0 < 33 }
         requires quiet { pending_at self.old.io child.0 ≡ None }
-        ensures { (views : List DriveView) (files : Files) → StandsFor self.old views files
-            → StandsFor self.new views (files_started files parent.0 child.0) }
+        ensures { (views : List DriveView) (files : Files) → RepresentsFiles self.old views files
+            → RepresentsFiles self.new views (files_started files parent.0 child.0) }
     {
         self.io.start(parent, child);
         self.directories[child.0 as usize] = self.directories[parent.0 as usize];
@@ -211,8 +211,8 @@ impl FileState {
         requires open { slot_of self.old.io.paths p.0 n ≡ Some path }
         requires there { IsPath path.0 }
         requires quiet { pending_at self.old.io p.0 ≡ None }
-        ensures { (views : List DriveView) (files : Files) → StandsFor self.old views files
-            → StandsFor self.new views (files_after_close files p.0 n path.0) }
+        ensures { (views : List DriveView) (files : Files) → RepresentsFiles self.old views files
+            → RepresentsFiles self.new views (files_after_close files p.0 n path.0) }
     {
         self.io.close(p, n);
         if !self.io.is_there(path) {
@@ -225,8 +225,8 @@ impl FileState {
     /// more.
     pub fn end(&mut self, p: Pid)
         requires { p.0 < 33 }
-        ensures { (views : List DriveView) (files : Files) → StandsFor self.old views files
-            → StandsFor self.new views (files_ended files p.0) }
+        ensures { (views : List DriveView) (files : Files) → RepresentsFiles self.old views files
+            → RepresentsFiles self.new views (files_ended files p.0) }
     {
         self.io.end(p);
         self.records.cancel(p);
@@ -277,8 +277,9 @@ impl FileState {
     pub fn interrupt(&mut self, p: Pid) -> Option<u16>
         requires { p.0 < 33 }
         ensures count { result ≡ interrupted_count self.old.io p.0 }
-        ensures files { (views : List DriveView) (files : Files) → StandsFor self.old views files
-            → StandsFor self.new views (files_interrupted files p.0) }
+        ensures files { (views : List DriveView) (files : Files)
+            → RepresentsFiles self.old views files
+            → RepresentsFiles self.new views (files_interrupted files p.0) }
     {
         self.records.cancel(p);
         self.io.interrupt(p)

@@ -20,7 +20,7 @@ use Rattle.lock_model.specs.declared.lock.Grant.TheVariants.{Deadlock, Granted, 
 use Rattle.lock_model.specs.declared.lock.Range.{Range}
 use Rattle.lock_model.specs.declared.lock.Request.{Request}
 use Rattle.lock_model.specs.declared.place.FilePlace.{FilePlace}
-use Rattle.proc_state.specs.Tie.{Represents}
+use Rattle.proc_state.specs.Tie.{RepresentsProcesses}
 use Rattle.proc_state.specs.declared.state.ProcState.{ProcState}
 use Rattle.rbf_access.specs.Faults.{file_error, file_fault}
 use Rattle.rbf_access.specs.Reading.{IsFdOf}
@@ -44,18 +44,18 @@ use Rattle.file_state.specs.Attempt.{unrequested}
 use Rattle.file_state.specs.Counted.{CalledAtMost}
 use Rattle.file_state.specs.Ends.{EndsOrLacks}
 use Rattle.file_state.specs.Opened.{path_of}
-use Rattle.file_state.specs.Reached.{HasRead}
-use Rattle.file_state.specs.Tie.{StandsFor}
+use Rattle.file_state.specs.Reached.{HasReadDrive}
+use Rattle.file_state.specs.Tie.{RepresentsFiles}
 use Rattle.file_state.specs.declared.state.FileState.{FileState}
 use Rattle.file_state.specs.declared.state.OpenFile.{OpenFile as KernelFile}
 use Rattle.file_status.proofs.OpenLemmas.{data-stays, mounted-on}
 use Rattle.file_status.proofs.RequestingLemmas.{found-same, locking-asks, locking-fails, locking-holds, locking-lacks, sizing-asks, sizing-fails, sizing-goes}
 use Rattle.file_status.proofs.SizingLemmas.{found_on}
 use Rattle.file_status.proofs.StandLemmas.{with_disks}
-use Rattle.file_status.specs.Status.{IsOpen, granted_size_calls, sizes_granted, uncalled}
+use Rattle.file_status.specs.Status.{RepresentsOpenFile, granted_size_calls, sizes_granted, uncalled}
 
 -- the path of an open file
-pub path-is : (was : Files) (opened : KernelFile) (it : OpenFile) → IsOpen was opened it → it.opened ≡ path_of opened
+pub path-is : (was : Files) (opened : KernelFile) (it : OpenFile) → RepresentsOpenFile was opened it → it.opened ≡ path_of opened
 path-is was opened it open_is =
     ap (λ (path : SysPath). let o : OpenPath = record { path = path; desc = it.opened.desc } in o) open_is.path_is
     ∙ ap (λ (desc : Desc). let o : OpenPath = record { path = opened.path; desc = desc } in o) open_is.desc_is
@@ -63,7 +63,7 @@ path-is was opened it open_is =
 -- ---- what the calls request
 
 module _ (m : Processes) (was : Files) (now : TimePacket) (p : Pid) (opened : KernelFile) (it : OpenFile) (locks : LockTable)
-    (tick : ℕ) (open_is : IsOpen was opened it) (locks_are : was.records.locks ≡ locks) (tick_is : m.tick ≡ tick) where
+    (tick : ℕ) (open_is : RepresentsOpenFile was opened it) (locks_are : was.records.locks ≡ locks) (tick_is : m.tick ≡ tick) where
   requested : (claim other : Claim) (request : Request) → claim ≡ other → request ≡ unwrap_or (request_of locks p.0)
       (claimed p opened other tick) → request_now (asker_of m p.0 now) was it claim ≡ request
   requested claim other request same is =
@@ -126,9 +126,9 @@ data-on place state new p request disks before views is read has =
 
 -- what it represents
 pub granted-on : (was : Files) (p : ℕ) (state new : FileState) (before views : List DriveView)
-    (disks : List (Option Volume)) (opened : KernelFile) (it : OpenFile) (request : Request) → StandsFor state before
-    was → IsOpen was opened it → ReadsFile opened.place None (λ v file. 1) state.disks before disks views
-    → new ≡ asked (with_disks state disks) p request Granted → StandsFor new views (unrequested p was)
+    (disks : List (Option Volume)) (opened : KernelFile) (it : OpenFile) (request : Request) → RepresentsFiles state before
+    was → RepresentsOpenFile was opened it → ReadsFile opened.place None (λ v file. 1) state.disks before disks views
+    → new ≡ asked (with_disks state disks) p request Granted → RepresentsFiles new views (unrequested p was)
 granted-on was p state new before views disks opened it request stands open_is read is =
     granted-stands p was request opened.place.drive (with_disks state disks) new before views
     (has-read state (with_disks state disks) before views was opened.place it.file None (λ v file. 1) stands
@@ -148,8 +148,8 @@ records-wait records mid new p same is =
 
 module _ (m : Processes) (was : Files) (now : TimePacket) (p : ℕ) (end : CallEnd) (processes : ProcState)
     (state new : FileState) (before views : List DriveView) (terms : List TerminalState)
-    (disks : List (Option Volume)) (opened : KernelFile) (it : OpenFile) (stands : StandsFor state before was)
-    (open_is : IsOpen was opened it) where
+    (disks : List (Option Volume)) (opened : KernelFile) (it : OpenFile) (stands : RepresentsFiles state before was)
+    (open_is : RepresentsOpenFile was opened it) where
   abbrev asker : Asker
   asker = asker_of m p now
 
@@ -162,7 +162,7 @@ module _ (m : Processes) (was : Files) (now : TimePacket) (p : ℕ) (end : CallE
   abbrev Reading : Option ℕ → Type 0
   Reading fault = ReadsFile opened.place fault (λ v file. 1) state.disks before disks views
 
-  reads : (fault : Option ℕ) → Reading fault → HasRead fault opened.place.drive was mid before views
+  reads : (fault : Option ℕ) → Reading fault → HasReadDrive fault opened.place.drive was mid before views
   reads fault read =
       has-read state mid before views was opened.place it.file fault (λ v file. 1) stands
       (file-there was opened.place it.volume it.file open_is.volume_is open_is.file_is) refl refl refl read
@@ -182,7 +182,7 @@ module _ (m : Processes) (was : Files) (now : TimePacket) (p : ℕ) (end : CallE
 
   pub sizing-failed : can_write opened.desc.mode ≡ true → (fault : FileFault) → let result : Result Fd FileFault = Err
       fault in Reading (file_fault result) → IsSome (file_fault result) → end ≡ CallEnd.Error (file_error fault)
-      → Represents processes m → new ≡ uncalled mid p → Sized views it
+      → RepresentsProcesses processes m → new ≡ uncalled mid p → Sized views it
   sizing-failed may (Device number) read is_fault end_is tied new_is =
       let on = mounted-on state.disks before was.volumes opened.place.drive it.volume stands.mounted open_is.volume_is in
       subst (Sized views) found-is
@@ -201,7 +201,7 @@ module _ (m : Processes) (was : Files) (now : TimePacket) (p : ℕ) (end : CallE
     found-request = ap (λ (o : OpenFile). request_now asker was o (size_claim o size)) found-is ∙ same
 
     pub sizing-asked : request.lock.owner.0 ≡ p → (grant : Grant) → answer_to asker was request ≡ grant → Some end ≡
-        end_by grant → Represents processes m → new ≡ asked mid p request grant → Sized views it
+        end_by grant → RepresentsProcesses processes m → new ≡ asked mid p request grant → Sized views it
     sizing-asked owner grant grant_is end_is tied new_is =
         let on = mounted-on state.disks before was.volumes opened.place.drive it.volume stands.mounted open_is.volume_is in
         subst (Sized views) found-is
@@ -236,7 +236,7 @@ module _ (m : Processes) (was : Files) (now : TimePacket) (p : ℕ) (end : CallE
 
   module _ (update : is_for_update opened.desc.mode ≡ true) (some : (size == 0) ≡ false) where
     pub locking-failed : (fault : FileFault) → let result : Result Fd FileFault = Err fault in Reading
-        (file_fault result) → IsSome (file_fault result) → end ≡ CallEnd.Error (file_error fault) → Represents
+        (file_fault result) → IsSome (file_fault result) → end ≡ CallEnd.Error (file_error fault) → RepresentsProcesses
         processes m → new ≡ uncalled mid p → Locks it
     locking-failed (Device number) read is_fault end_is tied new_is =
         subst Locks found-is
@@ -253,7 +253,7 @@ module _ (m : Processes) (was : Files) (now : TimePacket) (p : ℕ) (end : CallE
       found-lock = ap (λ (o : OpenFile). request_now asker was o (lock_claim o size)) found-is ∙ same
 
       pub locking-asked : request.lock.owner.0 ≡ p → (grant : Grant) → answer_to asker was request ≡ grant
-          → Some end ≡ end_by grant → Represents processes m → new ≡ asked mid p request grant → Locks it
+          → Some end ≡ end_by grant → RepresentsProcesses processes m → new ≡ asked mid p request grant → Locks it
       locking-asked owner grant grant_is end_is tied new_is =
           subst Locks found-is
           (locking-asks m was it.volume it.file now p opened open_is.volume_is before views terms mid
@@ -262,7 +262,7 @@ module _ (m : Processes) (was : Files) (now : TimePacket) (p : ℕ) (end : CallE
           (ap (λ (r : Request). answer_to asker was r) found-lock ∙ grant_is) end_is tied
           (new_is ∙ ap (λ (r : Request). asked mid p r grant) (sym found-lock)))
 
-      pub locking-held : answer_to asker was request ≡ Granted → end ≡ CallEnd.Done → Represents processes
+      pub locking-held : answer_to asker was request ≡ Granted → end ≡ CallEnd.Done → RepresentsProcesses processes
           (with_regs_of m p (regs_at m p)) → new ≡ record mid {
             io = with_call mid.io p None;
             records = holding (with_waiting mid.records p None) opened.path.0 request.lock [];

@@ -8,7 +8,7 @@ use Rattle.os9_outer.specs.TerminalState.{TerminalState}
 use Rattle.proc_model.specs.Processes.{Processes, regs_at, user_at}
 use Rattle.io_model.specs.Status.{i_getstt as gets_of_device, i_setstt as sets_of_device}
 use Rattle.proc_model.specs.Records.{record_at}
-use Rattle.proc_state.specs.Tie.{Represents}
+use Rattle.proc_state.specs.Tie.{RepresentsProcesses}
 use Rattle.proc_state.specs.declared.state.ProcState.{ProcState}
 use Rattle.file_rules.specs.Attempts.{asker_of, file_step}
 use Rattle.file_rules.specs.Files.{Files, OpenFile, open_file}
@@ -19,23 +19,23 @@ use Rattle.file_laws.specs.Kinds.{AreKinds}
 use Rattle.file_state.proofs.KeepLemmas.{ends-attempt, lacks-attempt}
 use Rattle.file_state.specs.Attempt.{Standing}
 use Rattle.file_state.specs.Counted.{AttemptsIn}
-use Rattle.file_state.specs.Ends.{Ends, EndsOrLacks}
+use Rattle.file_state.specs.Ends.{EndsFileAttempt, EndsOrLacks}
 use Rattle.file_state.specs.Lacks.{AttemptsOrLacks}
-use Rattle.file_state.specs.Tie.{StandsFor}
+use Rattle.file_state.specs.Tie.{RepresentsFiles}
 use Rattle.file_state.specs.declared.state.OpenFile.{OpenFile as KernelFile}
 use Rattle.file_status.proofs.OpenLemmas.{open-of}
-use Rattle.file_status.specs.Status.{IsNamedInA, IsOpen, calls_by_code, i_setstt_calls}
+use Rattle.file_status.specs.Status.{IsNamedInA, RepresentsOpenFile, calls_by_code, i_setstt_calls}
 
 -- the registers and the user that the kernel has of a process
-pub regs-tied : (processes : ProcState) (m : Processes) (p : ℕ) → Represents processes m → (record_at processes.table p).regs ≡ regs_at m p
+pub regs-tied : (processes : ProcState) (m : Processes) (p : ℕ) → RepresentsProcesses processes m → (record_at processes.table p).regs ≡ regs_at m p
 regs-tied processes m p tied = sym (ap (λ (i : Processes). regs_at i p) tied.is)
 
-pub user-tied : (processes : ProcState) (m : Processes) (p user : ℕ) → Represents processes m → user ≡ (record_at processes.table p).user → user ≡ user_at m p
+pub user-tied : (processes : ProcState) (m : Processes) (p user : ℕ) → RepresentsProcesses processes m → user ≡ (record_at processes.table p).user → user ≡ user_at m p
 user-tied processes m p user tied is = is ∙ sym (ap (λ (i : Processes). user_at i p) tied.is)
 
 module _ (m : Processes) (was : Files) (now : TimePacket) (p : ℕ) (end : CallEnd) (before after : Standing)
-    (opened : KernelFile) (terms : List TerminalState) (tied : Represents before.processes m)
-    (stands : StandsFor before.files before.views was) (kinds : AreKinds was) (named : IsNamedInA p opened before)
+    (opened : KernelFile) (terms : List TerminalState) (tied : RepresentsProcesses before.processes m)
+    (stands : RepresentsFiles before.files before.views was) (kinds : AreKinds was) (named : IsNamedInA p opened before)
   where
     abbrev found : OpenFile
     found = (named.file was stands kinds).found
@@ -43,20 +43,20 @@ module _ (m : Processes) (was : Files) (now : TimePacket) (p : ℕ) (end : CallE
     found_is : open_file was p (regs_at m p).a ≡ Some found
     found_is = subst (λ (r : Regs). open_file was p r.a ≡ Some found) (regs-tied before.processes m p tied) (named.file was stands kinds).is
 
-    found-open : IsOpen was opened found
+    found-open : RepresentsOpenFile was opened found
     found-open = open-of before.files before.views was p (record_at before.processes.table p).regs.a opened (named.file was stands kinds)
 
-    pub get-attempt : ((it : OpenFile) → IsOpen was opened it
-        → Ends (gets_status (asker_of m p now) was it (regs_at m p).b) 1 m was now p end after.processes after.files
+    pub get-attempt : ((it : OpenFile) → RepresentsOpenFile was opened it
+        → EndsFileAttempt (gets_status (asker_of m p now) was it (regs_at m p).b) 1 m was now p end after.processes after.files
         before.views after.views terms) → AttemptsIn 1 Call.GetStt m was now p end terms terms before after
     get-attempt by =
         ends-attempt 1 Call.GetStt m was now p end terms before after
-        (subst (λ o. Ends (by_kind o (gets_of_device (asker_of m p now).caller was.io)
+        (subst (λ o. EndsFileAttempt (by_kind o (gets_of_device (asker_of m p now).caller was.io)
         (λ it. gets_status (asker_of m p now) was it (regs_at m p).b)) 1 m was now p end after.processes after.files
         before.views after.views terms) (sym found_is)
         (by found found-open))
 
-    pub set-attempt : ((it : OpenFile) → IsOpen was opened it → EndsOrLacks (sets_status (asker_of m p now) was it
+    pub set-attempt : ((it : OpenFile) → RepresentsOpenFile was opened it → EndsOrLacks (sets_status (asker_of m p now) was it
         (regs_at m p).b) (calls_by_code (asker_of m p now) it) m was now p end after.processes after.files before.views
         after.views terms) → AttemptsOrLacks (i_setstt_calls (asker_of m p now) was (length terms)) Call.SetStt m was
         now p end terms terms before after

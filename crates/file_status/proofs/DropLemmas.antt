@@ -11,7 +11,7 @@ use Rattle.io_model.specs.declared.path.SysPath.{SysPath}
 use Rattle.io_model.specs.Io.{Io, with_call}
 use Rattle.io_model.specs.Step.{answers}
 use Rattle.lock_model.specs.Records.{Records, without_lock}
-use Rattle.proc_state.specs.Tie.{Represents}
+use Rattle.proc_state.specs.Tie.{RepresentsProcesses}
 use Rattle.proc_state.specs.declared.state.ProcState.{ProcState}
 use Rattle.file_drives.specs.Drives.{DriveView}
 use Rattle.file_rules.specs.Attempts.{asker_of, files_kept}
@@ -26,14 +26,14 @@ use Rattle.file_state.proofs.KeepLemmas.{keeps-same}
 use Rattle.file_state.proofs.RequestLemmas.{lacks-none}
 use Rattle.file_state.specs.Counted.{calls_of}
 use Rattle.file_state.specs.Ends.{EndsOrLacks}
-use Rattle.file_state.specs.Tie.{StandsFor}
+use Rattle.file_state.specs.Tie.{RepresentsFiles}
 use Rattle.file_state.specs.declared.state.FileState.{FileState}
 use Rattle.file_state.specs.declared.state.OpenFile.{OpenFile as KernelFile}
-use Rattle.file_status.specs.Status.{IsOpen, unlocked}
+use Rattle.file_status.specs.Status.{RepresentsOpenFile, unlocked}
 
 module _ (most : ℕ) (m : Processes) (was : Files) (now : TimePacket) (p : ℕ) (end : CallEnd) (processes : ProcState)
     (state new : FileState) (views : List DriveView) (terms : List TerminalState) (opened : KernelFile)
-    (it : OpenFile) (stands : StandsFor state views was) (open_is : IsOpen was opened it) where
+    (it : OpenFile) (stands : RepresentsFiles state views was) (open_is : RepresentsOpenFile was opened it) where
   abbrev asker : Asker
   asker = asker_of m p now
 
@@ -46,7 +46,7 @@ module _ (most : ℕ) (m : Processes) (was : Files) (now : TimePacket) (p : ℕ)
   abbrev step : FileStep
   step = done (regs_at m p) left
 
-  unlocked-stands : StandsFor (unlocked state p opened.path.0) views (files_kept p effect)
+  unlocked-stands : RepresentsFiles (unlocked state p opened.path.0) views (files_kept p effect)
   unlocked-stands = record {
     io = ap (λ (io : Io). with_call io p None) stands.io;
     directories = stands.directories;
@@ -57,13 +57,13 @@ module _ (most : ℕ) (m : Processes) (was : Files) (now : TimePacket) (p : ℕ)
     mounted = stands.mounted;
   }
 
-  ends-unlocked : new ≡ unlocked state p opened.path.0 → end ≡ CallEnd.Done → Represents processes
+  ends-unlocked : new ≡ unlocked state p opened.path.0 → end ≡ CallEnd.Done → RepresentsProcesses processes
       (with_regs_of m p (regs_at m p)) → EndsOrLacks step most m was now p end processes new views views terms
   ends-unlocked new_is end_is tied = lacks-none step most m was now p end processes new views views terms (record {
     effect = effect;
     does = goes-well step asker was effect was.drives terms refl refl;
     comes = (end_is, tied);
-    stands = inl (subst (λ (s : FileState). StandsFor s views (files_kept p effect)) (sym new_is) unlocked-stands);
+    stands = inl (subst (λ (s : FileState). RepresentsFiles s views (files_kept p effect)) (sym new_is) unlocked-stands);
     calls = called-more 0 (calls_of step most) views views (omega arith) (called-none views);
     drives = keeps-same step asker was end views tt;
   })
@@ -75,7 +75,7 @@ module _ (most : ℕ) (m : Processes) (was : Files) (now : TimePacket) (p : ℕ)
   request_next = reaches it.place.drive (locks_range asker was it (request_now asker was it (lock_claim it (long_of (regs_at m p)))))
 
   pub lock-ended : is_for_update opened.desc.mode ≡ true → (long_of (regs_at m p) == 0) ≡ true → new ≡
-      unlocked state p opened.path.0 → end ≡ CallEnd.Done → Represents processes (with_regs_of m p (regs_at m p))
+      unlocked state p opened.path.0 → end ≡ CallEnd.Done → RepresentsProcesses processes (with_regs_of m p (regs_at m p))
       → EndsOrLacks (sets_lock asker was it) most m was now p end processes new views views terms
   lock-ended update none new_is end_is tied =
       subst (λ (may : Bool). Ends (refuses (not may) E_BMODE (locks_bytes asker was it (long_of (regs_at m p)))))

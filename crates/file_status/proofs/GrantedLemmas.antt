@@ -5,7 +5,7 @@ use Rattle.os9_base.specs.declared.registers.TimePacket.{TimePacket}
 use Rattle.os9_outer.specs.TerminalState.{TerminalState}
 use Rattle.proc_model.specs.Processes.{Processes, regs_at, user_at}
 use Rattle.lock_model.specs.declared.lock.Held.{Held}
-use Rattle.proc_state.specs.Tie.{Represents}
+use Rattle.proc_state.specs.Tie.{RepresentsProcesses}
 use Rattle.proc_state.specs.declared.state.ProcState.{ProcState}
 use Rattle.rbf_access.specs.Faults.{file_error}
 use Rattle.rbf_access.specs.declared.faults.FileFault.{FileFault}
@@ -22,18 +22,18 @@ use Rattle.file_state.proofs.CountLemmas.{has-changed-in, HasChangedIn}
 use Rattle.file_state.proofs.RequestLemmas.{stands-restored}
 use Rattle.file_state.specs.Attempt.{unrequested}
 use Rattle.file_state.specs.Ends.{EndsOrLacks}
-use Rattle.file_state.specs.Tie.{StandsFor}
+use Rattle.file_state.specs.Tie.{RepresentsFiles}
 use Rattle.file_state.specs.declared.state.FileState.{FileState}
 use Rattle.file_state.specs.declared.state.OpenFile.{OpenFile as KernelFile}
 use Rattle.file_status.proofs.RequestingLemmas.{found-same}
 use Rattle.file_status.proofs.SizingLemmas.{found_on, size-broken, size-made}
 use Rattle.file_status.proofs.StandLemmas.{with_disks}
-use Rattle.file_status.specs.Status.{EndsSized, IsOpen, granted_size_calls, sizes_granted, uncalled}
+use Rattle.file_status.specs.Status.{EndsSized, RepresentsOpenFile, granted_size_calls, sizes_granted, uncalled}
 
 module _ (old : ℕ) (lock : Held) (m : Processes) (was : Files) (now : TimePacket) (p : ℕ) (end : CallEnd)
     (processes : ProcState) (state new : FileState) (before after : List DriveView) (terms : List TerminalState)
     (disks : List (Option Volume)) (opened : KernelFile) (it : OpenFile)
-    (stands : StandsFor state before (unrequested p was)) (open_is : IsOpen was opened it) (size : ℕ)
+    (stands : RepresentsFiles state before (unrequested p was)) (open_is : RepresentsOpenFile was opened it) (size : ℕ)
     (size_is : size ≡ long_of (regs_at m p)) where
   abbrev asker : Asker
   asker = asker_of m p now
@@ -77,7 +77,7 @@ module _ (old : ℕ) (lock : Held) (m : Processes) (was : Files) (now : TimePack
 
   -- it was not
   pub size-not-given : (fault : FileFault) → Changes size (Err fault) → end ≡ CallEnd.Error (file_error fault)
-      → Represents processes m → new ≡ uncalled mid p → Sized it
+      → RepresentsProcesses processes m → new ≡ uncalled mid p → Sized it
   size-not-given fault change end_is tied new_is =
       subst Sized found-is
       (size-broken old lock m was it.volume it.file now p opened end processes mid new before after terms

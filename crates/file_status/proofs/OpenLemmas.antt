@@ -8,7 +8,7 @@ use Rattle.io_model.specs.Io.{Io, OpenPath, pending_at, open_path}
 use Rattle.io_model.specs.declared.io_call.IoCall.{IoCall}
 use Rattle.io_state.specs.Sound.{IsNoRead}
 use Rattle.io_model.specs.Modes.{can_write}
-use Rattle.rbf_access.specs.Mounted.{Represents}
+use Rattle.rbf_access.specs.Mounted.{RepresentsVolume}
 use Rattle.rbf_access.specs.declared.volume.Volume.{Volume}
 use Rattle.rbf_model.specs.File.{DiskFile}
 use Rattle.rbf_model.specs.Volume.{DiskVolume}
@@ -21,11 +21,11 @@ use Rattle.file_drives.specs.Mounted as drives
 use Rattle.file_laws.specs.Kinds.{AreKinds}
 use Rattle.file_state.proofs.AskingLemmas.{may-ask, no-read-again}
 use Rattle.file_state.specs.Asking.{KeepsRequest, MayAsk}
-use Rattle.file_state.specs.Opened.{IsFileOf, IsPathOf, path_of}
-use Rattle.file_state.specs.Tie.{IsSound, StandsFor}
+use Rattle.file_state.specs.Opened.{IsOpenFileOf, IsPathOf, path_of}
+use Rattle.file_state.specs.Tie.{AreSoundFiles, RepresentsFiles}
 use Rattle.file_state.specs.declared.state.FileState.{FileState}
 use Rattle.file_state.specs.declared.state.OpenFile.{OpenFile as KernelFile}
-use Rattle.file_status.specs.Status.{IsOpen}
+use Rattle.file_status.specs.Status.{RepresentsOpenFile}
 
 and-then : {A B : Type 0} (f : A → Option B) (o : Option A) (b : B) → option_and_then f o ≡ Some b → (a : A) × (o ≡ Some a) × (f a ≡ Some b)
 and-then f None b h = absurd (none-some b h)
@@ -54,7 +54,7 @@ found-by files p n found is =
     (record { target = two.1; volume = three.1; file = four.1; path = one.1 })
 
 -- the file that a number names is the one that its path was opened on
-pub open-of : (state : FileState) (views : List DriveView) (files : Files) (p n : ℕ) (opened : KernelFile) (it : IsFileOf state views files p n opened) → IsOpen files opened it.found
+pub open-of : (state : FileState) (views : List DriveView) (files : Files) (p n : ℕ) (opened : KernelFile) (it : IsOpenFileOf state views files p n opened) → RepresentsOpenFile files opened it.found
 open-of state views files p n opened it =
     let by = found-by files p n it.found it.is in
     record {
@@ -67,18 +67,18 @@ open-of state views files p n opened it =
     }
 
 -- where the kernel's files stand for some, the file is there
-pub file-there : (state : FileState) (views : List DriveView) (p n : ℕ) (opened : KernelFile) → IsSound state views
-    → ((was : Files) → StandsFor state views was → AreKinds was → IsFileOf state views was p n opened)
+pub file-there : (state : FileState) (views : List DriveView) (p n : ℕ) (opened : KernelFile) → AreSoundFiles state views
+    → ((was : Files) → RepresentsFiles state views was → AreKinds was → IsOpenFileOf state views was p n opened)
     → HasFileAt state.disks views opened.place
 file-there state views p n opened sound named = (named sound.files sound.stands sound.kinds).has
 
 -- a path that may be written is on no directory
 pub data-file-there : (state : FileState) (views : List DriveView) (p n : ℕ) (opened : KernelFile)
-    → IsSound state views → ((was : Files) → StandsFor state views was → AreKinds was → IsFileOf state views was p n
+    → AreSoundFiles state views → ((was : Files) → RepresentsFiles state views was → AreKinds was → IsOpenFileOf state views was p n
     opened) → can_write opened.desc.mode ≡ true → HasDataFileAt state.disks views opened.place
 data-file-there state views p n opened sound named may = by opened.is_directory refl
   where
-    it : IsFileOf state views sound.files p n opened
+    it : IsOpenFileOf state views sound.files p n opened
     it = named sound.files sound.stands sound.kinds
 
     by : (directory : Bool) → opened.is_directory ≡ directory → HasDataFileAt state.disks views opened.place
@@ -86,9 +86,9 @@ data-file-there state views p n opened sound named may = by opened.is_directory 
     by false is = it.data_file is
 
 -- the number names the path of the file
-module _ (state : FileState) (views : List DriveView) (p n : ℕ) (opened : KernelFile) (sound : IsSound state views)
-    (named : (was : Files) → StandsFor state views was → AreKinds was → IsFileOf state views was p n opened) where
-  it : IsFileOf state views sound.files p n opened
+module _ (state : FileState) (views : List DriveView) (p n : ℕ) (opened : KernelFile) (sound : AreSoundFiles state views)
+    (named : (was : Files) → RepresentsFiles state views was → AreKinds was → IsOpenFileOf state views was p n opened) where
+  it : IsOpenFileOf state views sound.files p n opened
   it = named sound.files sound.stands sound.kinds
 
   names : open_path state.io p n ≡ Some (path_of opened)
@@ -112,15 +112,15 @@ module _ (state : FileState) (views : List DriveView) (p n : ℕ) (opened : Kern
 -- a volume that is mounted is that of some media
 pub mounted-on : (disks : List (Option Volume)) (views : List DriveView) (volumes : List (Option DiskVolume)) (n : ℕ)
     (v : DiskVolume) → AreMounted disks views volumes → mounted_at volumes n ≡ Some v → (media : Option (List ℕ)) ×
-    Represents media v
+    RepresentsVolume media v
 mounted-on disks views volumes n v mounted is =
     let none : DriveView = record { media = None; counts = record { faults = 0; last = None; calls = 0 } } in
     let view : DriveView = get_or views n none in
     let inside : n < length views = omega (arith, mounted-below volumes n v is, mounted.as_many) in
     let there : slice_get views n ≡ Some view = slice_get_read views (length views) n view refl inside (get_or_default views n none view inside) in
-    by (drives.kept_at disks n) view (subst (λ (o : Option DiskVolume). AgreesOnDrive (drives.kept_at disks n) view o) is (mounted.each n view there))
+    by (drives.disk_at disks n) view (subst (λ (o : Option DiskVolume). AgreesOnDrive (drives.disk_at disks n) view o) is (mounted.each n view there))
   where
-    by : (kept : Option Volume) (view : DriveView) → AgreesOnDrive kept view (Some v) → (media : Option (List ℕ)) × Represents media v
+    by : (kept : Option Volume) (view : DriveView) → AgreesOnDrive kept view (Some v) → (media : Option (List ℕ)) × RepresentsVolume media v
     by None view agrees = absurd agrees
     by (Some volume) view agrees = (view.media, agrees.on)
 

@@ -18,7 +18,7 @@ use Rattle.lock_model.specs.declared.lock.Grant.{Grant}
 use Rattle.lock_model.specs.declared.lock.Grant.TheVariants.{Granted, Locked, Deadlock, Wait}
 use Rattle.lock_model.specs.declared.lock.Request.{Request}
 use Rattle.lock_model.specs.declared.place.FilePlace.{FilePlace}
-use Rattle.proc_state.specs.Tie.{Represents}
+use Rattle.proc_state.specs.Tie.{RepresentsProcesses}
 use Rattle.proc_state.specs.declared.state.ProcState.{ProcState}
 use Rattle.rbf_change.specs.Calls.{cluster_size, free_total}
 use Rattle.rbf_change.specs.Faults as ends
@@ -40,7 +40,7 @@ use Rattle.file_state.proofs.RequestLemmas.{asks-ends, forgotten-again, lacks-no
 use Rattle.file_state.specs.Asking.{asked}
 use Rattle.file_state.specs.Counted.{CalledAtMost}
 use Rattle.file_state.specs.Ends.{EndsOrLacks}
-use Rattle.file_state.specs.Reached.{HasRead}
+use Rattle.file_state.specs.Reached.{HasReadDrive}
 use Rattle.file_state.specs.declared.state.FileState.{FileState}
 use Rattle.file_state.specs.declared.state.OpenFile.{OpenFile as KernelFile}
 use Rattle.file_status.proofs.SizingLemmas.{found_on}
@@ -114,8 +114,8 @@ module _ (m : Processes) (was : Files) (v : DiskVolume) (file : DiskFile) (now :
 
     module _ (end : CallEnd) (processes : ProcState) (new : FileState) where
       -- a fault
-      pub sizing-fails : (number : ℕ) → HasRead (Some number) drive was mid before views → end ≡ CallEnd.Error number
-          → Represents processes m → new ≡ record mid { io = with_call mid.io p None; records = new.records }
+      pub sizing-fails : (number : ℕ) → HasReadDrive (Some number) drive was mid before views → end ≡ CallEnd.Error number
+          → RepresentsProcesses processes m → new ≡ record mid { io = with_call mid.io p None; records = new.records }
           → with_waiting was.records p None ≡ with_waiting new.records p None → Sized end processes new views
       sizing-fails number read end_is tied new_is records_are =
           as-size end processes new views
@@ -124,8 +124,8 @@ module _ (m : Processes) (was : Files) (v : DiskVolume) (file : DiskFile) (now :
           new is (stays (answer_to asker was request) full) read end_is tied new_is records_are))
 
       -- its request is not granted
-      pub sizing-asks : request.lock.owner.0 ≡ p → HasRead None drive was mid before views → (grant : Grant)
-          → answer_to asker was request ≡ grant → Some end ≡ end_by grant → Represents processes m → new ≡ asked mid p
+      pub sizing-asks : request.lock.owner.0 ≡ p → HasReadDrive None drive was mid before views → (grant : Grant)
+          → answer_to asker was request ≡ grant → Some end ≡ end_by grant → RepresentsProcesses processes m → new ≡ asked mid p
           request grant → Sized end processes new views
       sizing-asks owner read grant grant_is end_is tied new_is =
           as-size end processes new views
@@ -134,7 +134,7 @@ module _ (m : Processes) (was : Files) (v : DiskVolume) (file : DiskFile) (now :
           (ap (λ (grant : Grant). behind grant full) grant_is) owner read end_is tied new_is))
 
       -- it is
-      pub sizing-goes : (after : List DriveView) → answer_to asker was request ≡ Granted → HasRead None drive was mid
+      pub sizing-goes : (after : List DriveView) → answer_to asker was request ≡ Granted → HasReadDrive None drive was mid
           before views → EndsOrLacks (sizes_granted (length file.contents) request.lock asker was found) more m was
           now p end processes new views after terms → Sized end processes new after
       sizing-goes after granted read it =
@@ -184,8 +184,8 @@ module _ (m : Processes) (was : Files) (v : DiskVolume) (file : DiskFile) (now :
 
     module _ (end : CallEnd) (processes : ProcState) (new : FileState) where
       -- a fault
-      pub locking-fails : (number : ℕ) → HasRead (Some number) drive was mid before views → end ≡ CallEnd.Error number
-          → Represents processes m → new ≡ record mid { io = with_call mid.io p None; records = new.records }
+      pub locking-fails : (number : ℕ) → HasReadDrive (Some number) drive was mid before views → end ≡ CallEnd.Error number
+          → RepresentsProcesses processes m → new ≡ record mid { io = with_call mid.io p None; records = new.records }
           → with_waiting was.records p None ≡ with_waiting new.records p None → Holds end processes new
       locking-fails number read end_is tied new_is records_are =
           as-lock end processes new
@@ -193,8 +193,8 @@ module _ (m : Processes) (was : Files) (v : DiskVolume) (file : DiskFile) (now :
           (reached-fails m was now p drive lock_next mid before views terms end processes 1 called number v new is (lock_stays (answer_to asker was lock_request)) read end_is tied new_is records_are))
 
       -- its request is not granted
-      pub locking-asks : lock_request.lock.owner.0 ≡ p → HasRead None drive was mid before views → (grant : Grant)
-          → answer_to asker was lock_request ≡ grant → Some end ≡ end_by grant → Represents processes m
+      pub locking-asks : lock_request.lock.owner.0 ≡ p → HasReadDrive None drive was mid before views → (grant : Grant)
+          → answer_to asker was lock_request ≡ grant → Some end ≡ end_by grant → RepresentsProcesses processes m
           → new ≡ asked mid p lock_request grant → Holds end processes new
       locking-asks owner read grant grant_is end_is tied new_is =
           as-lock end processes new
@@ -206,8 +206,8 @@ module _ (m : Processes) (was : Files) (v : DiskVolume) (file : DiskFile) (now :
       goes granted = ap (λ (grant : Grant). deed_of (lock_behind grant) was) granted
 
       -- it is, and the path holds the lock
-      pub locking-holds : answer_to asker was lock_request ≡ Granted → HasRead None drive was mid before views
-          → end ≡ CallEnd.Done → Represents processes (with_regs_of m p regs)
+      pub locking-holds : answer_to asker was lock_request ≡ Granted → HasReadDrive None drive was mid before views
+          → end ≡ CallEnd.Done → RepresentsProcesses processes (with_regs_of m p regs)
           → new ≡ record mid {
             io = with_call mid.io p None;
             records = holding (with_waiting mid.records p None)
@@ -240,7 +240,7 @@ module _ (m : Processes) (was : Files) (v : DiskVolume) (file : DiskFile) (now :
           }))
 
       -- memory was wanting for the entry
-      pub locking-lacks : answer_to asker was lock_request ≡ Granted → HasRead None drive was mid before views
+      pub locking-lacks : answer_to asker was lock_request ≡ Granted → HasReadDrive None drive was mid before views
           → end ≡ CallEnd.NoMemory → new ≡ record mid { records = with_waiting mid.records p None }
           → Holds end processes new
       locking-lacks granted read end_is new_is =

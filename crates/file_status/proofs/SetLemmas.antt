@@ -10,7 +10,7 @@ use Rattle.os9_outer.specs.TerminalState.{TerminalState}
 use Rattle.proc_model.specs.Processes.{Processes, regs_at, user_at, with_regs_of}
 use Rattle.io_model.specs.declared.path.Desc.{Desc}
 use Rattle.io_model.specs.Modes.{can_write}
-use Rattle.proc_state.specs.Tie.{Represents}
+use Rattle.proc_state.specs.Tie.{RepresentsProcesses}
 use Rattle.proc_state.specs.declared.state.ProcState.{ProcState}
 use Rattle.rbf_model.specs.File.{DiskFile}
 use Rattle.rbf_model.specs.Volume.{DiskVolume}
@@ -38,13 +38,13 @@ use Rattle.file_drives.specs.Changed.{ChangesVolume, numbered}
 use Rattle.file_drives.specs.Drives.{DriveView}
 use Rattle.file_state.proofs.CountLemmas.{has-changed-in, HasChangedIn}
 use Rattle.file_state.proofs.RequestLemmas.{lacks-none}
-use Rattle.file_state.specs.Ends.{Ends, EndsOrLacks}
-use Rattle.file_state.specs.Tie.{StandsFor}
+use Rattle.file_state.specs.Ends.{EndsFileAttempt, EndsOrLacks}
+use Rattle.file_state.specs.Tie.{RepresentsFiles}
 use Rattle.file_state.specs.declared.state.FileState.{FileState}
 use Rattle.file_state.specs.declared.state.OpenFile.{OpenFile as KernelFile}
 use Rattle.file_status.proofs.GetLemmas.{stops}
 use Rattle.file_status.proofs.StandLemmas.{change-broken, change-made, change-refused, with_disks}
-use Rattle.file_status.specs.Status.{IsOpen, uncalled}
+use Rattle.file_status.specs.Status.{RepresentsOpenFile, uncalled}
 
 -- nothing is less than nothing
 none-lacking : (free : ℕ) → nat_lt free 0 ≡ true → ⊥
@@ -78,8 +78,8 @@ one-at-least v file marks sizing = by (nat_lt (length file.contents) sizing.size
 
 module _ (m : Processes) (files : Files) (now : TimePacket) (p : ℕ) (end : CallEnd) (processes : ProcState)
     (state new : FileState) (before after : List DriveView) (terms : List TerminalState)
-    (disks : List (Option Volume)) (opened : KernelFile) (it : OpenFile) (stands : StandsFor state before files)
-    (open_is : IsOpen files opened it) (new_is : new ≡ uncalled (with_disks state disks) p) where
+    (disks : List (Option Volume)) (opened : KernelFile) (it : OpenFile) (stands : RepresentsFiles state before files)
+    (open_is : RepresentsOpenFile files opened it) (new_is : new ≡ uncalled (with_disks state disks) p) where
   abbrev place : FilePlace
   place = opened.place
 
@@ -96,15 +96,15 @@ module _ (m : Processes) (files : Files) (now : TimePacket) (p : ℕ) (end : Cal
       refuses (is_foreign (user_at m p)) E_FNA
       (comes (changes (record { drive = at.drive; change = sets_attributes at.number (regs.x % 256); effect = λ n. leaves (answers (regs_at m p)) files })))
 
-  attribute-step : (regs : Regs) → regs ≡ regs_at m p → Ends (reaches place.drive (attribute_deed regs place))
+  attribute-step : (regs : Regs) → regs ≡ regs_at m p → EndsFileAttempt (reaches place.drive (attribute_deed regs place))
       (attribute_calls it.file (user_at m p)) m files now p end processes new before after terms
-      → Ends (sets_attributes_of (asker_of m p now) files it) (attribute_calls it.file (user_at m p)) m files now p
+      → EndsFileAttempt (sets_attributes_of (asker_of m p now) files it) (attribute_calls it.file (user_at m p)) m files now p
       end processes new before after terms
   attribute-step regs same ends =
-      subst (λ (at : FilePlace). Ends (reaches at.drive (attribute_deed (regs_at m p) at))
+      subst (λ (at : FilePlace). EndsFileAttempt (reaches at.drive (attribute_deed (regs_at m p) at))
       (attribute_calls it.file (user_at m p)) m files now p end processes new before after terms)
       (sym open_is.place_is)
-      (subst (λ (r : Regs). Ends (reaches place.drive (attribute_deed r place)) (attribute_calls it.file (user_at m p)) m files now p end processes new before after terms) same ends)
+      (subst (λ (r : Regs). EndsFileAttempt (reaches place.drive (attribute_deed r place)) (attribute_calls it.file (user_at m p)) m files now p end processes new before after terms) same ends)
 
   abbrev AttributesChange : Regs → ℕ → Result (Unit {0}) DirError → Type 0
   AttributesChange regs user result = ChangesVolume place (record {
@@ -132,8 +132,8 @@ module _ (m : Processes) (files : Files) (now : TimePacket) (p : ℕ) (end : Cal
       (subst (λ u. AttributesChange regs u result) who changed)
 
   pub attributes-set : (regs : Regs) (user : ℕ) → regs ≡ regs_at m p → user ≡ user_at m p → AttributesChange regs user
-      (Ok tt) → end ≡ CallEnd.Done → Represents processes (with_regs_of m p regs)
-      → Ends (sets_attributes_of (asker_of m p now) files it) (attribute_calls it.file (user_at m p)) m files now p
+      (Ok tt) → end ≡ CallEnd.Done → RepresentsProcesses processes (with_regs_of m p regs)
+      → EndsFileAttempt (sets_attributes_of (asker_of m p now) files it) (attribute_calls it.file (user_at m p)) m files now p
       end processes new before after terms
   attributes-set regs user same who changed is_end tied =
       let made = attributes-changed regs user (Ok tt) who changed in
@@ -141,11 +141,11 @@ module _ (m : Processes) (files : Files) (now : TimePacket) (p : ℕ) (end : Cal
       (change-made (attribute_calls it.file (user_at m p)) m files now p end processes (with_disks state disks) new
       before after terms place.drive it.volume open_is.volume_is new_is made.calls (attributing regs) it.file
       open_is.file_is (regs_at m p) (is_foreign (user_at m p)) E_FNA
-      0 (owned (owns_file it.file (user_at m p)) made.changed.answers.allowed) made.changed is_end (subst (λ (r : Regs). Represents processes (with_regs_of m p r)) same tied))
+      0 (owned (owns_file it.file (user_at m p)) made.changed.answers.allowed) made.changed is_end (subst (λ (r : Regs). RepresentsProcesses processes (with_regs_of m p r)) same tied))
 
   pub attributes-failed : (regs : Regs) (user : ℕ) (error : DirError) → regs ≡ regs_at m p → user ≡ user_at m p
-      → AttributesChange regs user (Err error) → end ≡ CallEnd.Error (directory_error error) → Represents processes m
-      → Ends (sets_attributes_of (asker_of m p now) files it) (attribute_calls it.file (user_at m p)) m files now p
+      → AttributesChange regs user (Err error) → end ≡ CallEnd.Error (directory_error error) → RepresentsProcesses processes m
+      → EndsFileAttempt (sets_attributes_of (asker_of m p now) files it) (attribute_calls it.file (user_at m p)) m files now p
       end processes new before after terms
   attributes-failed regs user NotAllowed same who changed is_end tied =
       let closed = attributes-changed regs user (Err NotAllowed) who changed in
@@ -173,8 +173,8 @@ module _ (m : Processes) (files : Files) (now : TimePacket) (p : ℕ) (end : Cal
 
 module _ (m : Processes) (files : Files) (now : TimePacket) (p : ℕ) (end : CallEnd) (processes : ProcState)
     (state new : FileState) (views : List DriveView) (terms : List TerminalState) (opened : KernelFile)
-    (it : OpenFile) (most : ℕ) (stands : StandsFor state views files) (open_is : IsOpen files opened it)
-    (new_is : new ≡ uncalled state p) (end_is : end ≡ CallEnd.Error E_BMODE) (tied : Represents processes m) where
+    (it : OpenFile) (most : ℕ) (stands : RepresentsFiles state views files) (open_is : RepresentsOpenFile files opened it)
+    (new_is : new ≡ uncalled state p) (end_is : end ≡ CallEnd.Error E_BMODE) (tied : RepresentsProcesses processes m) where
   abbrev size_next : FileStep
   size_next =
       reaches it.place.drive

@@ -16,7 +16,7 @@ use Rattle.lock_model.specs.History.{dropped, put}
 use Rattle.lock_model.specs.Locks.{lock_of}
 use Rattle.lock_model.specs.Records.{Records, entered, with_waiting, without_lock, written_by}
 use Rattle.lock_model.specs.declared.lock.Held.{Held}
-use Rattle.proc_state.specs.Tie.{Represents}
+use Rattle.proc_state.specs.Tie.{RepresentsProcesses}
 use Rattle.proc_state.specs.declared.state.ProcState.{ProcState}
 use Rattle.rbf_access.specs.Faults.{file_error}
 use Rattle.rbf_access.specs.declared.faults.FileFault.{FileFault}
@@ -27,7 +27,7 @@ use Rattle.rbf_model.specs.File.{DiskFile}
 use Rattle.rbf_model.specs.Volume.{DiskVolume}
 use Rattle.rbf_write.specs.Sizes.{Sizing}
 use Rattle.file_drives.specs.Calls.{sizing_calls as drive_calls}
-use Rattle.file_drives.specs.Changed.{IsRefused as IsNotMade, file_answer, is_refused}
+use Rattle.file_drives.specs.Changed.{IsRefusedChange as IsNotMade, file_answer, is_refused}
 use Rattle.file_drives.specs.Drives.{DriveView, drive_states}
 use Rattle.file_drives.specs.Mounted.{AreMounted}
 use Rattle.file_rules.specs.Attempts.{asker_of}
@@ -42,10 +42,10 @@ use Rattle.file_state.proofs.ReachedLemmas.{same-volume}
 use Rattle.file_state.proofs.RequestLemmas.{forgotten-again, lacks-none, stands-beside}
 use Rattle.file_state.specs.Attempt.{without_request}
 use Rattle.file_state.specs.Counted.{CalledAtMost}
-use Rattle.file_state.specs.Ends.{Ends, EndsOrLacks}
+use Rattle.file_state.specs.Ends.{EndsFileAttempt, EndsOrLacks}
 use Rattle.file_state.specs.Media.{KeepsDrives}
 use Rattle.file_state.specs.Opened.{path_of}
-use Rattle.file_state.specs.Tie.{StandsFor}
+use Rattle.file_state.specs.Tie.{RepresentsFiles}
 use Rattle.file_state.specs.declared.state.FileState.{FileState}
 use Rattle.file_state.specs.declared.state.OpenFile.{OpenFile as KernelFile}
 use Rattle.file_status.proofs.SetLemmas.{one-at-least, size-at-most}
@@ -85,7 +85,7 @@ module _ (old : ℕ) (lock : Held) (regs : Regs) (opened : KernelFile) (m : Proc
   sized_by same =
       if same then without_lock state.records opened.path.0 else written_by state.records opened.path.0 lock []
 
-  done-so : (same : Bool) → (old == long_of regs) ≡ same → end ≡ Done → Represents processes (with_regs_of m p regs)
+  done-so : (same : Bool) → (old == long_of regs) ≡ same → end ≡ Done → RepresentsProcesses processes (with_regs_of m p regs)
       → new ≡ record state { io = with_call state.io p None; records = sized_by same } → EndsSized old lock regs
       opened m p state end processes new
   done-so same is end_is tied new_is = record {
@@ -99,11 +99,11 @@ module _ (old : ℕ) (lock : Held) (regs : Regs) (opened : KernelFile) (m : Proc
     lacks = λ none. absurd (let e : Done ≡ NoMemory = sym end_is ∙ none in cc);
   }
 
-  pub same-done : old ≡ long_of regs → end ≡ Done → Represents processes (with_regs_of m p regs) → new ≡ unlocked state p opened.path.0 → EndsSized old lock regs
+  pub same-done : old ≡ long_of regs → end ≡ Done → RepresentsProcesses processes (with_regs_of m p regs) → new ≡ unlocked state p opened.path.0 → EndsSized old lock regs
       opened m p state end processes new
   same-done same end_is tied new_is = done-so true (eq-eqb old (long_of regs) same) end_is tied new_is
 
-  pub other-done : old ≢ long_of regs → end ≡ Done → Represents processes (with_regs_of m p regs) → new ≡ record state
+  pub other-done : old ≢ long_of regs → end ≡ Done → RepresentsProcesses processes (with_regs_of m p regs) → new ≡ record state
       { io = with_call state.io p None; records = written_by state.records opened.path.0 lock [] } → EndsSized old
       lock regs opened m p state end processes new
   other-done other end_is tied new_is = done-so false (ne_eqb old (long_of regs) other) end_is tied new_is
@@ -196,8 +196,8 @@ module _ (old : ℕ) (lock : Held) (m : Processes) (files : Files) (v : DiskVolu
 
   -- ---- what the state represents
 
-  refused-on : (left : DiskVolume) → StandsFor sized_state after (with_drives (with_volume files drive left) drives)
-      → new ≡ uncalled mid p → StandsFor (without_request p new) after
+  refused-on : (left : DiskVolume) → RepresentsFiles sized_state after (with_drives (with_volume files drive left) drives)
+      → new ≡ uncalled mid p → RepresentsFiles (without_request p new) after
       (with_records (with_io (with_drives (with_volume files drive left) drives) (with_call files.io p None))
       (with_waiting files.records p None))
   refused-on left stands new_is =
@@ -208,19 +208,19 @@ module _ (old : ℕ) (lock : Held) (m : Processes) (files : Files) (v : DiskVolu
       (ap (λ (io : Io). with_call io p None) stands.io ∙ sym io_is)
       (sym (forgotten-again p files.records) ∙ ap (λ (records : Records). with_waiting records p None) (sym quiet ∙ sym records_are)) stands
 
-  refused-as-before : (left : DiskVolume) → left ≡ v → StandsFor sized_state after
-      (with_drives (with_volume files drive left) drives) → new ≡ uncalled mid p → StandsFor (without_request p new)
+  refused-as-before : (left : DiskVolume) → left ≡ v → RepresentsFiles sized_state after
+      (with_drives (with_volume files drive left) drives) → new ≡ uncalled mid p → RepresentsFiles (without_request p new)
       after (with_records (with_io (with_drives files drives) (with_call files.io p None)) (with_waiting files.records
       p None))
   refused-as-before left same stands new_is =
-      subst (λ (f : Files). StandsFor (without_request p new) after
+      subst (λ (f : Files). RepresentsFiles (without_request p new) after
       (with_records (with_io (with_drives f drives) (with_call f.io p None)) (with_waiting f.records p None)))
       (ap (λ (w : DiskVolume). with_volume files drive w) same ∙ same-volume files drive v is)
       (refused-on left stands new_is)
 
-  made-on : (left : DiskVolume) → StandsFor sized_state after (with_drives (with_volume files drive left) drives)
+  made-on : (left : DiskVolume) → RepresentsFiles sized_state after (with_drives (with_volume files drive left) drives)
       → new ≡ record mid { io = with_call mid.io p None; records = sized mid.records }
-      → StandsFor (without_request p new) after
+      → RepresentsFiles (without_request p new) after
       (with_records (with_io (with_drives (with_volume files drive left) drives) (with_call files.io p None))
       (with_waiting (sized files.records) p None))
   made-on left stands new_is =
@@ -253,7 +253,7 @@ module _ (old : ℕ) (lock : Held) (m : Processes) (files : Files) (v : DiskVolu
 
   -- ---- its end
 
-  whole : Ends step most m files now p end processes new before after terms → EndsOrLacks step most m files now p end processes new before after terms
+  whole : EndsFileAttempt step most m files now p end processes new before after terms → EndsOrLacks step most m files now p end processes new before after terms
   whole it = lacks-none step most m files now p end processes new before after terms it
 
   pub size-made : Changed (Ok tt) → EndsSized old lock regs opened m p mid end processes new
@@ -287,7 +287,7 @@ module _ (old : ℕ) (lock : Held) (m : Processes) (files : Files) (v : DiskVolu
   }
 
   pub size-broken : (fault : FileFault) → Changed (Err fault) → end ≡ CallEnd.Error (file_error fault)
-      → Represents processes m → new ≡ uncalled mid p → EndsOrLacks (sizes_granted old lock asker files found) most m
+      → RepresentsProcesses processes m → new ≡ uncalled mid p → EndsOrLacks (sizes_granted old lock asker files found) most m
       files now p end processes new before after terms
   size-broken (Device number) it end_is tied new_is = whole (record {
     effect = refuses_so number (with_drives (with_volume files drive it.changed.left) drives);

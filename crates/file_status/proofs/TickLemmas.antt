@@ -10,7 +10,7 @@ use Rattle.io_model.specs.declared.path.Desc.{Desc}
 use Rattle.io_model.specs.declared.path.SysPath.{SysPath}
 use Rattle.io_model.specs.Io.{Io, with_call, with_paths}
 use Rattle.io_model.specs.Step.{answers}
-use Rattle.proc_state.specs.Tie.{Represents}
+use Rattle.proc_state.specs.Tie.{RepresentsProcesses}
 use Rattle.proc_state.specs.declared.state.ProcState.{ProcState}
 use Rattle.file_rules.specs.Attempts.{asker_of, files_kept}
 use Rattle.file_rules.specs.Files.{Files, OpenFile, with_ticks}
@@ -21,11 +21,11 @@ use Rattle.file_state.proofs.CountLemmas.{called-more, called-none}
 use Rattle.file_state.proofs.EndLemmas.{goes-well}
 use Rattle.file_state.proofs.KeepLemmas.{keeps-same}
 use Rattle.file_state.specs.Counted.{calls_of}
-use Rattle.file_state.specs.Ends.{Ends}
-use Rattle.file_state.specs.Tie.{StandsFor}
+use Rattle.file_state.specs.Ends.{EndsFileAttempt}
+use Rattle.file_state.specs.Tie.{RepresentsFiles}
 use Rattle.file_state.specs.declared.state.FileState.{FileState}
 use Rattle.file_state.specs.declared.state.OpenFile.{OpenFile as KernelFile}
-use Rattle.file_status.specs.Status.{IsOpen, uncalled}
+use Rattle.file_status.specs.Status.{RepresentsOpenFile, uncalled}
 
 -- the paths and all else of input and output, if this one has other ticks
 abbrev pub ticked : Io → SysPath → Desc → ℕ → Io
@@ -55,7 +55,7 @@ ticked-on state between p opened ticks io same path fact =
 
 module _ (most : ℕ) (m : Processes) (files : Files) (now : TimePacket) (p : ℕ) (end : CallEnd) (processes : ProcState)
     (state new : FileState) (views : List DriveView) (terms : List TerminalState) (opened : KernelFile)
-    (it : OpenFile) (stands : StandsFor state views files) (open_is : IsOpen files opened it) where
+    (it : OpenFile) (stands : RepresentsFiles state views files) (open_is : RepresentsOpenFile files opened it) where
   -- the path of the machine is the kernel's
   ticked-same : (regs : Regs) → regs ≡ regs_at m p → ticked files.io it.opened.path it.opened.desc (regs_at m p).x ≡ ticked state.io opened.path opened.desc regs.x
   ticked-same regs same =
@@ -67,7 +67,7 @@ module _ (most : ℕ) (m : Processes) (files : Files) (now : TimePacket) (p : �
   abbrev effect : FileEffect
   effect = leaves (answers (regs_at m p)) (with_ticks files it.opened (regs_at m p).x)
 
-  ticked-stands : (regs : Regs) → regs ≡ regs_at m p → StandsFor (uncalled (with_ticked state opened regs.x) p) views (files_kept p effect)
+  ticked-stands : (regs : Regs) → regs ≡ regs_at m p → RepresentsFiles (uncalled (with_ticked state opened regs.x) p) views (files_kept p effect)
   ticked-stands regs same = record {
     io = ap (λ (io : Io). with_call io p None) (ticked-same regs same);
     directories = stands.directories;
@@ -77,13 +77,13 @@ module _ (most : ℕ) (m : Processes) (files : Files) (now : TimePacket) (p : �
   }
 
   pub ticks-set : (regs : Regs) → regs ≡ regs_at m p → new ≡ uncalled (with_ticked state opened regs.x) p
-      → end ≡ CallEnd.Done → Represents processes (with_regs_of m p regs)
-      → Ends (sets_ticks (asker_of m p now) files it) most m files now p end processes new views views terms
+      → end ≡ CallEnd.Done → RepresentsProcesses processes (with_regs_of m p regs)
+      → EndsFileAttempt (sets_ticks (asker_of m p now) files it) most m files now p end processes new views views terms
   ticks-set regs same new_is is_end tied = record {
     effect = effect;
     does = goes-well (sets_ticks (asker_of m p now) files it) (asker_of m p now) files effect files.drives terms refl refl;
-    comes = (is_end, subst (λ (r : Regs). Represents processes (with_regs_of m p r)) same tied);
-    stands = inl (subst (λ s. StandsFor s views (files_kept p effect)) (sym new_is) (ticked-stands regs same));
+    comes = (is_end, subst (λ (r : Regs). RepresentsProcesses processes (with_regs_of m p r)) same tied);
+    stands = inl (subst (λ s. RepresentsFiles s views (files_kept p effect)) (sym new_is) (ticked-stands regs same));
     calls = called-more 0 (calls_of (sets_ticks (asker_of m p now) files it) most) views views (omega arith) (called-none views);
     drives = keeps-same (sets_ticks (asker_of m p now) files it) (asker_of m p now) files end views tt;
   }

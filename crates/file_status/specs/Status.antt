@@ -17,7 +17,7 @@ use Rattle.rbf_change.specs.Growth.{clusters_needed}
 use Rattle.rbf_entries.specs.Attributes.{attribute_calls}
 use Rattle.rbf_write.specs.Sizes.{size_calls}
 use Rattle.proc_model.specs.Records.{record_at}
-use Rattle.proc_state.specs.Tie.{Represents}
+use Rattle.proc_state.specs.Tie.{RepresentsProcesses}
 use Rattle.proc_state.specs.declared.state.ProcState.{ProcState}
 use Rattle.file_rules.specs.Attempts.{asker_of}
 use Rattle.file_rules.specs.Change.{sizes}
@@ -29,9 +29,9 @@ use Rattle.file_rules.specs.Write.{changes_file}
 use Rattle.file_rules.specs.declared.status.TheConstants.{SS_LOCK, SS_SIZE}
 use Rattle.file_laws.specs.Kinds.{AreKinds}
 use Rattle.file_state.specs.Attempt.{Standing, unrequested}
-use Rattle.file_state.specs.Ends.{Ends, EndsOrLacks}
-use Rattle.file_state.specs.Opened.{IsFileOf, IsPathOf}
-use Rattle.file_state.specs.Tie.{StandsFor}
+use Rattle.file_state.specs.Ends.{EndsFileAttempt, EndsOrLacks}
+use Rattle.file_state.specs.Opened.{IsOpenFileOf, IsPathOf}
+use Rattle.file_state.specs.Tie.{RepresentsFiles}
 use Rattle.file_state.specs.declared.state.FileState.{FileState}
 use Rattle.file_state.specs.declared.state.OpenFile.{OpenFile as KernelFile}
 
@@ -45,7 +45,7 @@ unlocked files p path =
     record files { io = with_call files.io p None; records = without_lock files.records path }
 
 -- a path on a file in the kernel is this path of the machine
-pub record IsOpen (files : Files) (opened : KernelFile) (it : OpenFile) : Type 0 where
+pub record RepresentsOpenFile (files : Files) (opened : KernelFile) (it : OpenFile) : Type 0 where
   pub path_is : it.opened.path ≡ opened.path
   pub desc_is : it.opened.desc ≡ opened.desc
   pub place_is : it.place ≡ opened.place
@@ -55,20 +55,21 @@ pub record IsOpen (files : Files) (opened : KernelFile) (it : OpenFile) : Type 0
 
 -- a call of a process on this path, at a time, ends as the step says, and calls the drive at most `most` times if it
 -- reaches the drive, from each state of the machine that the kernel's state represents
-abbrev pub EndsOn : KernelFile → (Asker → Files → OpenFile → FileStep) → (Asker → OpenFile → ℕ) → TimePacket → ℕ
+abbrev pub EndsPathCall : KernelFile → (Asker → Files → OpenFile → FileStep) → (Asker → OpenFile → ℕ) → TimePacket → ℕ
     → CallEnd → Standing → Standing → Type 0
-EndsOn opened step most now p end before after =
-    (m : Processes) (was : Files) (it : OpenFile) (terms : List TerminalState) → Represents before.processes m
-    → StandsFor before.files before.views was → IsOpen was opened it
-    → Ends (step (asker_of m p now) was it) (most (asker_of m p now) it) m was now p end after.processes after.files
+EndsPathCall opened step most now p end before after =
+    (m : Processes) (was : Files) (it : OpenFile) (terms : List TerminalState) → RepresentsProcesses before.processes m
+    → RepresentsFiles before.files before.views was → RepresentsOpenFile was opened it
+    → EndsFileAttempt (step (asker_of m p now) was it) (most (asker_of m p now) it) m was now p end after.processes
+    after.files
     before.views after.views terms
 
 -- the same once the files have changed so, or memory was wanting for its entry in the history
 abbrev pub SetsFrom : (Files → Files) → KernelFile → (Asker → Files → OpenFile → FileStep) → (Asker → OpenFile → ℕ)
     → TimePacket → ℕ → CallEnd → Standing → Standing → Type 0
 SetsFrom changed opened step most now p end before after =
-    (m : Processes) (was : Files) (it : OpenFile) (terms : List TerminalState) → Represents before.processes m
-    → StandsFor before.files before.views (changed was) → IsOpen was opened it
+    (m : Processes) (was : Files) (it : OpenFile) (terms : List TerminalState) → RepresentsProcesses before.processes m
+    → RepresentsFiles before.files before.views (changed was) → RepresentsOpenFile was opened it
     → EndsOrLacks (step (asker_of m p now) was it) (most (asker_of m p now) it) m was now p end after.processes
     after.files before.views after.views terms
 
@@ -85,8 +86,8 @@ SetsGranted opened step most now p end before after =
 -- A of a process names this file or directory
 pub record IsNamedInA (p : ℕ) (opened : KernelFile) (before : Standing) : Type 0 where
   pub path : IsPathOf before.files.io opened
-  pub file : (files : Files) → StandsFor before.files before.views files → AreKinds files
-      → IsFileOf before.files before.views files p (record_at before.processes.table p).regs.a opened
+  pub file : (files : Files) → RepresentsFiles before.files before.views files → AreKinds files
+      → IsOpenFileOf before.files before.views files p (record_at before.processes.table p).regs.a opened
 
 -- ---- under a lock
 
@@ -108,7 +109,7 @@ sizes_granted old lock asker files opened =
 -- memory was wanting for the entry of another size, and the state is as it was
 pub record EndsSized (old : ℕ) (lock : Held) (regs : Regs) (opened : KernelFile) (m : Processes) (p : ℕ)
     (state : FileState) (end : CallEnd) (processes : ProcState) (new : FileState) : Type 0 where
-  pub done : end ≢ NoMemory → (end ≡ Done) × Represents processes (with_regs_of m p regs)
+  pub done : end ≢ NoMemory → (end ≡ Done) × RepresentsProcesses processes (with_regs_of m p regs)
   pub entered : end ≢ NoMemory → new
       ≡ record state {
         io = with_call state.io p None;

@@ -5,7 +5,7 @@ ghost use Rattle.file_state.specs.Context.{InFileCall};
 ghost use Rattle.io_state.specs.Sound.{ReadsNoTerminal};
 ghost use Rattle.proc_model.specs.Records.{IsLiving};
 ghost use Rattle.proc_model.specs.Processes.{Processes, with_regs_of};
-ghost use Rattle.proc_state.specs.Tie.{Represents};
+ghost use Rattle.proc_state.specs.Tie.{RepresentsProcesses};
 ghost use Rattle.file_status.specs.Status.{uncalled};
 
 use file_state::machine::Machine;
@@ -29,8 +29,8 @@ pub(crate) fn refuse(files: &mut FileState, p: Pid, number: u8) -> CallEnd
 pub(crate) fn answer(machine: &mut Machine, by: Requester, regs: Regs) -> CallEnd
     requires { InFileCall by machine.old }
     ensures end { result ≡ CallEnd.Done }
-    ensures tied { (m : Processes) → Represents machine.old.processes m
-        → Represents machine.new.processes (with_regs_of m by.p.0 regs) }
+    ensures tied { (m : Processes) → RepresentsProcesses machine.old.processes m
+        → RepresentsProcesses machine.new.processes (with_regs_of m by.p.0 regs) }
     ensures files { machine.new.files ≡ uncalled machine.old.files by.p.0 }
     ensures lives { IsLiving machine.new.processes.table by.p.0 }
 {

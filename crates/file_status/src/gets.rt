@@ -11,9 +11,9 @@ ghost use Rattle.file_rules.specs.Status.{gets_size as gets_size_model, gets_end
 ghost use Rattle.file_drives.specs.Drives.{DriveView, drives_seen};
 ghost use Rattle.file_drives.specs.Mounted.{HasFileAt};
 ghost use Rattle.file_state.specs.Counted.{AttemptsWithin};
-ghost use Rattle.file_state.specs.Tie.{IsSound};
+ghost use Rattle.file_state.specs.Tie.{AreSoundFiles};
 ghost use Rattle.file_state.specs.declared.state.OpenFile.{OpenFile as KernelFile};
-ghost use Rattle.file_status.specs.Status.{EndsOn, IsNamedInA, gets_by_code, gets_options as gets_options_model, getting_calls, i_getstt_calls};
+ghost use Rattle.file_status.specs.Status.{EndsPathCall, IsNamedInA, gets_by_code, gets_options as gets_options_model, getting_calls, i_getstt_calls};
 
 use crate::ends::{answer, refuse};
 use crate::front::{descriptor_front, file_options, long_regs};
@@ -47,7 +47,7 @@ pub fn get_status(
     opened: &OpenFile,
 ) -> CallEnd
     requires calls { InFirstAttempt by machine.old }
-    requires sound { IsSound machine.old.files (drives_seen BlockDriver-box devices.old) }
+    requires sound { AreSoundFiles machine.old.files (drives_seen BlockDriver-box devices.old) }
     requires named { IsNamedInA by.p.0 opened.now
         (machine_seen BlockDriver-box machine.old devices.old) }
     ensures call { (now : TimePacket) (terms : List TerminalState)
@@ -69,9 +69,8 @@ fn get_status_of(
     requires calls { InFileCall by machine.old }
     requires there { HasFileAt machine.old.files.disks (drives_seen BlockDriver-box devices.old)
         opened.now.place }
-    ensures call { (now : TimePacket) → EndsOn opened.now gets_by_code getting_calls now by.p.0
-        result
-        (machine_seen BlockDriver-box machine.old devices.old)
+    ensures call { (now : TimePacket) → EndsPathCall opened.now gets_by_code getting_calls now
+        by.p.0 result (machine_seen BlockDriver-box machine.old devices.old)
         (machine_seen BlockDriver-box machine.new devices.new) }
     ensures kept { SameTerminals by machine.new.processes devices.old devices.new }
 {
@@ -91,7 +90,7 @@ fn get_status_of(
 fn get_options(machine: &mut Machine, by: Requester) -> CallEnd
     requires calls { InFileCall by machine.old }
     ensures call { (now : TimePacket) (opened : KernelFile) (views : List DriveView)
-        → EndsOn opened gets_options_model getting_calls now by.p.0 result
+        → EndsPathCall opened gets_options_model getting_calls now by.p.0 result
         (beside machine.old views) (beside machine.new views) }
     ensures lives { IsLiving machine.new.processes.table by.p.0 }
 {
@@ -117,7 +116,7 @@ fn get_size(
     requires there { HasFileAt machine.old.files.disks (drives_seen BlockDriver-box devices.old)
         opened.now.place }
     ensures call { (now : TimePacket)
-        → EndsOn opened.now gets_size_model getting_calls now by.p.0 result
+        → EndsPathCall opened.now gets_size_model getting_calls now by.p.0 result
         (machine_seen BlockDriver-box machine.old devices.old)
         (machine_seen BlockDriver-box machine.new devices.new) }
     ensures kept { SameTerminals by machine.new.processes devices.old devices.new }
@@ -139,7 +138,7 @@ fn get_end(
     requires there { HasFileAt machine.old.files.disks (drives_seen BlockDriver-box devices.old)
         opened.now.place }
     ensures call { (now : TimePacket)
-        → EndsOn opened.now gets_end_model getting_calls now by.p.0 result
+        → EndsPathCall opened.now gets_end_model getting_calls now by.p.0 result
         (machine_seen BlockDriver-box machine.old devices.old)
         (machine_seen BlockDriver-box machine.new devices.new) }
     ensures kept { SameTerminals by machine.new.processes devices.old devices.new }
@@ -166,7 +165,7 @@ fn get_descriptor(
     requires there { HasFileAt machine.old.files.disks (drives_seen BlockDriver-box devices.old)
         opened.now.place }
     ensures call { (now : TimePacket)
-        → EndsOn opened.now gets_descriptor_model getting_calls now by.p.0 result
+        → EndsPathCall opened.now gets_descriptor_model getting_calls now by.p.0 result
         (machine_seen BlockDriver-box machine.old devices.old)
         (machine_seen BlockDriver-box machine.new devices.new) }
     ensures kept { SameTerminals by machine.new.processes devices.old devices.new }

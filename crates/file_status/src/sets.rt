@@ -7,7 +7,7 @@ ghost use Rattle.proc_model.specs.Processes.{Processes, with_regs_of};
 ghost use Rattle.os9_base.specs.declared.registers.TimePacket.{TimePacket as Time};
 ghost use Rattle.os9_outer.specs.TerminalState.{TerminalState};
 ghost use Rattle.proc_model.specs.Records.{IsLiving};
-ghost use Rattle.proc_state.specs.Tie.{Represents};
+ghost use Rattle.proc_state.specs.Tie.{RepresentsProcesses};
 ghost use Rattle.io_model.specs.Modes.{can_write as can_write_model};
 ghost use Rattle.io_model.specs.declared.io_call.IoCall.TheVariants as Device;
 ghost use Rattle.lock_model.specs.Conflict.{conflicts};
@@ -16,11 +16,11 @@ ghost use Rattle.file_rules.specs.Locking.{is_for_update as is_for_update_model}
 ghost use Rattle.file_rules.specs.Status.{range_locked as range_locked_model, sets_attributes_of as sets_attributes_model, sets_lock as sets_lock_model, sets_size as sets_size_model, sets_ticks as sets_ticks_model, status_claim as status_claim_model};
 ghost use Rattle.file_drives.specs.Drives.{DriveView, drives_seen};
 ghost use Rattle.file_drives.specs.Mounted.{HasDataFileAt, HasFileAt};
-ghost use Rattle.file_state.specs.Asking.{IsGranted, MayAsk, TriesAgain};
+ghost use Rattle.file_state.specs.Asking.{MayBeGranted, MayAsk, TriesAgain};
 ghost use Rattle.file_state.specs.Lacks.{TriesWithin};
 ghost use Rattle.file_state.specs.Opened.{IsPathOf};
-ghost use Rattle.file_state.specs.Tie.{IsSound};
-ghost use Rattle.file_status.specs.Status.{EndsOn, EndsSized, IsNamedInA, SetsGranted, SetsOn, calls_by_code, granted_size_calls, i_setstt_calls, sets_by_code, setting_calls, sizes_granted, unlocked};
+ghost use Rattle.file_state.specs.Tie.{AreSoundFiles};
+ghost use Rattle.file_status.specs.Status.{EndsPathCall, EndsSized, IsNamedInA, SetsGranted, SetsOn, calls_by_code, granted_size_calls, i_setstt_calls, sets_by_code, setting_calls, sizes_granted, unlocked};
 
 use crate::ends::{answer, refuse};
 use crate::front::long_of;
@@ -64,7 +64,7 @@ pub fn set_status(
 ) -> CallEnd
     requires calls { InCall by machine.old.processes }
     requires again { TriesAgain Device.SetStt by.regs machine.old.files by.p.0 }
-    requires sound { IsSound machine.old.files (drives_seen BlockDriver-box devices.old) }
+    requires sound { AreSoundFiles machine.old.files (drives_seen BlockDriver-box devices.old) }
     requires named { IsNamedInA by.p.0 opened.now
         (machine_seen BlockDriver-box machine.old devices.old) }
     ensures call { (terms : List TerminalState)
@@ -191,7 +191,7 @@ fn size_granted(
     requires path { IsPathOf machine.old.files.io opened.now }
     requires file { HasDataFileAt machine.old.files.disks
         (drives_seen BlockDriver-box devices.old) opened.now.place }
-    requires granted { IsGranted machine.old.files.records.locks sizing.lock }
+    requires granted { MayBeGranted machine.old.files.records.locks sizing.lock }
     ensures call { SetsGranted opened.now (sizes_granted sizing.size_before sizing.lock)
         granted_size_calls by.time by.p.0 result
         (machine_seen BlockDriver-box machine.old devices.old)
@@ -217,7 +217,7 @@ fn enter_size(
     requires calls { InFileCall by machine.old }
     requires path { IsPathOf machine.old.files.io opened.now }
     requires free { conflicts machine.old.files.records.locks sizing.lock ≡ false }
-    ensures call { (m : Processes) → Represents machine.old.processes m → EndsSized
+    ensures call { (m : Processes) → RepresentsProcesses machine.old.processes m → EndsSized
         sizing.size_before sizing.lock by.regs opened.now m by.p.0 machine.old.files result
         machine.new.processes
         machine.new.files }
@@ -239,8 +239,8 @@ fn end_lock(machine: &mut Machine, by: Requester, opened: &OpenFile) -> CallEnd
     requires calls { InFileCall by machine.old }
     requires path { IsPathOf machine.old.files.io opened.now }
     ensures end { result ≡ CallEnd.Done }
-    ensures tied { (m : Processes) → Represents machine.old.processes m
-        → Represents machine.new.processes (with_regs_of m by.p.0 by.regs) }
+    ensures tied { (m : Processes) → RepresentsProcesses machine.old.processes m
+        → RepresentsProcesses machine.new.processes (with_regs_of m by.p.0 by.regs) }
     ensures files { machine.new.files ≡ unlocked machine.old.files by.p.0 opened.now.path.0 }
     ensures lives { IsLiving machine.new.processes.table by.p.0 }
 {
@@ -309,7 +309,7 @@ fn set_ticks(machine: &mut Machine, by: Requester, opened: &OpenFile) -> CallEnd
     requires calls { InFileCall by machine.old }
     requires path { IsPathOf machine.old.files.io opened.now }
     ensures call { (now : Time) (views : List DriveView)
-        → EndsOn opened.now sets_ticks_model (setting_calls SS_TICKS) now by.p.0 result
+        → EndsPathCall opened.now sets_ticks_model (setting_calls SS_TICKS) now by.p.0 result
         (beside machine.old views) (beside machine.new views) }
     ensures lives { IsLiving machine.new.processes.table by.p.0 }
 {
@@ -328,9 +328,8 @@ fn set_attributes(
     requires calls { InFileCall by machine.old }
     requires there { HasFileAt machine.old.files.disks (drives_seen BlockDriver-box devices.old)
         opened.now.place }
-    ensures call { EndsOn opened.now sets_attributes_model (setting_calls SS_ATTR) by.time by.p.0
-        result
-        (machine_seen BlockDriver-box machine.old devices.old)
+    ensures call { EndsPathCall opened.now sets_attributes_model (setting_calls SS_ATTR) by.time
+        by.p.0 result (machine_seen BlockDriver-box machine.old devices.old)
         (machine_seen BlockDriver-box machine.new devices.new) }
     ensures kept { SameTerminals by machine.new.processes devices.old devices.new }
 {

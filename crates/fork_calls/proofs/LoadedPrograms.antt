@@ -9,11 +9,11 @@ use Rattle.proc_model.specs.MemoryChanges.{linked, started}
 use Rattle.proc_model.specs.CallResult.{CallResult, refuses, changes}
 use Rattle.proc_model.specs.Processes.{Processes, with_memory}
 use Rattle.proc_model.specs.Program.{Program, most_pages, blocks_of_pages, start_regs, start_own, with_parameters}
-use Rattle.guest_memory.specs.Tie.{Represents as RepresentsMemory, Answers as AnswersMemory}
+use Rattle.guest_memory.specs.Tie.{RepresentsMemory, ReturnsMemoryResult as AnswersMemory}
 use Rattle.proc_state.specs.declared.state.ProcState.{ProcState}
-use Rattle.proc_state.specs.Tie.{Represents}
+use Rattle.proc_state.specs.Tie.{RepresentsProcesses}
 use Rattle.fork_calls.specs.declared.starting.Beginning.{Beginning}
-use Rattle.fork_calls.specs.Loading.{begun, loads_program, IsLoaded, IsNotLoaded}
+use Rattle.fork_calls.specs.Loading.{begun, loads_program, IsProgramLoaded, IsNotLoaded}
 
 -- bytes at the end of a range that is there from address 0 on
 pub end-fits : (cells : Cells) (all size len : ℕ) → FitsIn cells 0 all → size ≤ all → len ≤ size → FitsIn cells (size - len) len
@@ -25,7 +25,7 @@ end-fits cells all size len fits within short =
 
 module _ (m : Processes) (p : ℕ) (program : Program) (new : ProcState) where
   -- the data area would be too large
-  pub loaded-too_large : nat_lt most_pages program.pages ≡ true → Represents new m → IsNotLoaded m p program new E_MEMFUL
+  pub loaded-too_large : nat_lt most_pages program.pages ≡ true → RepresentsProcesses new m → IsNotLoaded m p program new E_MEMFUL
   loaded-too_large test stands = record {
     goes = λ next. ap (λ (b : Bool). refuses b E_MEMFUL (changes (started m.memory p program.entered.number (blocks_of_pages program.pages)) next)) test;
     stands = stands;
@@ -45,7 +45,7 @@ module _ (m : Processes) (p : ℕ) (program : Program) (new : ProcState) where
     -- there is no room
     pub loaded-refused : (fault : MemoryFault) → AnswersMemory {T = Unit {0}} (begun m.memory p program) m.memory
         (Err fault) new.memory → ((memory : MemoryState) → RepresentsMemory new.memory memory
-        → Represents new (with_memory m memory)) → IsNotLoaded m p program new (memory_error fault)
+        → RepresentsProcesses new (with_memory m memory)) → IsNotLoaded m p program new (memory_error fault)
     loaded-refused fault answers lift =
         let there = by_outcome (started m.memory p program.entered.number (blocks_of_pages program.pages)) answers in record {
           goes = λ next. by_start (Err fault) there.0 next;
@@ -61,8 +61,8 @@ module _ (m : Processes) (p : ℕ) (program : Program) (new : ProcState) where
     -- it is loaded
     pub loaded-ok : (start : Beginning) → AnswersMemory {T = Unit {0}} (begun m.memory p program) m.memory (Ok tt)
         new.memory → ((memory : MemoryState) → RepresentsMemory new.memory memory
-        → Represents new (with_memory m memory)) → start.regs ≡ start_regs program → start.own ≡ start_own program
-        → IsLoaded m p program new start
+        → RepresentsProcesses new (with_memory m memory)) → start.regs ≡ start_regs program → start.own ≡ start_own program
+        → IsProgramLoaded m p program new start
     loaded-ok start answers lift regs own =
         let there = by_outcome (started m.memory p program.entered.number (blocks_of_pages program.pages)) answers in record {
           memory = there.0;

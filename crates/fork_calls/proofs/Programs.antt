@@ -9,12 +9,12 @@ use Rattle.proc_model.specs.ModuleLinks.{Entered, entered_at}
 use Rattle.proc_model.specs.Program.{Program, program_kind, reads_program, name_at_x, is_unreadable, module_name, asks_for_program, area_pages}
 use Rattle.proc_model.specs.declared.program_name.ProgramName.{ProgramName}
 use Rattle.proc_model.specs.UserBytes.{user_bytes}
-use Rattle.guest_memory.specs.Tie.{IsSame as IsSameMemory}
+use Rattle.guest_memory.specs.Tie.{IsMemorySame as IsSameMemory}
 use Rattle.proc_state.specs.declared.state.ProcState.{ProcState}
-use Rattle.proc_state.specs.Tie.{Represents, IsSame}
+use Rattle.proc_state.specs.Tie.{RepresentsProcesses, AreProcessesSame}
 use Rattle.proc_state.proofs.UserBytes.{same-then}
 use Rattle.fork_calls.specs.declared.program.NamedProgram.{NamedProgram}
-use Rattle.fork_calls.specs.Naming.{finds_program, IsFound, IsUnfound, IsRead, IsUnread}
+use Rattle.fork_calls.specs.Naming.{finds_program, IsProgramFound, IsUnfound, IsProgramRead, IsUnread}
 
 -- ---- what is found
 
@@ -64,7 +64,8 @@ module _ (entries : List (Option ModuleEntry)) (kind : ℕ) where
         found-other test next = by_entry next ∙ ap (λ (b : Bool). refuses (not b) E_NEMOD (next name (record { number = number; entry = entry }))) (test entry entry_is)
 
         -- it is one
-        pub found-program : ((entry : ModuleEntry) → module_entry_at entries number ≡ Some entry → (entry.info.kind == program_kind) ≡ true) → IsFound entries kind (Some name) number (length name)
+        pub found-program : ((entry : ModuleEntry) → module_entry_at entries number ≡ Some entry
+            → (entry.info.kind == program_kind) ≡ true) → IsProgramFound entries kind (Some name) number (length name)
         found-program test = record {
           name = name;
           entry = entry;
@@ -118,10 +119,10 @@ module _ (m : Processes) (p : ℕ) where
         read-unfound number unfound next = by_program next ∙ unfound (found_next next bytes)
 
         -- there is one
-        pub read-found : (program : NamedProgram) (buffer : List ℕ) → IsFound m.memory.modules (regs_at m p).a
+        pub read-found : (program : NamedProgram) (buffer : List ℕ) → IsProgramFound m.memory.modules (regs_at m p).a
             (module_name name) program.id.0 program.count → ((entry : ModuleEntry) → module_entry_at m.memory.modules
             program.id.0 ≡ Some entry → program.pages ≡ area_pages entry (regs_at m p).b (length bytes))
-            → bytes ≡ take program.parameters buffer → IsRead m p program buffer
+            → bytes ≡ take program.parameters buffer → IsProgramRead m p program buffer
         read-found program buffer found pages front = record {
           entry = found.entry;
           is = found.is;
@@ -139,7 +140,7 @@ module _ (m : Processes) (p : ℕ) where
 
 -- a name was read in the memory of the processes
 module _ (old mid : ProcState) (one : IsSameMemory old.memory mid.memory) (table : mid.table ≡ old.table) (sched : mid.sched ≡ old.sched) (own : mid.own ≡ old.own) (tick : mid.tick ≡ old.tick) where
-  pub read-stands : (m : Processes) → Represents old m → Represents mid m
+  pub read-stands : (m : Processes) → RepresentsProcesses old m → RepresentsProcesses mid m
   read-stands m stands = record {
     memory = one.represents m.memory stands.memory;
     is =
@@ -154,7 +155,7 @@ module _ (old mid : ProcState) (one : IsSameMemory old.memory mid.memory) (table
   }
 
   -- and then bytes
-  pub read-same : (new : ProcState) → IsSame mid new → IsSame old new
+  pub read-same : (new : ProcState) → AreProcessesSame mid new → AreProcessesSame old new
   read-same new two = record {
     memory = same-then old.memory mid.memory new.memory one two.memory;
     table = two.table ∙ table;

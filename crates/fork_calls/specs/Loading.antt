@@ -13,7 +13,7 @@ use Rattle.proc_model.specs.Chain.{with_program}
 use Rattle.proc_model.specs.Processes.{Processes, with_own}
 use Rattle.proc_model.specs.Program.{Program, most_pages, blocks_of_pages, start_regs, start_own, with_parameters}
 use Rattle.proc_state.specs.declared.state.ProcState.{ProcState}
-use Rattle.proc_state.specs.Tie.{Represents}
+use Rattle.proc_state.specs.Tie.{RepresentsProcesses}
 use Rattle.fork_calls.specs.declared.starting.Beginning.{Beginning}
 
 -- the memory of a process that begins with a program: the parameters are stored and the module has one more link
@@ -29,17 +29,18 @@ loads_program m p program next =
     (changes (started m.memory p program.entered.number (blocks_of_pages program.pages)) next)
 
 -- a process has this beginning with a program, and a call goes on with its memory
-pub record IsLoaded (m : Processes) (p : ℕ) (program : Program) (new : ProcState) (start : Beginning) : Type 0 where
-  pub memory : MemoryState
-  pub goes : (next : MemoryState → CallResult) → loads_program m p program next ≡ next memory
-  pub stands : Represents new (with_program m p program memory)
-  pub regs : start.regs ≡ start_regs program
-  pub own : start.own ≡ start_own program
+pub record IsProgramLoaded (m : Processes) (p : ℕ) (program : Program) (new : ProcState) (start : Beginning) : Type 0
+  where
+    pub memory : MemoryState
+    pub goes : (next : MemoryState → CallResult) → loads_program m p program next ≡ next memory
+    pub stands : RepresentsProcesses new (with_program m p program memory)
+    pub regs : start.regs ≡ start_regs program
+    pub own : start.own ≡ start_own program
 
 -- a call that cannot load the program is refused with this number, and nothing has changed
 pub record IsNotLoaded (m : Processes) (p : ℕ) (program : Program) (new : ProcState) (number : ℕ) : Type 0 where
   pub goes : (next : MemoryState → CallResult) → loads_program m p program next ≡ refused number
-  pub stands : Represents new m
+  pub stands : RepresentsProcesses new m
 
 -- the state with a child of a process that has this beginning, and its parent's user and priority
 abbrev pub with_new_child : Processes → ℕ → ℕ → Beginning → Processes

@@ -18,7 +18,7 @@ finds_program entries kind read next =
     (λ found. refuses (not (found.entry.info.kind == program_kind)) E_NEMOD (next name found))))
 
 -- a call goes on with this program, whose name has this length
-pub record IsFound (entries : List (Option ModuleEntry)) (kind : ℕ) (read : Option (List ℕ)) (number count : ℕ)
+pub record IsProgramFound (entries : List (Option ModuleEntry)) (kind : ℕ) (read : Option (List ℕ)) (number count : ℕ)
     : Type 0 where
   pub name : List ℕ
   pub entry : ModuleEntry
@@ -42,7 +42,7 @@ meant program entry bytes = record {
 }
 
 -- a call goes on with this program, whose parameters are at the front of a buffer
-pub record IsRead (m : Processes) (p : ℕ) (program : NamedProgram) (buffer : List ℕ) : Type 0 where
+pub record IsProgramRead (m : Processes) (p : ℕ) (program : NamedProgram) (buffer : List ℕ) : Type 0 where
   pub entry : ModuleEntry
   pub is : module_entry_at m.memory.modules program.id.0 ≡ Some entry
   pub goes : (next : Program → CallResult)

@@ -9,7 +9,7 @@ ghost use Rattle.proc_model.specs.Signals.{with_intercept};
 ghost use Rattle.proc_model.specs.Chain as model;
 ghost use Rattle.proc_model.specs.Processes.{Processes, own_at, with_records};
 ghost use Rattle.proc_model.specs.ModuleLinks.{without_primary_link};
-ghost use Rattle.proc_state.specs.Tie.{Represents, Answers, Comes};
+ghost use Rattle.proc_state.specs.Tie.{RepresentsProcesses, ReturnsDoneOrRefused, ReturnsCallEnd};
 ghost use Rattle.fork_calls.specs.Chaining.{begun_so};
 ghost use Rattle.fork_calls.specs.Naming.{meant};
 ghost use Rattle.fork_calls.specs.Starting.{starts_anew};
@@ -36,8 +36,8 @@ use proc_state::state::ProcState;
 /// own data area count as free. Nothing has changed then.
 pub fn f_chain(s: &mut ProcState, p: Pid) -> CallEnd
     requires lives { IsLiving s.old.table p.0 }
-    ensures call { (m : Processes) → Represents s.old m
-        → Comes m p.0 (model.f_chain m p.0) result s.new }
+    ensures call { (m : Processes) → RepresentsProcesses s.old m
+        → ReturnsCallEnd m p.0 (model.f_chain m p.0) result s.new }
     ensures lives { IsLiving s.new.table p.0 }
 {
     call_end(chain(s, p))
@@ -45,8 +45,8 @@ pub fn f_chain(s: &mut ProcState, p: Pid) -> CallEnd
 
 fn chain(s: &mut ProcState, p: Pid) -> Result<(), u8>
     requires lives { IsLiving s.old.table p.0 }
-    ensures call { (m : Processes) → Represents s.old m
-        → Answers m (model.f_chain m p.0) result s.new }
+    ensures call { (m : Processes) → RepresentsProcesses s.old m
+        → ReturnsDoneOrRefused m (model.f_chain m p.0) result s.new }
     ensures lives { IsLiving s.new.table p.0 }
 {
     let program = read_program(s, p)?;
@@ -63,9 +63,9 @@ fn chain(s: &mut ProcState, p: Pid) -> Result<(), u8>
 pub fn start_anew(s: &mut ProcState, p: Pid, program: NamedProgram) -> Result<(), u8>
     requires lives { IsLiving s.old.table p.0 }
     requires entered { IsSome (module_entry_at (modules_of s.old.memory) program.id.0) }
-    ensures call { (m : Processes) (entry : ModuleEntry) → Represents s.old m
+    ensures call { (m : Processes) (entry : ModuleEntry) → RepresentsProcesses s.old m
         → module_entry_at m.memory.modules program.id.0 ≡ Some entry
-        → Answers m (starts_anew m p.0 (meant program entry
+        → ReturnsDoneOrRefused m (starts_anew m p.0 (meant program entry
         (take program.parameters s.old.buffer.items))) result s.new }
     ensures lives { IsLiving s.new.table p.0 }
 {
@@ -81,8 +81,8 @@ fn begin_anew(s: &mut ProcState, p: Pid, start: Beginning)
     requires entered { ForSome start.own.primary
         (λ id. IsSome (module_entry_at (modules_of s.old.memory) id.0)) }
     requires until { start.own.until ≡ None }
-    ensures tied { (m : Processes) → Represents s.old m
-        → Represents s.new (without_primary_link (begun_so m p.0 start) (own_at m p.0)) }
+    ensures tied { (m : Processes) → RepresentsProcesses s.old m
+        → RepresentsProcesses s.new (without_primary_link (begun_so m p.0 start) (own_at m p.0)) }
     ensures lives { IsLiving s.new.table p.0 }
 {
     let old = s.own(p);
@@ -94,7 +94,7 @@ fn begin_anew(s: &mut ProcState, p: Pid, start: Beginning)
 /// The record of a process gets these registers, and has no intercept any more.
 fn renew_record(s: &mut ProcState, p: Pid, regs: Regs)
     requires lives { IsLiving s.old.table p.0 }
-    ensures tied { (m : Processes) → Represents s.old m → Represents s.new
+    ensures tied { (m : Processes) → RepresentsProcesses s.old m → RepresentsProcesses s.new
         (with_records m (with_intercept (with_regs m.records p.0 regs) p.0 None)) }
     ensures lives { IsLiving s.new.table p.0 }
     ensures modules { modules_of s.new.memory ≡ modules_of s.old.memory }

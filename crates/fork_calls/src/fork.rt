@@ -8,7 +8,7 @@ ghost use Rattle.proc_model.specs.Records.{IsLiving, free_process};
 ghost use Rattle.proc_model.specs.Fork as model;
 ghost use Rattle.proc_model.specs.Processes.{Processes};
 ghost use Rattle.proc_model.specs.Program.{Program};
-ghost use Rattle.proc_state.specs.Tie.{Represents, Answers, Comes};
+ghost use Rattle.proc_state.specs.Tie.{RepresentsProcesses, ReturnsDoneOrRefused, ReturnsCallEnd};
 ghost use Rattle.fork_calls.specs.Loading.{with_new_child};
 ghost use Rattle.fork_calls.specs.Naming.{meant};
 ghost use Rattle.fork_calls.specs.Starting.{starts_child};
@@ -36,8 +36,8 @@ use proc_state::state::ProcState;
 /// as in [`load_program`]. Nothing has changed then.
 pub fn f_fork(s: &mut ProcState, p: Pid) -> CallEnd
     requires lives { IsLiving s.old.table p.0 }
-    ensures call { (m : Processes) → Represents s.old m
-        → Comes m p.0 (model.f_fork m p.0) result s.new }
+    ensures call { (m : Processes) → RepresentsProcesses s.old m
+        → ReturnsCallEnd m p.0 (model.f_fork m p.0) result s.new }
     ensures lives { IsLiving s.new.table p.0 }
 {
     call_end(fork(s, p))
@@ -45,8 +45,8 @@ pub fn f_fork(s: &mut ProcState, p: Pid) -> CallEnd
 
 fn fork(s: &mut ProcState, p: Pid) -> Result<(), u8>
     requires lives { IsLiving s.old.table p.0 }
-    ensures call { (m : Processes) → Represents s.old m
-        → Answers m (model.f_fork m p.0) result s.new }
+    ensures call { (m : Processes) → RepresentsProcesses s.old m
+        → ReturnsDoneOrRefused m (model.f_fork m p.0) result s.new }
     ensures lives { IsLiving s.new.table p.0 }
 {
     let program = read_program(s, p)?;
@@ -63,9 +63,9 @@ fn fork(s: &mut ProcState, p: Pid) -> Result<(), u8>
 pub fn start_child(s: &mut ProcState, p: Pid, program: NamedProgram) -> Result<(), u8>
     requires lives { IsLiving s.old.table p.0 }
     requires entered { IsSome (module_entry_at (modules_of s.old.memory) program.id.0) }
-    ensures call { (m : Processes) (entry : ModuleEntry) → Represents s.old m
+    ensures call { (m : Processes) (entry : ModuleEntry) → RepresentsProcesses s.old m
         → module_entry_at m.memory.modules program.id.0 ≡ Some entry
-        → Answers m (starts_child m p.0 (meant program entry
+        → ReturnsDoneOrRefused m (starts_child m p.0 (meant program entry
         (take program.parameters s.old.buffer.items))) result s.new }
     ensures lives { IsLiving s.new.table p.0 }
 {
@@ -86,8 +86,8 @@ fn add_child(s: &mut ProcState, p: Pid, child: Pid, start: Beginning)
     requires entered { ForSome start.own.primary
         (λ id. IsSome (module_entry_at (modules_of s.old.memory) id.0)) }
     requires until { start.own.until ≡ None }
-    ensures tied { (m : Processes) → Represents s.old m
-        → Represents s.new (with_new_child m p.0 child.0 start) }
+    ensures tied { (m : Processes) → RepresentsProcesses s.old m
+        → RepresentsProcesses s.new (with_new_child m p.0 child.0 start) }
     ensures lives { IsLiving s.new.table p.0 }
 {
     let user = s.table.user(p);

@@ -2,12 +2,12 @@
 
 ghost use Rattle.std.specs.Prelude.{◌≡◌, ℕ, ◌*◌, ◌<◌, ◌≤◌, None, Some, is_some, IsSome, IfOk, MatchResult, length, take};
 ghost use Rattle.std.specs.Option.{ForSome};
-ghost use Rattle.guest_memory.specs.Tie.{Represents as RepresentsMemory, Answers as AnswersMemory, modules_of};
+ghost use Rattle.guest_memory.specs.Tie.{RepresentsMemory, ReturnsMemoryResult as AnswersMemory, modules_of};
 ghost use Rattle.proc_model.specs.Memory.{MemoryState};
 ghost use Rattle.proc_model.specs.ModuleList.{ModuleEntry, module_entry_at};
 ghost use Rattle.proc_model.specs.Processes.{Processes};
-ghost use Rattle.proc_state.specs.Tie.{Represents};
-ghost use Rattle.fork_calls.specs.Loading.{IsLoaded, IsNotLoaded, begun};
+ghost use Rattle.proc_state.specs.Tie.{RepresentsProcesses};
+ghost use Rattle.fork_calls.specs.Loading.{IsProgramLoaded, IsNotLoaded, begun};
 ghost use Rattle.fork_calls.specs.Naming.{meant};
 
 use crate::program::NamedProgram;
@@ -32,10 +32,11 @@ use proc_state::state::ProcState;
 pub fn load_program(s: &mut ProcState, p: Pid, program: NamedProgram) -> Result<Beginning, u8>
     requires process { p.0 < 33 }
     requires entered { IsSome (module_entry_at (modules_of s.old.memory) program.id.0) }
-    ensures loaded { (m : Processes) (entry : ModuleEntry) → Represents s.old m
-        → module_entry_at m.memory.modules program.id.0 ≡ Some entry → MatchResult result
-        (IsLoaded m p.0 (meant program entry (take program.parameters s.old.buffer.items)) s.new)
-        (IsNotLoaded m p.0 (meant program entry (take program.parameters s.old.buffer.items))
+    ensures loaded { (m : Processes) (entry : ModuleEntry) → RepresentsProcesses s.old m
+        → module_entry_at m.memory.modules program.id.0 ≡ Some entry
+        → MatchResult result
+        (IsProgramLoaded m p.0 (meant program entry (take program.parameters s.old.buffer.items))
+        s.new) (IsNotLoaded m p.0 (meant program entry (take program.parameters s.old.buffer.items))
         s.new) }
     ensures entered { IfOk result (λ start. ForSome start.own.primary
         (λ id. IsSome (module_entry_at (modules_of s.new.memory) id.0))) }

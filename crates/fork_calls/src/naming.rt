@@ -1,12 +1,12 @@
 //! The names of programs, and what they name.
 
 ghost use Rattle.std.specs.Prelude.{◌≡◌, ℕ, ◌*◌, ◌<◌, ◌≤◌, IsSome, IfOk, MatchResult};
-ghost use Rattle.guest_memory.specs.Tie.{Represents, IsSame, modules_of, cells_of, seen_cells};
+ghost use Rattle.guest_memory.specs.Tie.{RepresentsMemory, IsMemorySame, modules_of, cells_of, seen_cells};
 ghost use Rattle.os9_base.specs.Name.{is_name_character as is_name_character_model};
 ghost use Rattle.proc_model.specs.Memory.{MemoryState};
 ghost use Rattle.proc_model.specs.ModuleList.{ModuleEntry, module_entry_at};
 ghost use Rattle.proc_model.specs.Program.{program_name, name_of_run as name_of_run_model, ends_in_slash as ends_in_slash_model, asks_for_program as asks_for_program_model, area_pages as area_pages_model};
-ghost use Rattle.fork_calls.specs.Naming.{IsFound, IsUnfound};
+ghost use Rattle.fork_calls.specs.Naming.{IsProgramFound, IsUnfound};
 
 use guest_memory::memory::Memory;
 use os9_base::errors::{E_BNAM, E_MNF, E_NEMOD};
@@ -26,9 +26,9 @@ const ANY_PROGRAM: u8 = 0x10;
 /// F$Chain): at most 30 bytes of a run of name characters, and the byte after a `/` that ends it.
 pub fn read_name(memory: &mut Memory, p: Pid, at: u16) -> ProgramName
     requires { p.0 < 33 }
-    ensures name { (m : MemoryState) → Represents memory.old m
+    ensures name { (m : MemoryState) → RepresentsMemory memory.old m
         → result ≡ program_name (seen_cells m p.0) at }
-    ensures same { IsSame memory.old memory.new }
+    ensures same { IsMemorySame memory.old memory.new }
 {
     let mut run = [0; 30];
     let Some(count) = memory.name_run(p, at, &mut run) else {
@@ -79,8 +79,8 @@ fn ends_in_slash(bytes: &[u8]) -> bool
 /// E$NEMod if the call does not ask for a program, else E$BNam if there is no name, else E$MNF if
 /// no such module is entered, else E$NEMod if the module is not a program in 6809 code.
 pub fn find_program(memory: &Memory, kind: u8, name: Option<Name>) -> Result<(ModId, u8), u8>
-    ensures found { (m : MemoryState) → Represents memory.now m
-        → MatchResult result (λ found. IsFound m.modules kind name found.0.0 found.1)
+    ensures found { (m : MemoryState) → RepresentsMemory memory.now m
+        → MatchResult result (λ found. IsProgramFound m.modules kind name found.0.0 found.1)
         (IsUnfound m.modules kind name) }
     ensures entered { IfOk result
         (λ found. IsSome (module_entry_at (modules_of memory.now) found.0.0)) }

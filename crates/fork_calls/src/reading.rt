@@ -5,8 +5,8 @@ ghost use Rattle.guest_memory.specs.Tie.{modules_of};
 ghost use Rattle.proc_model.specs.ModuleList.{module_entry_at};
 ghost use Rattle.proc_model.specs.Records.{IsLiving};
 ghost use Rattle.proc_model.specs.Processes.{Processes};
-ghost use Rattle.proc_state.specs.Tie.{Represents, IsSame};
-ghost use Rattle.fork_calls.specs.Naming.{IsRead, IsUnread};
+ghost use Rattle.proc_state.specs.Tie.{RepresentsProcesses, AreProcessesSame};
+ghost use Rattle.fork_calls.specs.Naming.{IsProgramRead, IsUnread};
 
 use crate::naming::{area_pages, find_program, read_name};
 use crate::program::NamedProgram;
@@ -26,12 +26,12 @@ use proc_state::state::ProcState;
 /// code.
 pub fn read_program(s: &mut ProcState, p: Pid) -> Result<NamedProgram, u8>
     requires lives { IsLiving s.old.table p.0 }
-    ensures read { (m : Processes) → Represents s.old m
-        → MatchResult result (λ program. IsRead m p.0 program s.new.buffer.items)
+    ensures read { (m : Processes) → RepresentsProcesses s.old m
+        → MatchResult result (λ program. IsProgramRead m p.0 program s.new.buffer.items)
         (IsUnread m p.0) }
     ensures entered { IfOk result
         (λ program. IsSome (module_entry_at (modules_of s.new.memory) program.id.0)) }
-    ensures same { IsSame s.old s.new }
+    ensures same { AreProcessesSame s.old s.new }
 {
     let regs = s.regs(p);
     let name = read_name(&mut s.memory, p, regs.x);

@@ -1,7 +1,7 @@
 //! What a process begins with.
 
 ghost use Rattle.std.specs.Prelude.{◌≡◌, ℕ, ◌+◌, ◌*◌, ◌<◌, ◌≤◌, None, Some, IsSome, List, length};
-ghost use Rattle.guest_memory.specs.Tie.{Represents, modules_of};
+ghost use Rattle.guest_memory.specs.Tie.{RepresentsMemory, modules_of};
 ghost use Rattle.proc_model.specs.Memory.{MemoryState};
 ghost use Rattle.proc_model.specs.ModuleList.{ModuleEntry, module_entry_at};
 ghost use Rattle.proc_model.specs.Program as model;
@@ -27,11 +27,11 @@ pub fn beginning_of(memory: &Memory, program: NamedProgram) -> Beginning
     requires entered { IsSome (module_entry_at (modules_of memory.now) program.id.0) }
     requires most { program.pages ≤ MOST_PAGES }
     ensures regs { (m : MemoryState) (entry : ModuleEntry) (bytes : List ℕ)
-        → Represents memory.now m → module_entry_at m.modules program.id.0 ≡ Some entry
+        → RepresentsMemory memory.now m → module_entry_at m.modules program.id.0 ≡ Some entry
         → length bytes ≡ program.parameters
         → result.regs ≡ model.start_regs (meant program entry bytes) }
     ensures own { (m : MemoryState) (entry : ModuleEntry) (bytes : List ℕ)
-        → Represents memory.now m → module_entry_at m.modules program.id.0 ≡ Some entry
+        → RepresentsMemory memory.now m → module_entry_at m.modules program.id.0 ≡ Some entry
         → result.own ≡ model.start_own (meant program entry bytes) }
     ensures primary { result.own.primary ≡ Some program.id }
     ensures until { result.own.until ≡ None }

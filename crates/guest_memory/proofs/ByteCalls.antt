@@ -9,13 +9,13 @@ use Rattle.proc_model.specs.MemoryChanges.{writes_from, stored}
 use Rattle.proc_model.specs.ModuleList.{ModuleEntry}
 use Rattle.proc_model.specs.Slots.{Slots, no_slots}
 use Rattle.guest_memory.specs.Memory.{RepresentMemory}
-use Rattle.guest_memory.specs.Sound.{IsSound}
+use Rattle.guest_memory.specs.Sound.{IsSoundMemory}
 use Rattle.guest_memory.proofs.Keeping.{map_of}
 use Rattle.guest_memory.proofs.Writing.{write-from, named-from, IsSound-written, represent-written}
 use Rattle.guest_memory.proofs.MapCalls.{is_map_of}
 
 module _ (pool after : Blocks) (maps : List (Slots BlockId)) (entries : List (Option ModuleEntry))
-    (sound : IsSound pool maps entries) (process : ℕ) (within : process < 33) (old seen now : Slots BlockId)
+    (sound : IsSoundMemory pool maps entries) (process : ℕ) (within : process < 33) (old seen now : Slots BlockId)
     (at : old ≡ get_or maps process old) (seen_is : seen ≡ old) (now_is : now ≡ seen) (before : Blocks)
     (before_is : before ≡ pool) (beyond : SameBeyond seen before after) where
   abbrev slots : Slots BlockId
@@ -27,7 +27,7 @@ module _ (pool after : Blocks) (maps : List (Slots BlockId)) (entries : List (Op
   beyond_is : SameBeyond slots pool after
   beyond_is = subst (λ (p : Blocks). SameBeyond slots p after) before_is (subst (λ (s : Slots BlockId). SameBeyond s before after) map_is beyond)
 
-  pub sound-store : IsSound after maps entries
+  pub sound-store : IsSoundMemory after maps entries
   sound-store = IsSound-written pool after maps entries sound (beyond_is.shape sound.shape) beyond_is.counts
 
   pub tied-store : (address : ℕ) (bytes : List ℕ) → FitsIn (map_cells (get_or maps process no_slots) pool) address

@@ -8,7 +8,7 @@ use Rattle.block_pool.specs.Blocks.{Blocks, IsLive, reference_count, pool_after_
 use Rattle.block_map.specs.TakenBlocks.{pool_after_sharing, pool_after_giving}
 use Rattle.block_map.proofs.Places.{at, same_id}
 use Rattle.proc_model.specs.declared.group.BlockId.{BlockId}
-use Rattle.proc_model.specs.Slots.{Slots, block_at, group_of, blocks_in, filled_places, put_places, BeginsAt}
+use Rattle.proc_model.specs.Slots.{Slots, block_at, group_of, blocks_in, filled_places, put_places, HasGroupAt}
 use Rattle.guest_memory.specs.Gains.{times_in, GainsBlocks}
 use Rattle.guest_memory.specs.References.{times, Has}
 use Rattle.guest_memory.specs.Renaming.{RepresentObjects, numbered_map}
@@ -188,8 +188,8 @@ block_of_number slots slot block is = let found = go slots.places slot is in rec
     go (place ∷ places) (suc slot) is = go places slot is
 
 -- a group stands still where its slots stay
-pub BeginsAt-kept : (old new : Slots BlockId) (group : List ℕ) (first : ℕ) → BeginsAt (numbered_map old) group first → group_of new first ≡ group_of old first
-    → ((k : ℕ) (id : BlockId) → k < length group → block_at old (first + k) ≡ Some id → id.0 ≡ get_or group k 0 → block_at new (first + k) ≡ Some id) → BeginsAt (numbered_map new) group first
+pub BeginsAt-kept : (old new : Slots BlockId) (group : List ℕ) (first : ℕ) → HasGroupAt (numbered_map old) group first → group_of new first ≡ group_of old first
+    → ((k : ℕ) (id : BlockId) → k < length group → block_at old (first + k) ≡ Some id → id.0 ≡ get_or group k 0 → block_at new (first + k) ≡ Some id) → HasGroupAt (numbered_map new) group first
 BeginsAt-kept old new group first begins begins_still stays = record {
   length_is = begins_still ∙ begins.length_is;
   stands = λ k within.

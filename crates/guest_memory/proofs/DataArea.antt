@@ -16,12 +16,12 @@ use Rattle.proc_model.specs.Memory.{MemoryState, map_at, with_map, free_blocks, 
 use Rattle.proc_model.specs.MemoryChanges.{grown, cut, cleared, map_cut, new_numbers, with_new_objects}
 use Rattle.proc_model.specs.ModuleList.{ModuleEntry, module_entry_at}
 use Rattle.proc_model.specs.Objects.{zero_object}
-use Rattle.proc_model.specs.Slots.{Slots, IsMap, IsFreeRun, no_slots, block_at, group_of, blocks_in, blocks_between, filled_places, is_free_run, with_low, cut_low_to, BeginsAt}
+use Rattle.proc_model.specs.Slots.{Slots, IsMap, IsFreeRun, no_slots, block_at, group_of, blocks_in, blocks_between, filled_places, is_free_run, with_low, cut_low_to, HasGroupAt}
 use Rattle.guest_memory.specs.Gains.{times_in, GainsBlocks}
 use Rattle.guest_memory.specs.Memory.{memory_of, RepresentMemory}
 use Rattle.guest_memory.specs.References.{times, mapped_blocks}
 use Rattle.guest_memory.specs.Renaming.{RepresentObjects, renamed_map, renamed_modules, numbered_map}
-use Rattle.guest_memory.specs.Sound.{IsHeld, IsSound}
+use Rattle.guest_memory.specs.Sound.{IsSoundMap, IsSoundMemory}
 use Rattle.guest_memory.proofs.Times.{times-at, times-one_map, named_by}
 use Rattle.guest_memory.proofs.HeldGroups.{HasBlock}
 use Rattle.guest_memory.proofs.Keeping.{map_of, held_at, counted_parts, names_live, group_live, counted_twice, low_ungrouped, IsSound-map}
@@ -35,7 +35,7 @@ use Rattle.guest_memory.proofs.Changes.{count_of-given_all, length-given_all, re
 
 -- what other blocks represent stays
 module _ (pool after : Blocks) (maps : List (Slots BlockId)) (entries : List (Option ModuleEntry))
-    (sound : IsSound pool maps entries) (number : ℕ → ℕ) (objects contents : List (List ℕ)) (ids : List BlockId)
+    (sound : IsSoundMemory pool maps entries) (number : ℕ → ℕ) (objects contents : List (List ℕ)) (ids : List BlockId)
     (gains : GainsBlocks pool ids contents after) where
   -- the numbers after the new blocks have the next ones
   abbrev pub later : ℕ → ℕ
@@ -56,12 +56,12 @@ module _ (pool after : Blocks) (maps : List (Slots BlockId)) (entries : List (Op
   pub later-new : map (λ (id : BlockId). later id.0) ids ≡ range_with_len (length objects) (length ids)
   later-new = map-numbered ids (length objects) number gains.different
 
-module _ (pool : Blocks) (maps : List (Slots BlockId)) (entries : List (Option ModuleEntry)) (sound : IsSound pool maps entries) (process : ℕ) (within : process < 33) where
+module _ (pool : Blocks) (maps : List (Slots BlockId)) (entries : List (Option ModuleEntry)) (sound : IsSoundMemory pool maps entries) (process : ℕ) (within : process < 33) where
   -- the map of the process
   abbrev slots : Slots BlockId
   slots = map_of pool maps entries sound process
 
-  held : IsHeld pool entries slots
+  held : IsSoundMap pool entries slots
   held = held_at pool maps entries sound process within
 
   in_maps : process < length maps
@@ -69,7 +69,8 @@ module _ (pool : Blocks) (maps : List (Slots BlockId)) (entries : List (Option M
 
   -- ---- the map is cleared
 
-  pub IsSound-cleared : (after : Blocks) → after ≡ pool_after_giving pool (blocks_in slots.places) → IsPool after → IsMap {Block = BlockId} no_slots → IsSound after (set maps process no_slots) entries
+  pub IsSound-cleared : (after : Blocks) → after ≡ pool_after_giving pool (blocks_in slots.places) → IsPool after
+      → IsMap {Block = BlockId} no_slots → IsSoundMemory after (set maps process no_slots) entries
   IsSound-cleared after given shape empty =
       let counts = λ (block : ℕ). ap (λ (p : Blocks). reference_count p block) given ∙ count_of-given_all pool (blocks_in slots.places) block in
       let less = λ (block : ℕ). times_le block in
@@ -122,7 +123,7 @@ module _ (pool : Blocks) (maps : List (Slots BlockId)) (entries : List (Option M
           | inr a ↦ a.1
         ]
 
-    pub IsSound-cut : IsPool after → IsMap (cut_low_to slots count) → NamesLiveBlocks (cut_low_to slots count) after → IsSound after (set maps process (cut_low_to slots count)) entries
+    pub IsSound-cut : IsPool after → IsMap (cut_low_to slots count) → NamesLiveBlocks (cut_low_to slots count) after → IsSoundMemory after (set maps process (cut_low_to slots count)) entries
     IsSound-cut shape map_is live =
         IsSound-map pool maps entries sound after process within (cut_low_to slots count) shape
         (λ block. omega (arith, counts_cut block, times-cleared slots.places count (slots.low - count) block, counted_parts pool maps entries sound block, times-one_map block maps process))
@@ -263,7 +264,7 @@ module _ (pool : Blocks) (maps : List (Slots BlockId)) (entries : List (Option M
 
     grown_grouped : (n : ℕ) (entry : ModuleEntry) → module_entry_at entries n ≡ Some entry
         → (slot k : ℕ) (id : BlockId) → block_at (with_low slots ids) slot ≡ Some id → k < length entry.group
-        → id.0 ≡ get_or entry.group k 0 → (k ≤ slot) × BeginsAt (numbered_map (with_low slots ids)) entry.group
+        → id.0 ≡ get_or entry.group k 0 → (k ≤ slot) × HasGroupAt (numbered_map (with_low slots ids)) entry.group
         (slot - k)
     grown_grouped n entry is slot k id named inside same =
         elim (grown_slot slot id named) [
@@ -276,9 +277,9 @@ module _ (pool : Blocks) (maps : List (Slots BlockId)) (entries : List (Option M
               absurd (omega (arith, free.1, ap (λ (b : BlockId). reference_count pool b.0) place.1, ap (reference_count pool) same, group_live pool maps entries sound n entry is k inside))
         ]
 
-    pub IsSound-grown : IsMap new → IsSound after (set maps process new) entries
+    pub IsSound-grown : IsMap new → IsSoundMemory after (set maps process new) entries
     IsSound-grown map_is =
-        subst (λ (s : Slots BlockId). IsSound after (set maps process s) entries) (sym gained.low)
+        subst (λ (s : Slots BlockId). IsSoundMemory after (set maps process s) entries) (sym gained.low)
         (IsSound-map pool maps entries sound after process within (with_low slots ids) (IsPool-takes pool after ids gained.taken sound.shape)
         (λ block. omega (
           arith,

@@ -18,7 +18,7 @@ use Rattle.proc_model.proofs.ModuleListLaws.{entry_at-with_entry_same, entry_at-
 use Rattle.guest_memory.specs.Memory.{memory_of, RepresentMemory}
 use Rattle.guest_memory.specs.References.{times, Has}
 use Rattle.guest_memory.specs.Renaming.{RepresentObjects, renamed_entry, renamed_modules}
-use Rattle.guest_memory.specs.Sound.{IsGrouped, AreGrouped, IsSound}
+use Rattle.guest_memory.specs.Sound.{IsGrouped, AreGrouped, IsSoundMemory}
 use Rattle.guest_memory.proofs.Times.{times-where, times-at}
 use Rattle.guest_memory.proofs.HeldGroups.{grouped_blocks, HasGroup, HasBlock, pointwise-self, pointwise-same, times-group, times-grouped, times-ungrouped, times-same}
 use Rattle.guest_memory.proofs.Keeping.{counted_parts, group_live, IsSound-entries}
@@ -194,10 +194,10 @@ module _ (entries : List (Option ModuleEntry)) (group : List ℕ) where
 -- ---- links
 
 module _ (pool : Blocks) (maps : List (Slots BlockId)) (entries : List (Option ModuleEntry))
-    (sound : IsSound pool maps entries) (place : ℕ) (entry : ModuleEntry) (is : module_entry_at entries place ≡ Some
+    (sound : IsSoundMemory pool maps entries) (place : ℕ) (entry : ModuleEntry) (is : module_entry_at entries place ≡ Some
     entry) where
   -- an entry of the same group takes the place
-  pub IsSound-replaced : (new : ModuleEntry) → new.group ≡ entry.group → new.info ≡ entry.info → IsSound pool maps (with_module_entry entries place new)
+  pub IsSound-replaced : (new : ModuleEntry) → new.group ≡ entry.group → new.info ≡ entry.info → IsSoundMemory pool maps (with_module_entry entries place new)
   IsSound-replaced new group_is info_is =
       let later = with_module_entry entries place new in
       let kept = kept-replaced entries place entry new is group_is info_is in
@@ -236,15 +236,15 @@ module _ (pool : Blocks) (maps : List (Slots BlockId)) (entries : List (Option M
   pub at_less : module_entry_at (with_unlinked entries place entry) place ≡ Some (entry_unlinked entry)
   at_less = entry_at-with_entry_same entries place (entry_unlinked entry) (entry_within entries place entry is)
 
-  pub IsSound-less : IsSound pool maps (with_unlinked entries place entry)
+  pub IsSound-less : IsSoundMemory pool maps (with_unlinked entries place entry)
   IsSound-less = IsSound-replaced (entry_unlinked entry) refl refl
 
 -- the entries of a group go, and its blocks are given back
 module _ (pool : Blocks) (maps : List (Slots BlockId)) (entries : List (Option ModuleEntry))
-    (sound : IsSound pool maps entries) (place : ℕ) (entry : ModuleEntry) (is : module_entry_at entries place ≡ Some
+    (sound : IsSoundMemory pool maps entries) (place : ℕ) (entry : ModuleEntry) (is : module_entry_at entries place ≡ Some
     entry) (after : Blocks) (given : (block : ℕ) → reference_count after block ≡ reference_count pool block - times
     block entry.group) where
-  pub IsSound-left : IsPool after → IsSound after maps (modules_without_group entries entry.group)
+  pub IsSound-left : IsPool after → IsSoundMemory after maps (modules_without_group entries entry.group)
   IsSound-left shape =
       let later = modules_without_group entries entry.group in
       let all = AreGrouped-kept entries later sound.groups (kept-left entries entry.group) in

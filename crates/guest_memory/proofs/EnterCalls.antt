@@ -13,7 +13,7 @@ use Rattle.proc_model.specs.Slots.{Slots}
 use Rattle.proc_model.specs.Objects.{file_blocks, file_objects}
 use Rattle.guest_memory.specs.Gains.{GainsBlocks}
 use Rattle.guest_memory.specs.Memory.{RepresentMemory}
-use Rattle.guest_memory.specs.Sound.{IsSound}
+use Rattle.guest_memory.specs.Sound.{IsSoundMemory}
 use Rattle.guest_memory.proofs.Entered.{beside, IsSound-beside, represent-beside, IsSound-entered, represent-entered, with_entered}
 use Rattle.guest_memory.proofs.Times.{numbers_of}
 use Rattle.guest_memory.proofs.LinkCalls.{found_entry}
@@ -24,7 +24,7 @@ some_and P None entry is has = absurd has
 some_and P (Some other) entry is has = subst P (same_Some other entry is) has
 
 module _ (pool : Blocks) (maps : List (Slots BlockId)) (entries : List (Option ModuleEntry))
-    (sound : IsSound pool maps entries) (number : ℕ) (some : IsSome (module_entry_at entries number)) (place : ℕ)
+    (sound : IsSoundMemory pool maps entries) (number : ℕ) (some : IsSome (module_entry_at entries number)) (place : ℕ)
     (free : free_number entries ≡ Some place) (info : ModuleInfo) where
   abbrev entry : ModuleEntry
   entry = (found_entry entries number some).entry
@@ -45,9 +45,9 @@ module _ (pool : Blocks) (maps : List (Slots BlockId)) (entries : List (Option M
     later_is : later ≡ with_module_entry entries place (beside pool maps entries sound number entry is place free info)
     later_is = list ∙ sym (λ i. with_module_entry entries place (new_entry info (same_group i) (same_boot i)))
 
-    pub sound-beside : IsSomeAnd (module_entry_at entries number) (λ entry. info.at + info.size ≤ 8192 * length entry.group) → info.entry < info.size → IsSound pool maps later
+    pub sound-beside : IsSomeAnd (module_entry_at entries number) (λ entry. info.at + info.size ≤ 8192 * length entry.group) → info.entry < info.size → IsSoundMemory pool maps later
     sound-beside inside runs =
-        subst (IsSound pool maps) (sym later_is)
+        subst (IsSoundMemory pool maps) (sym later_is)
         (IsSound-beside pool maps entries sound number entry is place free info
         (some_and (λ entry. info.at + info.size ≤ 8192 * length entry.group) (module_entry_at entries number)
         entry is inside) runs)
@@ -59,13 +59,13 @@ module _ (pool : Blocks) (maps : List (Slots BlockId)) (entries : List (Option M
 
 -- the file is loaded and its module is entered
 module _ (pool after : Blocks) (maps : List (Slots BlockId)) (entries : List (Option ModuleEntry))
-    (sound : IsSound pool maps entries) (file : List ℕ) (ids : List BlockId) (gains : GainsBlocks pool ids
+    (sound : IsSoundMemory pool maps entries) (file : List ℕ) (ids : List BlockId) (gains : GainsBlocks pool ids
     (file_objects file) after) (place : ℕ) (free : free_number entries ≡ Some place) (info : ModuleInfo)
     (is_boot : Bool) (later : List (Option ModuleEntry)) (list : later ≡ with_module_entry entries place
     (new_entry info (numbers_of ids) is_boot)) where
-  pub sound-enter : 1 ≤ length ids → length ids ≤ 7 → info.at + info.size ≤ 8192 * length ids → info.entry < info.size → IsPool after → IsSound after maps later
+  pub sound-enter : 1 ≤ length ids → length ids ≤ 7 → info.at + info.size ≤ 8192 * length ids → info.entry < info.size → IsPool after → IsSoundMemory after maps later
   sound-enter some few inside runs shape =
-      subst (IsSound after maps) (sym list) (IsSound-entered pool after maps entries sound file ids gains place free info is_boot some few inside runs shape)
+      subst (IsSoundMemory after maps) (sym list) (IsSound-entered pool after maps entries sound file ids gains place free info is_boot some few inside runs shape)
 
   pub tied-enter : length ids ≡ file_blocks file → (m : MemoryState) → RepresentMemory pool maps entries m
       → RepresentMemory after maps later (record m {

@@ -24,7 +24,7 @@ use Rattle.guest_memory.specs.Gains.{times_in, GainsBlocks}
 use Rattle.guest_memory.specs.Memory.{memory_of, RepresentMemory}
 use Rattle.guest_memory.specs.References.{times, Has}
 use Rattle.guest_memory.specs.Renaming.{RepresentObjects, renamed_entry, renamed_modules}
-use Rattle.guest_memory.specs.Sound.{IsGrouped, AreGrouped, IsSound}
+use Rattle.guest_memory.specs.Sound.{IsGrouped, AreGrouped, IsSoundMemory}
 use Rattle.guest_memory.proofs.Times.{times-at, times-where, times-numbers_of, numbers_of}
 use Rattle.guest_memory.proofs.Lists.{map-map}
 use Rattle.guest_memory.proofs.HeldGroups.{grouped_blocks, HasGroup, HasBlock, times-group, times-grouped, times-ungrouped, times-same}
@@ -110,13 +110,13 @@ module _ (entries : List (Option ModuleEntry)) (place : ℕ) (free : free_number
 -- ---- a module beside another one of its group
 
 module _ (pool : Blocks) (maps : List (Slots BlockId)) (entries : List (Option ModuleEntry))
-    (sound : IsSound pool maps entries) (number : ℕ) (entry : ModuleEntry) (is : module_entry_at entries number ≡ Some
+    (sound : IsSoundMemory pool maps entries) (number : ℕ) (entry : ModuleEntry) (is : module_entry_at entries number ≡ Some
     entry) (place : ℕ) (free : free_number entries ≡ Some place) (info : ModuleInfo) where
   -- the new entry
   abbrev pub beside : ModuleEntry
   beside = new_entry info entry.group entry.is_boot
 
-  pub IsSound-beside : info.at + info.size ≤ 8192 * length entry.group → info.entry < info.size → IsSound pool maps (with_module_entry entries place beside)
+  pub IsSound-beside : info.at + info.size ≤ 8192 * length entry.group → info.entry < info.size → IsSoundMemory pool maps (with_module_entry entries place beside)
   IsSound-beside inside runs =
       let later = with_module_entry entries place beside in
       let was = sound.groups.each number entry is in
@@ -162,7 +162,7 @@ module _ (pool : Blocks) (maps : List (Slots BlockId)) (entries : List (Option M
 -- ---- a module with a new group
 
 module _ (pool after : Blocks) (maps : List (Slots BlockId)) (entries : List (Option ModuleEntry))
-    (sound : IsSound pool maps entries) (file : List ℕ) (ids : List BlockId) (gains : GainsBlocks pool ids
+    (sound : IsSoundMemory pool maps entries) (file : List ℕ) (ids : List BlockId) (gains : GainsBlocks pool ids
     (file_objects file) after) (place : ℕ) (free : free_number entries ≡ Some place) (info : ModuleInfo)
     (is_boot : Bool) where
   -- the new entry
@@ -230,7 +230,7 @@ module _ (pool after : Blocks) (maps : List (Slots BlockId)) (entries : List (Op
               )
         ]
 
-    pub IsSound-entered : IsPool after → IsSound after maps (with_module_entry entries place (new_entry info (numbers_of ids) is_boot))
+    pub IsSound-entered : IsPool after → IsSoundMemory after maps (with_module_entry entries place (new_entry info (numbers_of ids) is_boot))
     IsSound-entered shape =
         IsSound-entries pool maps entries sound after (with_module_entry entries place first_entry) shape (length-set entries place (Some first_entry) ∙ sound.numbers) all_after
         (λ block. omega (arith, gains.counts block, times-after block, times-numbers_of ids block))
@@ -276,7 +276,7 @@ module _ (pool after : Blocks) (maps : List (Slots BlockId)) (entries : List (Op
 
 -- whether there are blocks enough
 module _ (pool : Blocks) (maps : List (Slots BlockId)) (entries : List (Option ModuleEntry))
-    (sound : IsSound pool maps entries) (file : List ℕ) (info : ModuleInfo) (is_boot : Bool) (m : MemoryState)
+    (sound : IsSoundMemory pool maps entries) (file : List ℕ) (info : ModuleInfo) (is_boot : Bool) (m : MemoryState)
     (tied : RepresentMemory pool maps entries m) where
   free_is : free_blocks m ≡ free_block_count pool
   free_is = ap free_blocks tied.is ∙ free_blocks-tied pool maps entries sound tied.number tied.objects tied.represent

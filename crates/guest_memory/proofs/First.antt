@@ -13,7 +13,7 @@ use Rattle.proc_model.specs.Slots.{Slots, IsMap, no_slots}
 use Rattle.guest_memory.specs.Memory.{RepresentMemory}
 use Rattle.guest_memory.specs.References.{times, references, mapped_blocks}
 use Rattle.guest_memory.specs.Renaming.{renamed_map, renamed_modules}
-use Rattle.guest_memory.specs.Sound.{IsHeld, IsSound}
+use Rattle.guest_memory.specs.Sound.{IsSoundMap, IsSoundMemory}
 
 no_entry : (n number : ℕ) (entry : ModuleEntry) → module_entry_at (replicate n None) number ≡ Some entry → ⊥
 no_entry zero number entry is = none-some entry is
@@ -47,7 +47,7 @@ IsMap-none = record {
   once = λ slot other id here there. absurd (no_places slot id here);
 }
 
-IsHeld-none : (pool : Blocks) (entries : List (Option ModuleEntry)) → IsHeld pool entries no_slots
+IsHeld-none : (pool : Blocks) (entries : List (Option ModuleEntry)) → IsSoundMap pool entries no_slots
 IsHeld-none pool entries = record {
   map = IsMap-none;
   full = λ slot low. absurd (omega arith);
@@ -71,14 +71,14 @@ module _ (blocks : ℕ) (pool : Blocks) (maps : List (Slots BlockId)) (entries :
       (λ i. flat_map mapped_blocks (maps_are i) ++ flat_map (λ group. group) (entered_groups (entries_are i)))
       ∙ (λ i. no_names 33 i ++ flat_map (λ (group : List ℕ). group) (no_groups 64 i))
 
-  pub sound-first : IsSound pool maps entries
+  pub sound-first : IsSoundMemory pool maps entries
   sound-first = record {
     shape = shape;
     processes = ap (λ (all : List (Slots BlockId)). length all) maps_are ∙ length-replicate {A = Slots BlockId} 33 no_slots;
     numbers = ap (λ (all : List (Option ModuleEntry)). length all) entries_are ∙ length-replicate {A = Option ModuleEntry} 64 None;
     counted = λ block. none block ∙ sym (ap (times block) references-none);
-    held = subst (λ (all : List (Slots BlockId)). (k : ℕ) (d : Slots BlockId) → k < length all → IsHeld pool entries
-        (get_or all k d)) (sym maps_are) (All-replicate (IsHeld pool entries) 33 no_slots (IsHeld-none pool entries));
+    held = subst (λ (all : List (Slots BlockId)). (k : ℕ) (d : Slots BlockId) → k < length all → IsSoundMap pool entries
+        (get_or all k d)) (sym maps_are) (All-replicate (IsSoundMap pool entries) 33 no_slots (IsHeld-none pool entries));
     groups = record {
       each = λ number entry is. absurd (no_entry 64 number entry (ap (λ (all : List (Option ModuleEntry)). module_entry_at all number) (sym entries_are) ∙ is));
       same = λ number other entry another is is_too block has has_too. absurd (no_entry 64 number entry (ap (λ (all : List (Option ModuleEntry)). module_entry_at all number) (sym entries_are) ∙ is));

@@ -15,7 +15,7 @@ use Rattle.proc_model.specs.ModuleList.{ModuleEntry, module_entry_at}
 use Rattle.proc_model.specs.Slots.{Slots, IsMap, IsFreeRun, IsHighestFreeRun, NamesBlock, no_slots, group_of, blocks_between, with_group, map_without_group, group_slot}
 use Rattle.guest_memory.specs.Memory.{RepresentMemory}
 use Rattle.guest_memory.specs.Renaming.{numbered_map}
-use Rattle.guest_memory.specs.Sound.{IsSound}
+use Rattle.guest_memory.specs.Sound.{IsSoundMemory}
 use Rattle.guest_memory.proofs.Times.{numbers_of}
 use Rattle.guest_memory.proofs.Keeping.{map_of}
 use Rattle.guest_memory.proofs.Leaving.{group-live, group-different}
@@ -24,7 +24,7 @@ use Rattle.guest_memory.proofs.LinkCalls.{found_entry}
 use Rattle.guest_memory.proofs.MapCalls.{is_map_of, unchanged}
 
 module _ (pool : Blocks) (maps : List (Slots BlockId)) (entries : List (Option ModuleEntry))
-    (sound : IsSound pool maps entries) (process : ℕ) (within : process < 33) (number : ℕ)
+    (sound : IsSoundMemory pool maps entries) (process : ℕ) (within : process < 33) (number : ℕ)
     (some : IsSome (module_entry_at entries number)) where
   abbrev entry : ModuleEntry
   entry = (found_entry entries number some).entry
@@ -106,19 +106,21 @@ module _ (pool : Blocks) (maps : List (Slots BlockId)) (entries : List (Option M
         new_of : (first : ℕ) → new ≡ with_group old first (group_blocks group) → new ≡ with_group slots first (group_blocks group)
         new_of first is_new = is_new ∙ ap (λ (s : Slots BlockId). with_group s first (group_blocks group)) borrowed
 
-        pub sound-map_group : NamesLiveBlocks new after → IsMap new → (IsPool pool → IsPool after) → IsSound after (set maps process new) entries
+        pub sound-map_group : NamesLiveBlocks new after → IsMap new → (IsPool pool → IsPool after) → IsSoundMemory after (set maps process new) entries
         sound-map_group live shape pool_is = by_result result refused mapped
           where
-            by_result : (answer : Result ℕ MapFault) → OnErr answer ((new ≡ old) × (after ≡ pool)) → IfOk answer (GainsGroup group old pool new after) → IsSound after (set maps process new) entries
+            by_result : (answer : Result ℕ MapFault) → OnErr answer ((new ≡ old) × (after ≡ pool))
+                → IfOk answer (GainsGroup group old pool new after) → IsSoundMemory after (set maps process new)
+                entries
             by_result (Ok first) refused mapped =
                 let is_new = new_of first mapped.grouped in
-                subst (λ (s : Slots BlockId). IsSound after (set maps process s) entries) (sym is_new)
+                subst (λ (s : Slots BlockId). IsSoundMemory after (set maps process s) entries) (sym is_new)
                 (IsSound-mapped pool maps entries sound process within number entry is (group_blocks group) same
                 unmapped first (run_of first mapped.highest) after mapped.shared (pool_is sound.shape)
                 (subst IsMap is_new shape) (subst (λ (s : Slots BlockId). NamesLiveBlocks s after) is_new live))
             by_result (Err fault) kept mapped =
-                subst (λ (p : Blocks). IsSound p (set maps process new) entries) (sym kept.1)
-                (subst (λ (all : List (Slots BlockId)). IsSound pool all entries) (sym (ap (set maps process) kept.0 ∙ unchanged pool maps entries sound process within old at)) sound)
+                subst (λ (p : Blocks). IsSoundMemory p (set maps process new) entries) (sym kept.1)
+                (subst (λ (all : List (Slots BlockId)). IsSoundMemory pool all entries) (sym (ap (set maps process) kept.0 ∙ unchanged pool maps entries sound process within old at)) sound)
 
         pub map-some : (first : ℕ) → result ≡ Ok first → (m : MemoryState) (tied : RepresentMemory pool maps entries m)
             → (group_mapped m process (group_at m number) ≡ Some
@@ -176,9 +178,9 @@ module _ (pool : Blocks) (maps : List (Slots BlockId)) (entries : List (Option M
           (blocks_between old first (first + len)))) begins given ∙ ap (λ (s : Slots BlockId). pool_after_giving pool
           (blocks_between s first (first + length entry.group))) borrowed_is
 
-      pub sound-unmap : NamesLiveBlocks new after → IsMap new → (IsPool pool → IsPool after) → IsSound after (set maps process new) entries
+      pub sound-unmap : NamesLiveBlocks new after → IsMap new → (IsPool pool → IsPool after) → IsSoundMemory after (set maps process new) entries
       sound-unmap live shape pool_is =
-          subst (λ (s : Slots BlockId). IsSound after (set maps process s) entries) (sym new_is)
+          subst (λ (s : Slots BlockId). IsSoundMemory after (set maps process s) entries) (sym new_is)
           (IsSound-unmapped pool maps entries sound process within number entry is first found_slot after given_is
           (pool_is sound.shape) (subst IsMap new_is shape) (subst (λ (s : Slots BlockId). NamesLiveBlocks s after)
           new_is live))

@@ -13,7 +13,7 @@ use Rattle.guest_memory.proofs.GroupCalls.{slot_of_entry}
 use Rattle.guest_memory.proofs.LinkCalls.{found_entry}
 use Rattle.guest_memory.proofs.Seen.{entry-seen}
 use Rattle.guest_memory.specs.declared.memory.Memory.{Memory}
-use Rattle.guest_memory.specs.Tie.{Represents, modules_of, group_len, slot_of_group}
+use Rattle.guest_memory.specs.Tie.{RepresentsMemory, modules_of, group_len, slot_of_group}
 
 module _ (memory : Memory) (number : ℕ) (some : IsSome (module_entry_at (modules_of memory) number)) where
   abbrev entry : ModuleEntry
@@ -44,7 +44,7 @@ module _ (memory : Memory) (number : ℕ) (some : IsSome (module_entry_at (modul
     pub info-runs : info.entry < info.size
     info-runs = subst (λ (i : ModuleInfo). i.entry < i.size) same grouped.runs
 
-    pub info-tied : (m : MemoryState) → Represents memory m → option_map (λ (entry : ModuleEntry). entry.info) (module_entry_at m.modules number) ≡ Some info
+    pub info-tied : (m : MemoryState) → RepresentsMemory memory m → option_map (λ (entry : ModuleEntry). entry.info) (module_entry_at m.modules number) ≡ Some info
     info-tied m tied =
         ap (option_map (λ (entry : ModuleEntry). entry.info)) (entry-seen memory m tied number)
         ∙ ap (λ (place : Option ModuleEntry). option_map (λ (entry : ModuleEntry). entry.info) (option_map (renamed_entry tied.number) place)) is

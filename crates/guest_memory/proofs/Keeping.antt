@@ -8,10 +8,10 @@ use Rattle.block_pool.specs.Blocks.{Blocks, IsPool, IsLive, reference_count}
 use Rattle.block_map.specs.TakenBlocks.{NamesLiveBlocks}
 use Rattle.proc_model.specs.declared.group.BlockId.{BlockId}
 use Rattle.proc_model.specs.ModuleList.{ModuleEntry, module_entry_at, entered_groups}
-use Rattle.proc_model.specs.Slots.{Slots, IsMap, no_slots, block_at, BeginsAt}
+use Rattle.proc_model.specs.Slots.{Slots, IsMap, no_slots, block_at, HasGroupAt}
 use Rattle.guest_memory.specs.References.{times, Has, mapped_blocks, references, AreReferenceCounts}
 use Rattle.guest_memory.specs.Renaming.{numbered_map}
-use Rattle.guest_memory.specs.Sound.{IsHeld, IsGrouped, AreGrouped, IsSound}
+use Rattle.guest_memory.specs.Sound.{IsSoundMap, IsGrouped, AreGrouped, IsSoundMemory}
 use Rattle.guest_memory.proofs.Times.{times-append, times-at, named_once, named_at_most_once, times-maps_set, times-one_map}
 use Rattle.guest_memory.proofs.HeldGroups.{grouped_blocks, HasGroup, HasBlock, times-grouped, once_or_not}
 
@@ -27,12 +27,12 @@ times-maps_most (first ∷ maps) all block =
       times-maps_most maps (λ k d within. all (suc k) d (omega arith)) block,
     )
 
-module _ (pool : Blocks) (maps : List (Slots BlockId)) (entries : List (Option ModuleEntry)) (sound : IsSound pool maps entries) where
+module _ (pool : Blocks) (maps : List (Slots BlockId)) (entries : List (Option ModuleEntry)) (sound : IsSoundMemory pool maps entries) where
   -- the map of a process
   abbrev pub map_of : ℕ → Slots BlockId
   map_of process = get_or maps process no_slots
 
-  pub held_at : (process : ℕ) → process < 33 → IsHeld pool entries (map_of process)
+  pub held_at : (process : ℕ) → process < 33 → IsSoundMap pool entries (map_of process)
   held_at process within = sound.held process no_slots (omega (arith, sound.processes))
 
   -- the count of a block is that of the maps that name it, and of the groups
@@ -117,24 +117,24 @@ module _ (pool : Blocks) (maps : List (Slots BlockId)) (entries : List (Option M
     pub IsSound-map : IsPool after
         → ((block : ℕ) → reference_count after block + times block (mapped_blocks (map_of process)) ≡ reference_count pool block + times block (mapped_blocks new))
         → ((block : ℕ) → reference_count pool block ≡ 1 → (HasBlock entries block → ⊥) → reference_count after block ≤ 1)
-        → IsHeld after entries new → IsSound after (set maps process new) entries
+        → IsSoundMap after entries new → IsSoundMemory after (set maps process new) entries
     IsSound-map shape changed others held = record {
       shape = shape;
       processes = length-set maps process new ∙ sound.processes;
       numbers = sound.numbers;
       counted = counted_set changed;
-      held = All-from_get_or (IsHeld after entries) (set maps process new) no_slots (λ other inside. by_process other
+      held = All-from_get_or (IsSoundMap after entries) (set maps process new) no_slots (λ other inside. by_process other
           (omega (arith, length-set maps process new, sound.processes)) (cases_eq other process));
       groups = sound.groups;
     }
       where
-        by_process : (other : ℕ) → other < 33 → (other ≡ process) ⊎ (other ≢ process) → IsHeld after entries (get_or (set maps process new) other no_slots)
+        by_process : (other : ℕ) → other < 33 → (other ≡ process) ⊎ (other ≢ process) → IsSoundMap after entries (get_or (set maps process new) other no_slots)
         by_process other inside (inl same) =
-            subst (IsHeld after entries) (sym (ap (λ (k : ℕ). get_or (set maps process new) k no_slots) same ∙ get_or-set_same maps process new no_slots (omega (arith, sound.processes)))) held
+            subst (IsSoundMap after entries) (sym (ap (λ (k : ℕ). get_or (set maps process new) k no_slots) same ∙ get_or-set_same maps process new no_slots (omega (arith, sound.processes)))) held
         by_process other inside (inr apart) =
             let stays = get_or-set_other maps process other new no_slots apart in
             let was = held_at other inside in
-            subst (IsHeld after entries) (sym stays) (record {
+            subst (IsSoundMap after entries) (sym stays) (record {
               map = was.map;
               full = was.full;
               alone = alone_still (set maps process new) entries after (counted_set changed) other inside stays others;
@@ -155,20 +155,20 @@ module _ (pool : Blocks) (maps : List (Slots BlockId)) (entries : List (Option M
         → ((number : ℕ) (entry : ModuleEntry) → module_entry_at later number ≡ Some entry
         → HasGroup entries entry.group ⊎ ((k : ℕ) → k < length entry.group → reference_count pool
         (get_or entry.group k 0) ≡ 0))
-        → IsSound after maps later
+        → IsSoundMemory after maps later
     IsSound-entries shape places groups changed others kept = record {
       shape = shape;
       processes = sound.processes;
       numbers = places;
       counted = counted_later changed;
-      held = All-from_get_or (IsHeld after later) maps no_slots (λ process inside. here process (omega (arith, sound.processes)));
+      held = All-from_get_or (IsSoundMap after later) maps no_slots (λ process inside. here process (omega (arith, sound.processes)));
       groups = groups;
     }
       where
         stands : (process : ℕ) → process < 33 → (number : ℕ) (entry : ModuleEntry) → module_entry_at later number ≡
             Some entry → HasGroup entries entry.group ⊎ ((k : ℕ) → k < length entry.group → reference_count pool
             (get_or entry.group k 0) ≡ 0) → (slot k : ℕ) (id : BlockId) → block_at (map_of process) slot ≡ Some id
-            → k < length entry.group → id.0 ≡ get_or entry.group k 0 → (k ≤ slot) × BeginsAt
+            → k < length entry.group → id.0 ≡ get_or entry.group k 0 → (k ≤ slot) × HasGroupAt
             (numbered_map (map_of process)) entry.group (slot - k)
         stands process within number entry is (inr free) slot k id named inside same =
             absurd (omega (arith, free k inside, names_live process slot id named, ap (reference_count pool) same))
@@ -176,9 +176,9 @@ module _ (pool : Blocks) (maps : List (Slots BlockId)) (entries : List (Option M
             let there = (held_at process within).grouped was.number was.entry was.is slot k id named
             (subst (λ (g : List ℕ). k < length g) was.group_is inside) (same ∙ ap (λ (g : List ℕ). get_or g k 0)
             was.group_is) in
-            (there.0, subst (λ (g : List ℕ). BeginsAt (numbered_map (map_of process)) g (slot - k)) (sym was.group_is) there.1)
+            (there.0, subst (λ (g : List ℕ). HasGroupAt (numbered_map (map_of process)) g (slot - k)) (sym was.group_is) there.1)
 
-        here : (process : ℕ) → process < 33 → IsHeld after later (map_of process)
+        here : (process : ℕ) → process < 33 → IsSoundMap after later (map_of process)
         here process within =
             let was = held_at process within in
             record {

@@ -14,7 +14,7 @@ use Rattle.proc_model.specs.ModuleList.{ModuleEntry, module_entry_at, is_of_grou
 use Rattle.proc_model.specs.Slots.{Slots}
 use Rattle.guest_memory.specs.Memory.{memory_of, RepresentMemory}
 use Rattle.guest_memory.specs.Renaming.{RepresentObjects, renamed_entry, renamed_modules}
-use Rattle.guest_memory.specs.Sound.{IsGrouped, IsSound}
+use Rattle.guest_memory.specs.Sound.{IsGrouped, IsSoundMemory}
 use Rattle.guest_memory.proofs.Times.{numbers_of}
 use Rattle.guest_memory.proofs.Changes.{represent-given_all, length-given_all}
 use Rattle.guest_memory.proofs.Directory.{entry_at-renamed, kept-less}
@@ -43,7 +43,7 @@ module _ (number : ℕ → ℕ) (Live : ℕ → Type 0) (apart : (one other : �
       by_test false = refl
 
 module _ (pool : Blocks) (maps : List (Slots BlockId)) (entries : List (Option ModuleEntry))
-    (sound : IsSound pool maps entries) (place : ℕ) (entry : ModuleEntry) (is : module_entry_at entries place ≡ Some
+    (sound : IsSoundMemory pool maps entries) (place : ℕ) (entry : ModuleEntry) (is : module_entry_at entries place ≡ Some
     entry) where
   module _ (number : ℕ → ℕ) (objects : List (List ℕ)) (represent : RepresentObjects number pool objects) where
     group_is_live : All (IsLive pool) entry.group

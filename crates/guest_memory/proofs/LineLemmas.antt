@@ -9,7 +9,7 @@ use Rattle.std.proofs.lemmas.List.Quantifiers.{position-Some}
 use Rattle.std.proofs.lemmas.List.Sums.{fails_before_first}
 use Rattle.std.proofs.lemmas.Option.{none-some, slice_get-get_or}
 use Rattle.std.proofs.lemmas.Bool.{cases_lt, cond-true, ne_eqb, eqb-false, lt-ltb, false≢true}
-use Rattle.os9_base.specs.Cells.{Cells, Holds}
+use Rattle.os9_base.specs.Cells.{Cells, HoldsBytes}
 use Rattle.os9_base.specs.UserNames.{user_cell}
 use Rattle.os9_base.specs.UserLines.{line_at}
 use Rattle.guest_memory.specs.Pieces.{IsPiece}
@@ -27,23 +27,23 @@ longer one two None = refl
 longer one two (Some line) = rw append_assoc refl
 
 -- the bytes of a range that is read are the cells there
-user_cell-held : (cells : Cells) (at byte : ℕ) (bytes : List ℕ) → at + length (byte ∷ bytes) ≤ 65536 → Holds cells at (byte ∷ bytes) → user_cell cells at ≡ Some byte
+user_cell-held : (cells : Cells) (at byte : ℕ) (bytes : List ℕ) → at + length (byte ∷ bytes) ≤ 65536 → HoldsBytes cells at (byte ∷ bytes) → user_cell cells at ≡ Some byte
 user_cell-held cells at byte bytes fits holds =
     cond-true (nat_lt at 65536) (cells at) None (lt-ltb at 65536 (omega arith))
     ∙ subst (λ (n : ℕ). cells n ≡ Some byte) (let e : at + 0 ≡ at = omega arith in e) (holds 0 (omega arith))
 
 user_cell-in : (cells : Cells) (at : ℕ) (bytes : List ℕ) (place : ℕ) → at + length bytes ≤ 65536
-    → place < length bytes → Holds cells at bytes → user_cell cells (at + place) ≡ Some (get_or bytes place 0)
+    → place < length bytes → HoldsBytes cells at bytes → user_cell cells (at + place) ≡ Some (get_or bytes place 0)
 user_cell-in cells at bytes place fits within holds =
     cond-true (nat_lt (at + place) 65536) (cells (at + place)) None (lt-ltb (at + place) 65536 (omega arith))
     ∙ holds place within ∙ slice_get-get_or bytes place 0 within
 
-held-behind : (cells : Cells) (at byte : ℕ) (bytes : List ℕ) → Holds cells at (byte ∷ bytes) → Holds cells (at + 1) bytes
+held-behind : (cells : Cells) (at byte : ℕ) (bytes : List ℕ) → HoldsBytes cells at (byte ∷ bytes) → HoldsBytes cells (at + 1) bytes
 held-behind cells at byte bytes holds k within =
     subst (λ (n : ℕ). cells n ≡ slice_get bytes k) (let e : at + suc k ≡ (at + 1) + k = omega arith in e) (holds (suc k) (omega arith))
 
 -- a line that begins with so many bytes that are no carriage return
-line-through : (cells : Cells) (at most count : ℕ) (piece : List ℕ) → Holds cells at piece → at + length piece ≤ 65536
+line-through : (cells : Cells) (at most count : ℕ) (piece : List ℕ) → HoldsBytes cells at piece → at + length piece ≤ 65536
     → count ≤ length piece → count ≤ most → ((k : ℕ) → k < count → get_or piece k 0 ≢ 13)
     → line_at cells at most ≡ option_map (λ rest. take count piece ++ rest) (line_at cells (at + count) (most - count))
 line-through cells at most zero piece holds fits inside few none =

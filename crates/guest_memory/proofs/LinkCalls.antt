@@ -17,7 +17,7 @@ use Rattle.proc_model.specs.ModuleList.{ModuleEntry, module_entry_at, with_modul
 use Rattle.proc_model.specs.Slots.{Slots}
 use Rattle.guest_memory.specs.Memory.{RepresentMemory}
 use Rattle.guest_memory.specs.References.{times}
-use Rattle.guest_memory.specs.Sound.{IsSound}
+use Rattle.guest_memory.specs.Sound.{IsSoundMemory}
 use Rattle.guest_memory.proofs.Changes.{count_of-given_all}
 use Rattle.guest_memory.proofs.Directory.{IsSound-replaced, IsSound-less, IsSound-left, represent-linked, at_less}
 use Rattle.guest_memory.proofs.Leaving.{is_group_leaving-tied, represent-unlinked, group-live, group-different}
@@ -38,7 +38,8 @@ pub some_from : (P : ModuleEntry → Type 0) (place : Option ModuleEntry) → Is
 some_from P None has = absurd has
 some_from P (Some entry) has = refl
 
-module _ (pool : Blocks) (maps : List (Slots BlockId)) (entries : List (Option ModuleEntry)) (sound : IsSound pool maps entries) (number : ℕ) (some : IsSome (module_entry_at entries number)) where
+module _ (pool : Blocks) (maps : List (Slots BlockId)) (entries : List (Option ModuleEntry))
+    (sound : IsSoundMemory pool maps entries) (number : ℕ) (some : IsSome (module_entry_at entries number)) where
   abbrev entry : ModuleEntry
   entry = (found_entry entries number some).entry
 
@@ -51,8 +52,8 @@ module _ (pool : Blocks) (maps : List (Slots BlockId)) (entries : List (Option M
     later_is : later ≡ with_module_entry entries number (entry_linked entry)
     later_is = sym (same_Some (with_module_entry entries number (entry_linked entry)) later (sym (ap (option_map (λ entry. with_module_entry entries number (entry_linked entry))) is) ∙ linked_is))
 
-    pub sound-link : IsSound pool maps later
-    sound-link = subst (IsSound pool maps) (sym later_is) (IsSound-replaced pool maps entries sound number entry is (entry_linked entry) refl refl)
+    pub sound-link : IsSoundMemory pool maps later
+    sound-link = subst (IsSoundMemory pool maps) (sym later_is) (IsSound-replaced pool maps entries sound number entry is (entry_linked entry) refl refl)
 
     pub tied-link : (m : MemoryState) → RepresentMemory pool maps entries m → RepresentMemory pool maps later (linked m number)
     tied-link m tied = subst (λ (list : List (Option ModuleEntry)). RepresentMemory pool maps list (linked m number)) (sym later_is) (represent-linked pool maps entries sound number entry is m tied)
@@ -77,9 +78,9 @@ module _ (pool : Blocks) (maps : List (Slots BlockId)) (entries : List (Option M
         by_test true at this = cc
         by_test false at this = refl
 
-    pub sound-unlink_stays : answer ≡ None → IsSound pool maps later
+    pub sound-unlink_stays : answer ≡ None → IsSoundMemory pool maps later
     sound-unlink_stays none =
-        subst (IsSound pool maps) (sym (after_is ∙ cond-false (is_leaving entries number entry)
+        subst (IsSoundMemory pool maps) (sym (after_is ∙ cond-false (is_leaving entries number entry)
         (modules_without_group (with_unlinked entries number entry) entry.group) (with_unlinked entries number
         entry) (stays none)))
         (IsSound-less pool maps entries sound number entry is)
@@ -112,9 +113,9 @@ module _ (pool : Blocks) (maps : List (Slots BlockId)) (entries : List (Option M
         counts block = ap (λ (p : Blocks). reference_count p block) given ∙ count_of-given_all pool
             (group_blocks gone) block ∙ ap (λ (g : List ℕ). reference_count pool block - times block g) (sym goes.1)
 
-        pub sound-unlink_leaves : (IsPool pool → IsPool after) → IsSound after maps later
+        pub sound-unlink_leaves : (IsPool pool → IsPool after) → IsSoundMemory after maps later
         sound-unlink_leaves shape =
-            subst (IsSound after maps) (sym (after_is ∙ cond-true (is_leaving entries number entry)
+            subst (IsSoundMemory after maps) (sym (after_is ∙ cond-true (is_leaving entries number entry)
             (modules_without_group (with_unlinked entries number entry) entry.group) (with_unlinked entries number
             entry) goes.0))
             (IsSound-left pool maps (with_unlinked entries number entry) (IsSound-less pool maps entries sound number

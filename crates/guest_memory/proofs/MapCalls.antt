@@ -13,13 +13,13 @@ use Rattle.proc_model.specs.MemoryChanges.{grown, cut, cleared, map_cut}
 use Rattle.proc_model.specs.ModuleList.{ModuleEntry}
 use Rattle.proc_model.specs.Slots.{Slots, IsMap, IsFreeRun, no_slots, blocks_in, blocks_between, cut_low_to, is_free_run}
 use Rattle.guest_memory.specs.Memory.{RepresentMemory}
-use Rattle.guest_memory.specs.Sound.{IsSound}
+use Rattle.guest_memory.specs.Sound.{IsSoundMemory}
 use Rattle.guest_memory.proofs.Keeping.{map_of, held_at, names_live}
 use Rattle.guest_memory.proofs.Runs.{is_free_run-iff}
 use Rattle.guest_memory.proofs.DataArea.{IsSound-cleared, represent-cleared, IsSound-cut, represent-cut, grown-full, grown-no_ram, grown-ok, with_growth, IsSound-grown, represent-grown}
 
 module _ (pool : Blocks) (maps : List (Slots BlockId)) (entries : List (Option ModuleEntry))
-    (sound : IsSound pool maps entries) (process : ℕ) (within : process < 33) (old : Slots BlockId)
+    (sound : IsSoundMemory pool maps entries) (process : ℕ) (within : process < 33) (old : Slots BlockId)
     (at : old ≡ get_or maps process old) where
   -- the map that was borrowed is that of the process
   pub is_map_of : old ≡ map_of pool maps entries sound process
@@ -34,9 +34,9 @@ module _ (pool : Blocks) (maps : List (Slots BlockId)) (entries : List (Option M
   -- ---- clear
 
   pub sound-clear : (new : Slots BlockId) (after : Blocks) → new ≡ no_slots → after ≡ pool_after_giving pool
-      (blocks_in old.places) → IsMap new → (IsPool pool → IsPool after) → IsSound after (set maps process new) entries
+      (blocks_in old.places) → IsMap new → (IsPool pool → IsPool after) → IsSoundMemory after (set maps process new) entries
   sound-clear new after empty given shape pool_is =
-      subst (λ (s : Slots BlockId). IsSound after (set maps process s) entries) (sym empty)
+      subst (λ (s : Slots BlockId). IsSoundMemory after (set maps process s) entries) (sym empty)
       (IsSound-cleared pool maps entries sound process within after
       (given ∙ ap (λ (s : Slots BlockId). pool_after_giving pool (blocks_in s.places)) is_map_of)
       (pool_is sound.shape) (subst IsMap empty shape))
@@ -62,19 +62,19 @@ module _ (pool : Blocks) (maps : List (Slots BlockId)) (entries : List (Option M
     low_is : old.low ≡ (map_of pool maps entries sound process).low
     low_is = ap (λ (s : Slots BlockId). s.low) is_map_of
 
-    pub sound-cut : NamesLiveBlocks new after → IsMap new → (IsPool pool → IsPool after) → IsSound after (set maps process new) entries
+    pub sound-cut : NamesLiveBlocks new after → IsMap new → (IsPool pool → IsPool after) → IsSoundMemory after (set maps process new) entries
     sound-cut live_after shape pool_is =
         elim (cases_lt count old.low) [
           | inl shorter ↦
               let is = cut_low shorter in
-              subst (λ (s : Slots BlockId). IsSound after (set maps process s) entries) (sym is)
+              subst (λ (s : Slots BlockId). IsSoundMemory after (set maps process s) entries) (sym is)
               (IsSound-cut pool maps entries sound process within count after (omega (arith, low_is))
               (given_low shorter) (pool_is sound.shape) (subst IsMap is shape)
               (subst (λ (s : Slots BlockId). NamesLiveBlocks s after) is live_after))
           | inr long ↦
               let kept = whole long in
-              subst (λ (p : Blocks). IsSound p (set maps process new) entries) (sym kept.1)
-              (subst (λ (all : List (Slots BlockId)). IsSound pool all entries) (sym (ap (set maps process) kept.0 ∙ unchanged)) sound)
+              subst (λ (p : Blocks). IsSoundMemory p (set maps process new) entries) (sym kept.1)
+              (subst (λ (all : List (Slots BlockId)). IsSoundMemory pool all entries) (sym (ap (set maps process) kept.0 ∙ unchanged)) sound)
         ]
 
     pub tied-cut : (m : MemoryState) → RepresentMemory pool maps entries m → RepresentMemory after (set maps process new) entries (cut m process count)
@@ -125,17 +125,17 @@ module _ (pool : Blocks) (maps : List (Slots BlockId)) (entries : List (Option M
               absurd (done (no_slot.1 (λ run. false≢true (sym failed ∙ (is_free_run-iff slots (held_at pool maps entries sound process within).map.eight_places slots.low count).1 (run_of run)))))
         ]
 
-    pub sound-grow : IsMap new → IsSound after (set maps process new) entries
+    pub sound-grow : IsMap new → IsSoundMemory after (set maps process new) entries
     sound-grow shape = by_result result refl refused gains
       where
         by_result : (answer : Result (Unit {0}) MapFault) → result ≡ answer
             → OnErr answer ((new ≡ old) × (after ≡ pool)) → OnOk answer (GainsLow count old pool new after)
-            → IsSound after (set maps process new) entries
+            → IsSoundMemory after (set maps process new) entries
         by_result (Ok done) is refused gains =
             IsSound-grown pool maps entries sound process within count new after (run_ok (λ no. cc)) (gained_of gains) shape
         by_result (Err fault) is kept gains =
-            subst (λ (p : Blocks). IsSound p (set maps process new) entries) (sym kept.1)
-            (subst (λ (all : List (Slots BlockId)). IsSound pool all entries) (sym (ap (set maps process) kept.0 ∙ unchanged)) sound)
+            subst (λ (p : Blocks). IsSoundMemory p (set maps process new) entries) (sym kept.1)
+            (subst (λ (all : List (Slots BlockId)). IsSoundMemory pool all entries) (sym (ap (set maps process) kept.0 ∙ unchanged)) sound)
 
     -- a refusal leaves what is represented
     kept-tied : (new ≡ old) × (after ≡ pool) → (m : MemoryState) → RepresentMemory pool maps entries m → RepresentMemory after (set maps process new) entries m

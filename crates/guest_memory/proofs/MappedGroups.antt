@@ -15,12 +15,12 @@ use Rattle.proc_model.specs.declared.group.BlockId.{BlockId}
 use Rattle.proc_model.specs.Memory.{MemoryState, map_at, with_map, group_at}
 use Rattle.proc_model.specs.MemoryChanges.{group_mapped, map_ungrouped, group_unmapped}
 use Rattle.proc_model.specs.ModuleList.{ModuleEntry, module_entry_at}
-use Rattle.proc_model.specs.Slots.{Slots, IsMap, IsFreeRun, IsHighestFreeRun, NamesBlock, no_slots, block_at, group_of, blocks_in, blocks_between, filled_places, highest_free_run, with_group, map_without_group, BeginsAt, place_names, group_slot}
+use Rattle.proc_model.specs.Slots.{Slots, IsMap, IsFreeRun, IsHighestFreeRun, NamesBlock, no_slots, block_at, group_of, blocks_in, blocks_between, filled_places, highest_free_run, with_group, map_without_group, HasGroupAt, place_names, group_slot}
 use Rattle.guest_memory.specs.Gains.{times_in}
 use Rattle.guest_memory.specs.Memory.{memory_of, RepresentMemory}
 use Rattle.guest_memory.specs.References.{times, Has, mapped_blocks}
 use Rattle.guest_memory.specs.Renaming.{RepresentObjects, renamed_map, renamed_entry, renamed_modules, numbered_map}
-use Rattle.guest_memory.specs.Sound.{IsHeld, IsGrouped, IsSound}
+use Rattle.guest_memory.specs.Sound.{IsSoundMap, IsGrouped, IsSoundMemory}
 use Rattle.guest_memory.proofs.Times.{numbers_of, named_by, times-at, times-one_map, times-numbers_of}
 use Rattle.guest_memory.proofs.HeldGroups.{HasBlock}
 use Rattle.guest_memory.proofs.Keeping.{map_of, held_at, counted_parts, counted_most, names_live, group_live, low_ungrouped, IsSound-map}
@@ -97,12 +97,12 @@ block_slot-is slots group some =
     ∙ position-map (option_map (λ (id : BlockId). id.0)) (place_names (get_or group 0 0)) slots.places
 
 module _ (pool : Blocks) (maps : List (Slots BlockId)) (entries : List (Option ModuleEntry))
-    (sound : IsSound pool maps entries) (process : ℕ) (within : process < 33) (number : ℕ) (entry : ModuleEntry)
+    (sound : IsSoundMemory pool maps entries) (process : ℕ) (within : process < 33) (number : ℕ) (entry : ModuleEntry)
     (is : module_entry_at entries number ≡ Some entry) where
   abbrev slots : Slots BlockId
   slots = map_of pool maps entries sound process
 
-  held : IsHeld pool entries slots
+  held : IsSoundMap pool entries slots
   held = held_at pool maps entries sound process within
 
   in_maps : process < length maps
@@ -115,12 +115,12 @@ module _ (pool : Blocks) (maps : List (Slots BlockId)) (entries : List (Option M
   has_block block k inside same = record { number = number; entry = entry; is = is; has = times-at entry.group k block inside (sym same) }
 
   -- where the group begins, it begins
-  pub begins_at : (first : ℕ) → block_slot slots entry.group ≡ Some first → BeginsAt (numbered_map slots) entry.group first
+  pub begins_at : (first : ℕ) → block_slot slots entry.group ≡ Some first → HasGroupAt (numbered_map slots) entry.group first
   begins_at first found =
       let place = position-Some (names_number (get_or entry.group 0 0)) slots.places first None (sym (block_slot-is slots entry.group grouped.some) ∙ found) in
       let named = names_number-is (get_or entry.group 0 0) (get_or slots.places first None) place.1 in
       let here : first - 0 ≡ first = omega arith in
-      subst (BeginsAt (numbered_map slots) entry.group) here ((held.grouped number entry is first 0 named.0 named.1 (omega (arith, grouped.some)) named.2).1)
+      subst (HasGroupAt (numbered_map slots) entry.group) here ((held.grouped number entry is first 0 named.0 named.1 (omega (arith, grouped.some)) named.2).1)
 
   -- where a slot names a block of the group, the group begins somewhere
   pub begins_somewhere : (slot k : ℕ) (id : BlockId) → block_at slots slot ≡ Some id → k < length entry.group → id.0 ≡ get_or entry.group k 0 → IsSome (block_slot slots entry.group)
@@ -234,7 +234,7 @@ module _ (pool : Blocks) (maps : List (Slots BlockId)) (entries : List (Option M
       first_within = omega (arith, held.map.eight_groups, highest.0.0, many, grouped.some)
 
       -- it begins where it was mapped
-      begins_new : BeginsAt (numbered_map (with_group slots first ids)) entry.group first
+      begins_new : HasGroupAt (numbered_map (with_group slots first ids)) entry.group first
       begins_new = record {
         length_is = get_or-set_same slots.groups first (Some (length ids)) None first_within ∙ ap (λ (n : ℕ). Some n) (sym many);
         stands = λ k inside.
@@ -249,7 +249,7 @@ module _ (pool : Blocks) (maps : List (Slots BlockId)) (entries : List (Option M
       -- groups that stood there stand there still
       grouped_new : (n : ℕ) (other : ModuleEntry) → module_entry_at entries n ≡ Some other
           → (slot k : ℕ) (id : BlockId) → block_at (with_group slots first ids) slot ≡ Some id
-          → k < length other.group → id.0 ≡ get_or other.group k 0 → (k ≤ slot) × BeginsAt
+          → k < length other.group → id.0 ≡ get_or other.group k 0 → (k ≤ slot) × HasGroupAt
           (numbered_map (with_group slots first ids)) other.group (slot - k)
       grouped_new n other is_other slot k id named inside it =
           elim (new_or_old slot id named) [
@@ -264,8 +264,8 @@ module _ (pool : Blocks) (maps : List (Slots BlockId)) (entries : List (Option M
                 (ap (λ (g : List ℕ). get_or g k 0) (sym equal) ∙ sym it ∙ id_is) in
                 let here : slot - k ≡ first = omega (arith, fresh.0) in (
                   omega (arith, fresh.0),
-                  subst (λ (g : List ℕ). BeginsAt (numbered_map (with_group slots first ids)) g
-                      (slot - k)) (sym equal) (subst (λ (s : ℕ). BeginsAt (numbered_map (with_group slots first ids))
+                  subst (λ (g : List ℕ). HasGroupAt (numbered_map (with_group slots first ids)) g
+                      (slot - k)) (sym equal) (subst (λ (s : ℕ). HasGroupAt (numbered_map (with_group slots first ids))
                       entry.group s) (sym here) begins_new),
                 )
             | inr old ↦
@@ -288,7 +288,7 @@ module _ (pool : Blocks) (maps : List (Slots BlockId)) (entries : List (Option M
 
       pub IsSound-mapped : IsPool after → IsMap (with_group slots first ids)
           → NamesLiveBlocks (with_group slots first ids) after
-          → IsSound after (set maps process (with_group slots first ids)) entries
+          → IsSoundMemory after (set maps process (with_group slots first ids)) entries
       IsSound-mapped shape map_is live =
           IsSound-map pool maps entries sound after process within (with_group slots first ids) shape
           (λ block. omega (arith, counts block, times-filled slots.places first ids (omega (arith, highest.0.0, held.map.eight_places)) highest.0.1 block))
@@ -359,7 +359,7 @@ module _ (pool : Blocks) (maps : List (Slots BlockId)) (entries : List (Option M
   nothing = None
 
   module _ (first : ℕ) (found : block_slot slots entry.group ≡ Some first) (after : Blocks) (given : after ≡ pool_after_giving pool (blocks_between slots first (first + length entry.group))) where
-    begins : BeginsAt (numbered_map slots) entry.group first
+    begins : HasGroupAt (numbered_map slots) entry.group first
     begins = begins_at first found
 
     inside_slots : first + length entry.group ≤ 8
@@ -419,7 +419,7 @@ module _ (pool : Blocks) (maps : List (Slots BlockId)) (entries : List (Option M
 
     grouped_left : (n : ℕ) (other : ModuleEntry) → module_entry_at entries n ≡ Some other
         → (slot k : ℕ) (id : BlockId) → block_at (map_without_group slots first (length entry.group)) slot ≡ Some id
-        → k < length other.group → id.0 ≡ get_or other.group k 0 → (k ≤ slot) × BeginsAt
+        → k < length other.group → id.0 ≡ get_or other.group k 0 → (k ≤ slot) × HasGroupAt
         (numbered_map (map_without_group slots first (length entry.group))) other.group (slot - k)
     grouped_left n other is_other slot k id named inside it =
         let old = was_slot slot id named in
@@ -445,7 +445,7 @@ module _ (pool : Blocks) (maps : List (Slots BlockId)) (entries : List (Option M
 
     pub IsSound-unmapped : IsPool after → IsMap (map_without_group slots first (length entry.group))
         → NamesLiveBlocks (map_without_group slots first (length entry.group)) after
-        → IsSound after (set maps process (map_without_group slots first (length entry.group))) entries
+        → IsSoundMemory after (set maps process (map_without_group slots first (length entry.group))) entries
     IsSound-unmapped shape map_is live =
         IsSound-map pool maps entries sound after process within (map_without_group slots first (length entry.group)) shape
         (λ block. omega (arith, counts_given block, times-cleared slots.places first (length entry.group) block, counted_parts pool maps entries sound block, times-one_map block maps process))

@@ -16,7 +16,7 @@ use Rattle.proc_model.specs.Slots.{Slots, no_slots, block_at, blocks_in}
 use Rattle.guest_memory.specs.Memory.{memory_of}
 use Rattle.guest_memory.specs.References.{times, mapped_blocks, references}
 use Rattle.guest_memory.specs.Renaming.{RepresentObjects, renamed_map, renamed_entry, renamed_modules}
-use Rattle.guest_memory.specs.Sound.{IsSound}
+use Rattle.guest_memory.specs.Sound.{IsSoundMemory}
 use Rattle.guest_memory.proofs.Times.{times-at, times-where}
 use Rattle.guest_memory.proofs.HeldGroups.{grouped_blocks}
 use Rattle.guest_memory.proofs.Keeping.{group_live}
@@ -144,7 +144,7 @@ module _ (number : ℕ → ℕ) (Live : ℕ → Type 0) (apart : (one other : �
 -- ---- free blocks
 
 module _ (pool : Blocks) (maps : List (Slots BlockId)) (entries : List (Option ModuleEntry))
-    (sound : IsSound pool maps entries) (number : ℕ → ℕ) (objects : List (List ℕ)) (represent : RepresentObjects
+    (sound : IsSoundMemory pool maps entries) (number : ℕ → ℕ) (objects : List (List ℕ)) (represent : RepresentObjects
     number pool objects) where
   pub groups_are_live : (n : ℕ) (entry : ModuleEntry) → module_entry_at entries n ≡ Some entry → All (IsLive pool) entry.group
   groups_are_live n entry is = λ k d within. subst (IsLive pool) (get_or_default entry.group k 0 d within) (group_live pool maps entries sound n entry is k within)

@@ -6,9 +6,9 @@ use Rattle.os9_base.specs.declared.registers.Regs.{Regs}
 use Rattle.os9_base.specs.Cells.{Cells, put_cell}
 use Rattle.cpu_model.specs.declared.stop.Stop.{Stop}
 use Rattle.cpu_model.specs.declared.stop.Stop.TheVariants.{Next, Call, Abort}
-use Rattle.cpu_model.specs.Step.{Outcome, Done, Calls, Aborts, Leaves, step_of, all_named, write_cells}
+use Rattle.cpu_model.specs.Step.{Outcome, Done, Calls, Aborts, LeavesCells, step_of, all_named, write_cells}
 use Rattle.cpu6809.specs.declared.execution.Ran.{Ran}
-use Rattle.cpu6809.specs.Running.{FollowOn, EndsAfter, Runs}
+use Rattle.cpu6809.specs.Running.{InstructionsFollow, EndsAfter, Runs}
 use Rattle.block_pool.specs.Blocks.{Blocks}
 use Rattle.block_map.specs.Window.{map_cells, SameBeyond}
 use Rattle.proc_model.specs.declared.group.BlockId.{BlockId}
@@ -19,7 +19,7 @@ use Rattle.proc_model.specs.Objects.{with_cell, with_writes}
 use Rattle.guest_memory.proofs.Objects.{NamesObjects, with_writes-tied}
 use Rattle.proc_model.specs.Slots.{Slots}
 use Rattle.guest_memory.specs.Memory.{RepresentMemory}
-use Rattle.guest_memory.specs.Sound.{IsSound}
+use Rattle.guest_memory.specs.Sound.{IsSoundMemory}
 use Rattle.guest_memory.proofs.Keeping.{map_of, held_at, names_live}
 use Rattle.guest_memory.proofs.Naming.{map_at-memory_of}
 use Rattle.guest_memory.proofs.Stores.{IsMap-renamed}
@@ -93,10 +93,10 @@ module _ (process : ℕ) where
       × ExecutesInMemory process Next r m next (written m process writes)
 
   one : (cells : Cells) (m : MemoryState) (r next : Regs) (held : Cells) → cells_seen m process ≡ cells
-      → Leaves (step_of cells r) Next r next cells held → One cells m r next held
+      → LeavesCells (step_of cells r) Next r next cells held → One cells m r next held
   one cells m r next held seen left = by_outcome (step_of cells r) refl left
     where
-      by_outcome : (outcome : Outcome) → step_of cells r ≡ outcome → Leaves outcome Next r next cells held → One cells m r next held
+      by_outcome : (outcome : Outcome) → step_of cells r ≡ outcome → LeavesCells outcome Next r next cells held → One cells m r next held
       by_outcome (Calls code past) is left = cc (left.0)
       by_outcome (Aborts status) is left = cc (left.0)
       by_outcome (Done effect) is left = (
@@ -116,7 +116,7 @@ module _ (process : ℕ) where
     pub seen : cells_seen (written m process writes) process ≡ held
 
   many : (k : ℕ) (cells : Cells) (m : MemoryState) (r last : Regs) (held : Cells) → cells_seen m process ≡ cells
-      → NamesOwn m → FollowOn k r cells last held → Wrote cells m k r last held
+      → NamesOwn m → InstructionsFollow k r cells last held → Wrote cells m k r last held
   many zero cells m r last held seen names done = record {
     writes = [];
     named = refl;
@@ -143,13 +143,13 @@ module _ (process : ℕ) where
 
   -- an instruction that the next one does not follow
   stopped : (stop : Stop) (held : Cells) (m : MemoryState) (r after : Regs) (now : Cells) → (stop ≡ Next → ⊥) → cells_seen m process ≡ held
-      → Leaves (step_of held r) stop r after held now → ExecutesInMemory process stop r m after m × (now ≡ held)
+      → LeavesCells (step_of held r) stop r after held now → ExecutesInMemory process stop r m after m × (now ≡ held)
   stopped stop held m r after now not_next seen left = by_outcome (step_of held r) refl left
     where
       executes : (outcome : Outcome) → step_of held r ≡ outcome → LeavesMemory process outcome stop r m after m → ExecutesInMemory process stop r m after m
       executes outcome is does = subst (λ (o : Outcome). LeavesMemory process o stop r m after m) (sym (ap (λ (c : Cells). step_of c r) seen ∙ is)) does
 
-      by_outcome : (outcome : Outcome) → step_of held r ≡ outcome → Leaves outcome stop r after held now → ExecutesInMemory process stop r m after m × (now ≡ held)
+      by_outcome : (outcome : Outcome) → step_of held r ≡ outcome → LeavesCells outcome stop r after held now → ExecutesInMemory process stop r m after m × (now ≡ held)
       by_outcome (Done effect) is left = absurd (not_next left.0)
       by_outcome (Calls code past) is left = (executes (Calls code past) is (left.0, left.1, refl), left.2)
       by_outcome (Aborts status) is left = (executes (Aborts status) is (left.0, left.1, refl), left.2)
@@ -165,7 +165,7 @@ module _ (process : ℕ) where
 -- ---- the whole memory
 
 module _ (pool after : Blocks) (maps : List (Slots BlockId)) (entries : List (Option ModuleEntry))
-    (sound : IsSound pool maps entries) (process : ℕ) (within : process < 33) (old seen now : Slots BlockId)
+    (sound : IsSoundMemory pool maps entries) (process : ℕ) (within : process < 33) (old seen now : Slots BlockId)
     (at : old ≡ get_or maps process old) (seen_is : seen ≡ old) (now_is : now ≡ seen) (before : Blocks)
     (before_is : before ≡ pool) (beyond : SameBeyond seen before after) where
   abbrev slots : Slots BlockId
@@ -177,7 +177,7 @@ module _ (pool after : Blocks) (maps : List (Slots BlockId)) (entries : List (Op
   beyond_is : SameBeyond slots pool after
   beyond_is = subst (λ (p : Blocks). SameBeyond slots p after) before_is (subst (λ (s : Slots BlockId). SameBeyond s before after) map_is beyond)
 
-  pub sound-run : IsSound after maps entries
+  pub sound-run : IsSoundMemory after maps entries
   sound-run = IsSound-written pool after maps entries sound (beyond_is.shape sound.shape) beyond_is.counts
 
   names_own : (m : MemoryState) → RepresentMemory pool maps entries m → NamesOwn process m

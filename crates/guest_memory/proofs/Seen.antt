@@ -27,9 +27,9 @@ use Rattle.os9_base.specs.UserNames.{user_cell}
 use Rattle.guest_memory.proofs.GroupCalls.{some-len}
 use Rattle.guest_memory.proofs.MapCalls.{is_map_of, live}
 use Rattle.guest_memory.specs.declared.memory.Memory.{Memory}
-use Rattle.guest_memory.specs.Tie.{Represents, cells_of, modules_of, group_len, seen_cells}
+use Rattle.guest_memory.specs.Tie.{RepresentsMemory, cells_of, modules_of, group_len, seen_cells}
 
-pub cells_of-seen : (memory : Memory) (process : ℕ) → process < 33 → (m : MemoryState) → Represents memory m → cells_of memory process ≡ seen_cells m process
+pub cells_of-seen : (memory : Memory) (process : ℕ) → process < 33 → (m : MemoryState) → RepresentsMemory memory m → cells_of memory process ≡ seen_cells m process
 cells_of-seen memory process within m tied =
     sym (cells-tied memory.pool memory.pool memory.maps.items memory.dir memory.sound process within (SameBeyond-self (get_or memory.maps.items process no_slots) memory.pool) m tied)
 
@@ -66,7 +66,7 @@ module _ (memory : Memory) (process : ℕ) (within : process < 33) (old : Slots 
 
 -- ---- the maps and the module directory of the machine
 
-module _ (memory : Memory) (m : MemoryState) (tied : Represents memory m) where
+module _ (memory : Memory) (m : MemoryState) (tied : RepresentsMemory memory m) where
   -- the map of a process is that of the machine, by the numbers of objects
   pub map-seen : (process : ℕ) → process < 33 → map_at m process ≡ renamed_map tied.number (get_or memory.maps.items process no_slots)
   map-seen process within =
@@ -106,7 +106,7 @@ module _ (memory : Memory) (m : MemoryState) (tied : Represents memory m) where
 
 -- the slot at which a run of free slots begins
 module _ (memory : Memory) (process : ℕ) (within : process < 33) (old : Slots BlockId) (at : old ≡ get_or memory.maps.items process old) (len : ℕ) where
-  run-seen : (m : MemoryState) → Represents memory m → highest_free_run (map_at m process) len ≡ highest_free_run old len
+  run-seen : (m : MemoryState) → RepresentsMemory memory m → highest_free_run (map_at m process) len ≡ highest_free_run old len
   run-seen m tied =
       (λ i. highest_free_run (map-seen memory m tied process within i) len)
       ∙ highest_free_run-renamed tied.number (get_or memory.maps.items process no_slots) len
@@ -122,7 +122,7 @@ module _ (memory : Memory) (process : ℕ) (within : process < 33) (old : Slots 
   found-run (Some first) none highest = sym (highest_free_run-is old eight len first highest)
 
   pub run-found : (result : Option ℕ) → IfNone result ((first : ℕ) → IsFreeRun old first len → ⊥)
-      → IfSome result (IsHighestFreeRun old len) → (m : MemoryState) → Represents memory m → result ≡ highest_free_run
+      → IfSome result (IsHighestFreeRun old len) → (m : MemoryState) → RepresentsMemory memory m → result ≡ highest_free_run
       (map_at m process) len
   run-found result none highest m tied = found-run result none highest ∙ sym (run-seen m tied)
 
@@ -149,9 +149,9 @@ module _ (memory : Memory) (process : ℕ) (within : process < 33) (number : ℕ
           ∙ length-map (take group.len group.blocks) (λ (id : BlockId). id.0) ∙ length-take-le group.len group.blocks
           (omega (arith, group.in_range))
 
-  pub group-as-long : (m : MemoryState) → Represents memory m → length (group_at m number) ≡ group.len
+  pub group-as-long : (m : MemoryState) → RepresentsMemory memory m → length (group_at m number) ≡ group.len
   group-as-long m tied = group-seen memory m tied number ∙ group-long
 
 -- as many blocks of the machine are free as of the kernel's
-pub free-seen : (memory : Memory) (m : MemoryState) → Represents memory m → free_block_count memory.pool ≡ free_blocks m
+pub free-seen : (memory : Memory) (m : MemoryState) → RepresentsMemory memory m → free_block_count memory.pool ≡ free_blocks m
 free-seen memory m tied = sym (ap free_blocks tied.is ∙ free_blocks-tied memory.pool memory.maps.items memory.dir memory.sound tied.number tied.objects tied.represent)

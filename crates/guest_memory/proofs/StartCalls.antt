@@ -22,7 +22,7 @@ use Rattle.proc_model.specs.Objects.{zero_object}
 use Rattle.proc_model.specs.Slots.{Slots, IsMap, IsFreeRun, IsHighestFreeRun, no_slots, block_at, blocks_in, filled_places, with_low, with_group, group_slot}
 use Rattle.guest_memory.specs.Memory.{RepresentMemory}
 use Rattle.guest_memory.specs.Renaming.{numbered_map, renamed_map, renamed_entry}
-use Rattle.guest_memory.specs.Sound.{IsSound}
+use Rattle.guest_memory.specs.Sound.{IsSoundMemory}
 use Rattle.guest_memory.proofs.Keeping.{map_of, group_live}
 use Rattle.guest_memory.proofs.Naming.{map_at-memory_of, free_blocks-tied}
 use Rattle.guest_memory.proofs.DataArea.{with_growth}
@@ -34,7 +34,7 @@ use Rattle.guest_memory.proofs.MapCalls.{is_map_of, live, sound-clear, tied-clea
 use Rattle.guest_memory.proofs.GroupCalls.{many, same, some-len, map-may, sound-map_group, map-some}
 
 module _ (pool : Blocks) (maps : List (Slots BlockId)) (entries : List (Option ModuleEntry))
-    (sound : IsSound pool maps entries) (process : ℕ) (within : process < 33) (number : ℕ)
+    (sound : IsSoundMemory pool maps entries) (process : ℕ) (within : process < 33) (number : ℕ)
     (some : IsSome (module_entry_at entries number)) where
   abbrev entry : ModuleEntry
   entry = (found_entry entries number some).entry
@@ -105,7 +105,7 @@ module _ (pool : Blocks) (maps : List (Slots BlockId)) (entries : List (Option M
       + (map_of pool maps entries sound process).low) (old : Slots BlockId) (at : old ≡ get_or maps process old)
       (one : Slots BlockId) (pool_one : Blocks) (empty : one ≡ no_slots) (given : pool_one ≡ pool_after_giving pool
       (blocks_in old.places)) (shape_one : IsMap one) (pool_is_one : IsPool pool → IsPool pool_one) where
-    sound_one : IsSound pool_one (set maps process one) entries
+    sound_one : IsSoundMemory pool_one (set maps process one) entries
     sound_one = sound-clear pool maps entries sound process within old at one pool_one empty given shape_one pool_is_one
 
     at_one : one ≡ get_or (set maps process one) process one
@@ -144,7 +144,7 @@ module _ (pool : Blocks) (maps : List (Slots BlockId)) (entries : List (Option M
       two_is : two ≡ with_low no_slots gained.blocks
       two_is = gained.low ∙ ap (λ (s : Slots BlockId). with_low s gained.blocks) empty
 
-      sound_two : IsSound pool_two (set (set maps process one) process two) entries
+      sound_two : IsSoundMemory pool_two (set (set maps process one) process two) entries
       sound_two = sound-grow pool_one (set maps process one) entries sound_one process within one at_one count result_two two pool_two no_slot no_block refused gains shape_two
 
       at_two : two ≡ get_or (set (set maps process one) process two) process two
@@ -182,9 +182,9 @@ module _ (pool : Blocks) (maps : List (Slots BlockId)) (entries : List (Option M
           ((first : ℕ) → IsFreeRun two first group.len → ⊥)) (no_other : result ≢ Err NoBlock)
           (kept : OnErr result ((new ≡ two) × (after ≡ pool_two)))
           (mapped : IfOk result (GainsGroup group two pool_two new after)) where
-        pub sound-start : NamesLiveBlocks new after → IsMap new → (IsPool pool_two → IsPool after) → IsSound after (set maps process new) entries
+        pub sound-start : NamesLiveBlocks new after → IsMap new → (IsPool pool_two → IsPool after) → IsSoundMemory after (set maps process new) entries
         sound-start live_new shape pool_is =
-            subst (λ (all : List (Slots BlockId)). IsSound after all entries) (set-set (set maps process one) process two new ∙ set-set maps process one new)
+            subst (λ (all : List (Slots BlockId)). IsSoundMemory after all entries) (set-set (set maps process one) process two new ∙ set-set maps process one new)
             (sound-map_group pool_two (set (set maps process one) process two) entries sound_two process within number
             some group seven group_is nowhere two at_two result new after no_run no_other kept mapped live_new
             shape pool_is)

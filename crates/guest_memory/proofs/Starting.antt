@@ -14,7 +14,7 @@ use Rattle.block_map.proofs.Places.{at, at-put, same_id}
 use Rattle.proc_model.specs.declared.group.BlockId.{BlockId}
 use Rattle.proc_model.specs.ModuleList.{ModuleEntry}
 use Rattle.proc_model.specs.Slots.{Slots, IsFreeRun, IsHighestFreeRun, no_slots, block_at, blocks_in, filled_places, with_low}
-use Rattle.guest_memory.specs.Sound.{IsHeld, IsSound}
+use Rattle.guest_memory.specs.Sound.{IsSoundMap, IsSoundMemory}
 use Rattle.guest_memory.proofs.Keeping.{map_of, held_at}
 use Rattle.guest_memory.proofs.Lists.{AllPairs-head, AllPairs-tail}
 
@@ -80,11 +80,11 @@ named_all [] each = refl
 named_all (None ∷ places) each = absurd (false≢true (each 0 (omega arith)))
 named_all (Some id ∷ places) each = ap (λ (rest : List (Option BlockId)). Some id ∷ rest) (named_all places (λ k within. each (suc k) (omega arith)))
 
-module _ (pool : Blocks) (maps : List (Slots BlockId)) (entries : List (Option ModuleEntry)) (sound : IsSound pool maps entries) (process : ℕ) (within : process < 33) where
+module _ (pool : Blocks) (maps : List (Slots BlockId)) (entries : List (Option ModuleEntry)) (sound : IsSoundMemory pool maps entries) (process : ℕ) (within : process < 33) where
   abbrev slots : Slots BlockId
   slots = map_of pool maps entries sound process
 
-  held : IsHeld pool entries slots
+  held : IsSoundMap pool entries slots
   held = held_at pool maps entries sound process within
 
   -- the blocks of the data area

@@ -14,7 +14,7 @@ use Rattle.proc_model.specs.Objects.{object_cells, with_writes}
 use Rattle.proc_model.specs.Slots.{Slots}
 use Rattle.guest_memory.specs.Memory.{memory_of, RepresentMemory}
 use Rattle.guest_memory.specs.Renaming.{renamed_map}
-use Rattle.guest_memory.specs.Sound.{IsHeld, IsSound}
+use Rattle.guest_memory.specs.Sound.{IsSoundMap, IsSoundMemory}
 use Rattle.guest_memory.proofs.Keeping.{map_of, held_at, names_live}
 use Rattle.guest_memory.proofs.Naming.{map_at-memory_of}
 use Rattle.guest_memory.proofs.Stores.{cells_of-renamed, StandFor-stored}
@@ -95,14 +95,14 @@ named-from cells at (byte ∷ bytes) named =
 
 -- memory whose counts stay is sound still
 pub IsSound-written : (pool after : Blocks) (maps : List (Slots BlockId)) (entries : List (Option ModuleEntry))
-    → IsSound pool maps entries → IsPool after → after.counts ≡ pool.counts → IsSound after maps entries
+    → IsSoundMemory pool maps entries → IsPool after → after.counts ≡ pool.counts → IsSoundMemory after maps entries
 IsSound-written pool after maps entries sound shape same = record {
   shape = shape;
   processes = sound.processes;
   numbers = sound.numbers;
   counted = λ block. ap (λ (counts : List ℕ). get_or counts block 0) same ∙ sound.counted block;
   held = λ k d within.
-      let was : IsHeld pool entries (get_or maps k d) = sound.held k d within in
+      let was : IsSoundMap pool entries (get_or maps k d) = sound.held k d within in
       record {
         map = was.map;
         full = was.full;
@@ -113,7 +113,7 @@ IsSound-written pool after maps entries sound shape same = record {
 }
 
 module _ (pool after : Blocks) (maps : List (Slots BlockId)) (entries : List (Option ModuleEntry))
-    (sound : IsSound pool maps entries) (process : ℕ) (within : process < 33)
+    (sound : IsSoundMemory pool maps entries) (process : ℕ) (within : process < 33)
     (beyond : SameBeyond (map_of pool maps entries sound process) pool after) where
   abbrev slots : Slots BlockId
   slots = map_of pool maps entries sound process

@@ -20,5 +20,5 @@ pub record GainsBlocks (before : Blocks) (group : List BlockId) (contents : List
     pub kept : (block : ℕ) → IsLive before block → block_bytes after block ≡ block_bytes before block
 
 -- a file is in new blocks, with zeros after it in the last one
-abbrev pub IsLoaded : List ℕ → Blocks → List BlockId → Blocks → Type 0
-IsLoaded file before group after = GainsBlocks before group (file_objects file) after
+abbrev pub IsFileInBlocks : List ℕ → Blocks → List BlockId → Blocks → Type 0
+IsFileInBlocks file before group after = GainsBlocks before group (file_objects file) after

@@ -3,12 +3,12 @@ use Rattle.std.specs.Prelude.{◌≡◌, ◌≢◌, ℕ, ◌+◌, ◌-◌, ◌*�
 use Rattle.block_pool.specs.Blocks.{Blocks, IsPool, reference_count}
 use Rattle.proc_model.specs.declared.group.BlockId.{BlockId}
 use Rattle.proc_model.specs.ModuleList.{ModuleEntry, module_entry_at}
-use Rattle.proc_model.specs.Slots.{Slots, IsMap, block_at, BeginsAt}
+use Rattle.proc_model.specs.Slots.{Slots, IsMap, block_at, HasGroupAt}
 use Rattle.guest_memory.specs.References.{Has, AreReferenceCounts}
 use Rattle.guest_memory.specs.Renaming.{numbered_map}
 
 -- what holds of each map
-pub record IsHeld (pool : Blocks) (entries : List (Option ModuleEntry)) (slots : Slots BlockId) : Type 0 where
+pub record IsSoundMap (pool : Blocks) (entries : List (Option ModuleEntry)) (slots : Slots BlockId) : Type 0 where
   pub map : IsMap slots
   -- each slot of the data area names a block
   pub full : (slot : ℕ) → slot < slots.low → IsSome (block_at slots slot)
@@ -18,7 +18,7 @@ pub record IsHeld (pool : Blocks) (entries : List (Option ModuleEntry)) (slots :
   -- if a slot names a block of an entered group, the whole group is in the slots around it
   pub grouped : (number : ℕ) (entry : ModuleEntry) → module_entry_at entries number ≡ Some entry
       → (slot k : ℕ) (id : BlockId) → block_at slots slot ≡ Some id → k < length entry.group
-      → id.0 ≡ slice_index entry.group k → (k ≤ slot) × BeginsAt (numbered_map slots) entry.group (slot - k)
+      → id.0 ≡ slice_index entry.group k → (k ≤ slot) × HasGroupAt (numbered_map slots) entry.group (slot - k)
 
 -- what holds of each entered module
 pub record IsGrouped (entry : ModuleEntry) : Type 0 where
@@ -42,12 +42,13 @@ pub record AreGrouped (entries : List (Option ModuleEntry)) : Type 0 where
       → entry.group ≡ another.group
 
 -- what holds of the blocks, the maps of all processes and the module directory together
-pub record IsSound (pool : Blocks) (maps : List (Slots BlockId)) (entries : List (Option ModuleEntry)) : Type 0 where
-  pub shape : IsPool pool
-  -- there is a map for each process number, and a place for each module
-  pub processes : length maps ≡ 33
-  pub numbers : length entries ≡ 64
-  -- the count of each block is the number of references from maps and entered groups
-  pub counted : AreReferenceCounts pool maps entries
-  pub held : All (IsHeld pool entries) maps
-  pub groups : AreGrouped entries
+pub record IsSoundMemory (pool : Blocks) (maps : List (Slots BlockId)) (entries : List (Option ModuleEntry)) : Type 0
+  where
+    pub shape : IsPool pool
+    -- there is a map for each process number, and a place for each module
+    pub processes : length maps ≡ 33
+    pub numbers : length entries ≡ 64
+    -- the count of each block is the number of references from maps and entered groups
+    pub counted : AreReferenceCounts pool maps entries
+    pub held : All (IsSoundMap pool entries) maps
+    pub groups : AreGrouped entries

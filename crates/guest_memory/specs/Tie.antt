@@ -13,15 +13,16 @@ use Rattle.guest_memory.specs.Renaming.{numbered_map}
 use Rattle.guest_memory.specs.declared.memory.Memory.{Memory}
 
 -- a memory of blocks represents one of objects
-abbrev pub Represents : Memory → MemoryState → Type 0
-Represents memory m = RepresentMemory memory.pool memory.maps.items memory.dir m
+abbrev pub RepresentsMemory : Memory → MemoryState → Type 0
+RepresentsMemory memory m = RepresentMemory memory.pool memory.maps.items memory.dir m
 
 -- A call on memory returns the result of the change of memory: it is done, and memory then represents that of the
 -- machine; or it is refused, for the same reason, and memory represents what it did before.
-abbrev pub Answers : {T : Type 0} → Result MemoryState MemoryFault → MemoryState → Result T MemoryFault → Memory
+abbrev pub ReturnsMemoryResult : {T : Type 0} → Result MemoryState MemoryFault → MemoryState → Result T MemoryFault
+    → Memory
     → Type 0
-Answers (Ok after) before result new = IsOk result × Represents new after
-Answers (Err fault) before result new = (result ≡ Err fault) × Represents new before
+ReturnsMemoryResult (Ok after) before result new = IsOk result × RepresentsMemory new after
+ReturnsMemoryResult (Err fault) before result new = (result ≡ Err fault) × RepresentsMemory new before
 
 -- ---- what callers may know of a memory
 
@@ -41,8 +42,8 @@ slot_of_group memory process number =
 
 -- a group is mapped, and begins at this slot; or there is no run of free slots for it, and nothing has changed
 abbrev pub MapsGroup : Option (ℕ × MemoryState) → MemoryState → Option ℕ → Memory → Type 0
-MapsGroup (Some found) before result new = (result ≡ Some found.0) × Represents new found.1
-MapsGroup None before result new = (result ≡ None) × Represents new before
+MapsGroup (Some found) before result new = (result ≡ Some found.0) × RepresentsMemory new found.1
+MapsGroup None before result new = (result ≡ None) × RepresentsMemory new before
 
 -- the byte that a process sees at each address, or nothing if the address is not named
 abbrev pub cells_of : Memory → ℕ → ℕ → Option ℕ
@@ -53,7 +54,7 @@ abbrev pub seen_cells : MemoryState → ℕ → Cells
 seen_cells m process = object_cells m.objects (map_at m process).places
 
 -- memory is the same in everything that callers may know of it
-pub record IsSame (before after : Memory) : Type 0 where
+pub record IsMemorySame (before after : Memory) : Type 0 where
   pub modules : modules_of after ≡ modules_of before
   pub cells : (process : ℕ) → cells_of after process ≡ cells_of before process
-  pub represents : (m : MemoryState) → Represents before m → Represents after m
+  pub represents : (m : MemoryState) → RepresentsMemory before m → RepresentsMemory after m

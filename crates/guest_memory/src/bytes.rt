@@ -4,7 +4,7 @@ ghost use Rattle.std.specs.Prelude.{◌≡◌, ◌<◌, length};
 ghost use Rattle.os9_base.specs.Cells.{FitsIn};
 ghost use Rattle.proc_model.specs.Memory.{MemoryState};
 ghost use Rattle.proc_model.specs.MemoryChanges.{stored};
-ghost use Rattle.guest_memory.specs.Tie.{Represents, cells_of, modules_of};
+ghost use Rattle.guest_memory.specs.Tie.{RepresentsMemory, cells_of, modules_of};
 
 use crate::memory::Memory;
 use os9_base::memory::UserMem;
@@ -15,8 +15,8 @@ impl Memory {
     pub fn store(&mut self, p: Pid, at: u16, bytes: &[u8])
         requires process { p.0 < 33 }
         requires fits { FitsIn (cells_of self.old p.0) at (length bytes.now) }
-        ensures stores { (m : MemoryState) → Represents self.old m
-            → Represents self.new (stored m p.0 at bytes.now) }
+        ensures stores { (m : MemoryState) → RepresentsMemory self.old m
+            → RepresentsMemory self.new (stored m p.0 at bytes.now) }
         ensures modules { modules_of self.new ≡ modules_of self.old }
     {
         self.maps[p.0 as usize]

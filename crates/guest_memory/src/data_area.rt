@@ -2,7 +2,7 @@ ghost use Rattle.std.specs.Prelude.{◌≡◌, ◌<◌};
 ghost use Rattle.proc_model.specs.Memory.{MemoryState};
 ghost use Rattle.proc_model.specs.MemoryChanges as model;
 ghost use Rattle.proc_model.specs.MemoryChanges.{grown, cleared};
-ghost use Rattle.guest_memory.specs.Tie.{Represents, Answers, modules_of};
+ghost use Rattle.guest_memory.specs.Tie.{RepresentsMemory, ReturnsMemoryResult, modules_of};
 
 use crate::memory::Memory;
 use block_map::map::MapFault;
@@ -18,8 +18,8 @@ impl Memory {
     /// else `NoRam` exactly if fewer blocks are free. Nothing has changed then.
     pub fn grow(&mut self, p: Pid, count: u8) -> Result<(), MemoryFault>
         requires { p.0 < 33 }
-        ensures grows { (m : MemoryState) → Represents self.old m
-            → Answers (grown m p.0 count) m result self.new }
+        ensures grows { (m : MemoryState) → RepresentsMemory self.old m
+            → ReturnsMemoryResult (grown m p.0 count) m result self.new }
         ensures modules { modules_of self.new ≡ modules_of self.old }
     {
         let map = &mut self.maps[p.0 as usize];
@@ -33,8 +33,8 @@ impl Memory {
     /// At most `count` blocks of a process's data area are kept, the first ones (F$Mem).
     pub fn cut(&mut self, p: Pid, count: u8)
         requires { p.0 < 33 }
-        ensures cuts { (m : MemoryState) → Represents self.old m
-            → Represents self.new (model.cut m p.0 count) }
+        ensures cuts { (m : MemoryState) → RepresentsMemory self.old m
+            → RepresentsMemory self.new (model.cut m p.0 count) }
         ensures modules { modules_of self.new ≡ modules_of self.old }
     {
         self.maps[p.0 as usize].cut_low(&mut self.pool, count);
@@ -43,7 +43,8 @@ impl Memory {
     /// The map of a process names nothing any more (F$Exit).
     pub fn clear(&mut self, p: Pid)
         requires { p.0 < 33 }
-        ensures { (m : MemoryState) → Represents self.old m → Represents self.new (cleared m p.0) }
+        ensures { (m : MemoryState) → RepresentsMemory self.old m
+            → RepresentsMemory self.new (cleared m p.0) }
     {
         self.maps[p.0 as usize].clear(&mut self.pool);
     }

@@ -9,8 +9,8 @@ ghost use Rattle.proc_model.specs.Memory.{MemoryState};
 ghost use Rattle.proc_model.specs.MemoryChanges.{entered, entered_beside};
 ghost use Rattle.proc_model.specs.ModuleList.{module_entry_at, free_number, new_entry, with_module_entry};
 ghost use Rattle.proc_model.specs.Objects.{file_block, file_blocks};
-ghost use Rattle.guest_memory.specs.Gains.{GainsBlocks, IsLoaded};
-ghost use Rattle.guest_memory.specs.Tie.{Represents, Answers, modules_of};
+ghost use Rattle.guest_memory.specs.Gains.{GainsBlocks, IsFileInBlocks};
+ghost use Rattle.guest_memory.specs.Tie.{RepresentsMemory, ReturnsMemoryResult, modules_of};
 
 use crate::memory::Memory;
 use block_pool::pool::{BLOCK_LEN, Pool};
@@ -39,8 +39,8 @@ impl Memory {
         requires inside { info.at + info.size ≤ length file.now }
         requires runs { info.entry < info.size }
         requires accepted { entry_refusal (modules_of self.old) info ≡ None }
-        ensures enters { (m : MemoryState) → Represents self.old m
-            → Answers (entered m file.now info is_boot) m result self.new }
+        ensures enters { (m : MemoryState) → RepresentsMemory self.old m
+            → ReturnsMemoryResult (entered m file.now info is_boot) m result self.new }
         ensures number { IfOk result (λ id. free_number (modules_of self.old) ≡ Some id.0) }
     {
         if usize::from(self.pool.free_blocks()) < file.len().div_ceil(BLOCK_LEN) {
@@ -58,8 +58,8 @@ impl Memory {
             (λ entry. info.at + info.size ≤ 8192 * length entry.group) }
         requires runs { info.entry < info.size }
         requires accepted { entry_refusal (modules_of self.old) info ≡ None }
-        ensures enters { (m : MemoryState) → Represents self.old m
-            → Represents self.new (entered_beside m id.0 info) }
+        ensures enters { (m : MemoryState) → RepresentsMemory self.old m
+            → RepresentsMemory self.new (entered_beside m id.0 info) }
         ensures number { free_number (modules_of self.old) ≡ Some result.0 }
     {
         let group = self.dir.group(id);
@@ -87,7 +87,7 @@ fn load_group(pool: &mut Pool, file: &[u8]) -> Group
     requires short { length file.now ≤ MOST_GROUP_BYTES }
     requires room { file_blocks file.now ≤ free_block_count pool.old }
     requires shape { IsPool pool.old }
-    ensures loaded { IsLoaded file.now pool.old (group_blocks result) pool.new }
+    ensures loaded { IsFileInBlocks file.now pool.old (group_blocks result) pool.new }
     ensures room { free_block_count pool.new + file_blocks file.now ≡ free_block_count pool.old }
     ensures blocks { result.len ≡ file_blocks file.now }
     ensures shape { IsPool pool.new }

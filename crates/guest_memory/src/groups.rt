@@ -7,7 +7,7 @@ ghost use Rattle.proc_model.specs.MemoryChanges.{group_mapped, group_unmapped};
 ghost use Rattle.proc_model.specs.ModuleList.{module_entry_at};
 ghost use Rattle.proc_model.specs.Slots as model;
 ghost use Rattle.proc_model.specs.Slots.{place_names};
-ghost use Rattle.guest_memory.specs.Tie.{Represents, MapsGroup, modules_of, group_len, slot_of_group};
+ghost use Rattle.guest_memory.specs.Tie.{RepresentsMemory, MapsGroup, modules_of, group_len, slot_of_group};
 
 use crate::memory::Memory;
 use block_map::map::Map;
@@ -23,7 +23,7 @@ impl Memory {
         requires process { p.0 < 33 }
         requires entered { IsSome (module_entry_at (modules_of self.now) id.0) }
         ensures slot { result ≡ slot_of_group self.now p.0 id.0 }
-        ensures tied { (m : MemoryState) → Represents self.now m
+        ensures tied { (m : MemoryState) → RepresentsMemory self.now m
             → result ≡ model.group_slot (map_at m p.0) (group_at m id.0) }
         ensures fits { IfSome result (λ slot. slot + group_len self.now id.0 ≤ 8) }
         ensures some { 1 ≤ group_len self.now id.0 }
@@ -39,7 +39,7 @@ impl Memory {
         requires process { p.0 < 33 }
         requires entered { IsSome (module_entry_at (modules_of self.old) id.0) }
         requires unmapped { slot_of_group self.old p.0 id.0 ≡ None }
-        ensures maps { (m : MemoryState) → Represents self.old m
+        ensures maps { (m : MemoryState) → RepresentsMemory self.old m
             → MapsGroup (group_mapped m p.0 (group_at m id.0)) m result self.new }
         ensures modules { modules_of self.new ≡ modules_of self.old }
     {
@@ -55,8 +55,8 @@ impl Memory {
     pub fn unmap(&mut self, p: Pid, id: ModId)
         requires process { p.0 < 33 }
         requires entered { IsSome (module_entry_at (modules_of self.old) id.0) }
-        ensures unmaps { (m : MemoryState) → Represents self.old m
-            → Represents self.new (group_unmapped m p.0 (group_at m id.0)) }
+        ensures unmaps { (m : MemoryState) → RepresentsMemory self.old m
+            → RepresentsMemory self.new (group_unmapped m p.0 (group_at m id.0)) }
         ensures modules { modules_of self.new ≡ modules_of self.old }
     {
         if let Some(slot) = self.group_slot(p, id) {

@@ -4,7 +4,7 @@ ghost use Rattle.block_pool.specs.Blocks.{IsPool, IsLive};
 ghost use Rattle.proc_model.specs.Memory.{MemoryState};
 ghost use Rattle.proc_model.specs.MemoryChanges.{linked, unlinked, is_group_leaving};
 ghost use Rattle.proc_model.specs.ModuleList.{module_entry_at};
-ghost use Rattle.guest_memory.specs.Tie.{Represents, modules_of};
+ghost use Rattle.guest_memory.specs.Tie.{RepresentsMemory, modules_of};
 
 use crate::memory::Memory;
 use block_pool::pool::Pool;
@@ -24,8 +24,8 @@ impl Memory {
     pub fn link(&mut self, id: ModId)
         requires { IsSomeAnd (module_entry_at (modules_of self.old) id.0)
             (λ entry. entry.links < 65535) }
-        ensures links { (m : MemoryState) → Represents self.old m
-            → Represents self.new (linked m id.0) }
+        ensures links { (m : MemoryState) → RepresentsMemory self.old m
+            → RepresentsMemory self.new (linked m id.0) }
         ensures entered { (number : ℕ) → is_some (module_entry_at (modules_of self.new) number)
             ≡ is_some (module_entry_at (modules_of self.old) number) }
     {
@@ -37,9 +37,9 @@ impl Memory {
     /// blocks is freed when no map names it either.
     pub fn unlink(&mut self, id: ModId) -> bool
         requires { IsSome (module_entry_at (modules_of self.old) id.0) }
-        ensures less { (m : MemoryState) → Represents self.old m
-            → Represents self.new (unlinked m id.0) }
-        ensures leaves { (m : MemoryState) → Represents self.old m
+        ensures less { (m : MemoryState) → RepresentsMemory self.old m
+            → RepresentsMemory self.new (unlinked m id.0) }
+        ensures leaves { (m : MemoryState) → RepresentsMemory self.old m
             → result ≡ is_group_leaving m id.0 }
     {
         match self.dir.unlink(id) {

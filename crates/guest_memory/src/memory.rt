@@ -1,4 +1,4 @@
-ghost use Rattle.guest_memory.specs.Sound.{IsSound};
+ghost use Rattle.guest_memory.specs.Sound.{IsSoundMemory};
 
 use block_map::map::Map;
 use block_pool::pool::Pool;
@@ -11,5 +11,5 @@ pub struct Memory {
     pub(crate) pool: Pool,
     pub(crate) dir: Dir,
     pub(crate) maps: Vec<Map>,
-    ghost sound: { IsSound pool maps.items dir },
+    ghost sound: { IsSoundMemory pool maps.items dir },
 }

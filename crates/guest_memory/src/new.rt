@@ -1,7 +1,7 @@
 ghost use Rattle.std.specs.Prelude.{◌≡◌, ◌≤◌, IfOk, replicate};
 ghost use Rattle.proc_model.specs.Memory.{first_memory};
 ghost use Rattle.proc_model.specs.Slots.{no_slots};
-ghost use Rattle.guest_memory.specs.Tie.{Represents};
+ghost use Rattle.guest_memory.specs.Tie.{RepresentsMemory};
 
 use crate::memory::Memory;
 use block_map::map::Map;
@@ -17,7 +17,7 @@ impl Memory {
     pub fn new(alloc: Global, blocks: u16) -> Result<Memory, OutOfMemory>
         requires least { 8 ≤ blocks }
         requires most { blocks ≤ 256 }
-        ensures { IfOk result (λ memory. Represents memory (first_memory blocks)) }
+        ensures { IfOk result (λ memory. RepresentsMemory memory (first_memory blocks)) }
     {
         Ok(Memory {
             pool: Pool::new(alloc, blocks)?,

@@ -3,7 +3,7 @@
 ghost use Rattle.std.specs.Prelude.{◌≡◌, ◌<◌};
 ghost use Rattle.proc_model.specs.Memory.{MemoryState};
 ghost use Rattle.guest_memory.specs.Running.{RunsInMemory};
-ghost use Rattle.guest_memory.specs.Tie.{Represents, modules_of};
+ghost use Rattle.guest_memory.specs.Tie.{RepresentsMemory, modules_of};
 
 use crate::memory::Memory;
 use cpu6809::Ran;
@@ -14,9 +14,9 @@ impl Memory {
     /// instruction that the next one does not follow, as [`cpu6809::run`] does.
     pub fn run(&mut self, p: Pid, regs: &mut Regs, n: u32) -> Ran
         requires process { p.0 < 33 }
-        ensures run { (m : MemoryState) → Represents self.old m
+        ensures run { (m : MemoryState) → RepresentsMemory self.old m
             → (t : MemoryState) × RunsInMemory p.0 n result regs.old m regs.new t
-            × Represents self.new t }
+            × RepresentsMemory self.new t }
         ensures modules { modules_of self.new ≡ modules_of self.old }
     {
         cpu6809::run(regs, &mut self.maps[p.0 as usize].view(&mut self.pool), n)

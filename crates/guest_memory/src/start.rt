@@ -5,7 +5,7 @@ ghost use Rattle.os9_base.specs.Cells.{FitsIn};
 ghost use Rattle.proc_model.specs.Memory.{MemoryState};
 ghost use Rattle.proc_model.specs.MemoryChanges.{started};
 ghost use Rattle.proc_model.specs.ModuleList.{module_entry_at};
-ghost use Rattle.guest_memory.specs.Tie.{Represents, Answers, cells_of, modules_of};
+ghost use Rattle.guest_memory.specs.Tie.{RepresentsMemory, ReturnsMemoryResult, cells_of, modules_of};
 
 use crate::memory::Memory;
 use os9_base::limits::MAP_SLOTS;
@@ -26,8 +26,8 @@ impl Memory {
     pub fn start(&mut self, p: Pid, id: ModId, blocks: u8) -> Result<(), MemoryFault>
         requires process { p.0 < 33 }
         requires entered { IsSome (module_entry_at (modules_of self.old) id.0) }
-        ensures starts { (m : MemoryState) → Represents self.old m
-            → Answers (started m p.0 id.0 blocks) m result self.new }
+        ensures starts { (m : MemoryState) → RepresentsMemory self.old m
+            → ReturnsMemoryResult (started m p.0 id.0 blocks) m result self.new }
         ensures area { OnOk result (FitsIn (cells_of self.new p.0) 0 (8192 * blocks)) }
         ensures links { OnOk result (IsSomeAnd (module_entry_at (modules_of self.new) id.0)
             (λ entry. entry.links < 65535)) }

@@ -17,7 +17,7 @@ use Rattle.proc_model.specs.declared.module.ModuleStep.TheVariants.{Module}
 use Rattle.guest_mods.specs.declared.load.Load.{Load}
 use Rattle.module_format.specs.GuestModule.{guest_info}
 use Rattle.guest_mods.specs.Stress.{IsLoad, sysgo_code, worker_code, sysgo_module, worker_module, stress_file}
-use Rattle.guest_mods.specs.Accepted.{IsAccepted}
+use Rattle.guest_mods.specs.Accepted.{IsBootableFile}
 use Rattle.module_format.proofs.ModuleLemmas.{guest_module-is, guest_info-is, length-guest_module}
 use Rattle.guest_mods.proofs.BehindLemmas.{step-module, step-end}
 use Rattle.guest_mods.proofs.StressLemmas.{length-sysgo_code, length-worker_code, few-lengths}
@@ -106,7 +106,7 @@ module _ (load : Load) (is : IsLoad load) where
       let one : file_blocks file ≡ 1 = omega (arith, length-stress_file, few-lengths load is) in
       subst (λ n. (m : MemoryState) × (started (memory n) 2 0 1 ≡ Ok m)) (sym one) (with_first_slots (memory 1) 2 (range_with_len 0 1) 1, refl)
 
-  pub accepted : IsAccepted file 64
+  pub accepted : IsBootableFile file 64
   accepted = record {
     entries = entries (range_with_len 0 (file_blocks file));
     number = 0;

@@ -12,7 +12,7 @@ use Rattle.rbf_model.specs.Disk.{Disk, disk_of}
 use Rattle.rbf_model.specs.Segments.{AreDistinct, has, sectors_of}
 use Rattle.rbf_model.specs.File.{DiskFile, file_at, is_directory, is_directory_size, has_room}
 use Rattle.rbf_model.specs.Space.{is_marked, owned, owns, has_cluster}
-use Rattle.rbf_model.specs.Tree.{dot, dot_dot, HasEntry, EntryNames, Reached, root, named, Links, IsEntry, of_root, HasDots, parent_first, HasNames, HasDifferentNames, IsProper}
+use Rattle.rbf_model.specs.Tree.{dot, dot_dot, HasEntry, EntryNames, ReachedFile, root, named, Links, IsEntry, of_root, HasDots, parent_first, HasEntryNames, HasDifferentNames, IsProper}
 use Rattle.rbf_model.specs.Search.{is_searchable, searchable_bytes, IsReachedOn}
 use Rattle.rbf_model.specs.Keeps.{Keeps}
 use Rattle.rbf_model.proofs.Lists.{four_pass, first_fails}
@@ -40,7 +40,7 @@ few-entries i entry = let within = entry.within in omega (arith, length-root_ent
 proper : IsProper boot_name
 proper = record { not_self = λ same. cc; not_parent = λ same. cc }
 
-root-names : HasNames root_entries
+root-names : HasEntryNames root_entries
 root-names i after entry =
     let few = few-entries i entry in
     let at : i ≡ 2 = omega arith in
@@ -52,7 +52,7 @@ root-different i j one other after behind entry next is was same =
     let fewer = few-entries j next in
     omega arith
 
-none-names : HasNames []
+none-names : HasEntryNames []
 none-names i after entry = absurd (let within = entry.within in omega arith)
 
 none-different : HasDifferentNames []
@@ -144,7 +144,7 @@ module _ (disk : ℕ → List ℕ) (file : List ℕ) (parts : HasParts disk file
   entries-of-file : (i n : ℕ) → EntryNames (searchable_bytes on 5) i n → ⊥
   entries-of-file i n names = no-entry i n (subst (λ bytes. EntryNames bytes i n) file-bytes names)
 
-  pub reached : {n : ℕ} → Reached boot_geometry (searchable_bytes on) n → (n ≡ 3) ⊎ (n ≡ 5)
+  pub reached : {n : ℕ} → ReachedFile boot_geometry (searchable_bytes on) n → (n ≡ 3) ⊎ (n ≡ 5)
   reached root = inl refl
   reached (named {d = d} {i = i} {n = n} from names number) =
       ⊎_elim
@@ -273,7 +273,7 @@ module _ (disk : ℕ → List ℕ) (file : List ℕ) (parts : HasParts disk file
     root = root-directory;
     sizes = directory-only-root (λ n. is_directory_size (size_field (disk n)) ≡ true) root-sizes;
     dots = directory-only-root (HasDots boot_geometry (searchable_bytes on)) root-dots;
-    names = of-each (λ d. HasNames (searchable_bytes on d)) (subst HasNames (sym root-bytes) root-names) (subst HasNames (sym file-bytes) none-names);
+    names = of-each (λ d. HasEntryNames (searchable_bytes on d)) (subst HasEntryNames (sym root-bytes) root-names) (subst HasEntryNames (sym file-bytes) none-names);
     different = of-each (λ d. HasDifferentNames (searchable_bytes on d)) (subst HasDifferentNames (sym root-bytes) root-different) (subst HasDifferentNames (sym file-bytes) none-different);
     named_once = λ d e i j n one other.
         let a = links-are d i n one in

@@ -11,7 +11,7 @@ use Rattle.rbf_model.specs.Disk.{disk_of}
 use Rattle.rbf_model.specs.File.{file_at}
 use Rattle.rbf_model.specs.Segments.{has}
 use Rattle.rbf_model.specs.Space.{is_whole, is_marked, has_cluster}
-use Rattle.rbf_model.specs.Search.{IsFound, IsReachedOn, image_volume}
+use Rattle.rbf_model.specs.Search.{IsListOfReached, IsReachedOn, image_volume}
 use Rattle.rbf_model.specs.Keeps.{Keeps}
 use Rattle.rbf_model.specs.Volume.{Vol}
 use Rattle.rbf_model.proofs.Images.{vol_from_keeps}
@@ -56,15 +56,15 @@ module _ (file : List ℕ) (some : 1 ≤ length file) (short : length file ≤ 5
     fits = omega (arith, image-long file short, total);
   }
 
-  found-there : IsFound (disk_of boot_geometry (sector image)) numbers
+  found-there : IsListOfReached (disk_of boot_geometry (sector image)) numbers
   found-there n = (
     λ h. ⊎_elim (λ at. subst (IsReachedOn (disk_of boot_geometry (sector image))) (sym at) (reached-root (sector image) file parts))
         (λ at. subst (IsReachedOn (disk_of boot_geometry (sector image))) (sym at) (reached-file (sector image) file parts)) (number-is n h),
     λ is. ⊎_elim (λ at. subst (λ m. has numbers m ≡ true) (sym at) refl) (λ at. subst (λ m. has numbers m ≡ true) (sym at) refl) (reached (sector image) file parts is),
   )
 
-  found : IsFound (disk_of (image_geometry image) (sector image)) numbers
-  found = subst (λ (g : Geometry). IsFound (disk_of g (sector image)) numbers) (sym (image-geometry file some short)) found-there
+  found : IsListOfReached (disk_of (image_geometry image) (sector image)) numbers
+  found = subst (λ (g : Geometry). IsListOfReached (disk_of g (sector image)) numbers) (sym (image-geometry file some short)) found-there
 
   kept : Keeps (disk_of (image_geometry image) (sector image))
   kept = subst (λ (g : Geometry). Keeps (disk_of g (sector image))) (sym (image-geometry file some short)) (keeps (sector image) file parts)

@@ -10,7 +10,7 @@ use Rattle.proc_model.specs.Objects.{file_blocks, file_objects}
 
 -- all modules of the file are entered, and one of them is the program SysGo, the first that a machine runs; in a
 -- machine with this number of blocks the first process, number 2, has room for it and for its data of one block
-pub record IsAccepted (file : List ℕ) (blocks : ℕ) : Type 0 where
+pub record IsBootableFile (file : List ℕ) (blocks : ℕ) : Type 0 where
   pub entries : List (Option ModuleEntry)
   pub number : ℕ
   pub entry : ModuleEntry

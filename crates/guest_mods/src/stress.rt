@@ -3,7 +3,7 @@ ghost use Rattle.rbf_model.specs.Geometry.{image_geometry};
 ghost use Rattle.rbf_model.specs.Volume.{Vol, free_clusters};
 ghost use Rattle.guest_mods.specs.BootDisk.{boot_image as boot_image_model, boot_volume, used_sectors, BootsFile};
 ghost use Rattle.guest_mods.specs.Stress.{IsLoad, stress_file as stress_file_model};
-ghost use Rattle.guest_mods.specs.Accepted.{IsAccepted};
+ghost use Rattle.guest_mods.specs.Accepted.{IsBootableFile};
 
 use crate::boot_image;
 use crate::load::Load;
@@ -28,7 +28,7 @@ pub fn stress_image(alloc: Global, load: &Load) -> Result<Vec<u8>, OutOfMemory>
         (boot_volume (stress_file_model load.now)))
         ≡ 4096 - used_sectors (length (stress_file_model load.now))) }
     // The machine of the command has 64 blocks.
-    ensures accepted { IsAccepted (stress_file_model load.now) 64 }
+    ensures accepted { IsBootableFile (stress_file_model load.now) 64 }
 {
     let file = stress_file(alloc, load)?;
     boot_image(alloc, &file)

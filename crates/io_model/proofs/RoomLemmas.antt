@@ -2,12 +2,12 @@
 use Rattle.std.proofs.Common.{◌≡◌, ℕ, ◌+◌, ◌-◌, ◌<◌, ◌==◌, ◌&&◌, ◌||◌, ◌≢◌, nat_lt, Bool, true, false, Some, None, [], ◌∷◌, ◌++◌, length, take, if◌then◌else◌, arith, length-append, length-take, refl}
 use Rattle.std.proofs.lemmas.Bool.{ltb-true}
 use Rattle.std.proofs.lemmas.Bool.Decides.{nat_tests}
-use Rattle.io_model.specs.Edit.{Editing, Edited, HasRoom, edited, copied, backspaced, deleted, duplicated, returned, escaped, typed_key, refused_key, file_ended, moved, is_last_byte, is_empty_line}
+use Rattle.io_model.specs.Edit.{Editing, Edited, HasLineRoom, edited, copied, backspaced, deleted, duplicated, returned, escaped, typed_key, refused_key, file_ended, moved, is_last_byte, is_empty_line}
 use Rattle.io_model.specs.declared.edit.LineEnd.TheVariants.{Line}
 
 -- the key leaves a line with room
 abbrev Leaves : ℕ → Edited → Type 0
-Leaves most key = HasRoom most key.end key.line
+Leaves most key = HasLineRoom most key.end key.line
 
 either : (most : ℕ) (b : Bool) (one other : Edited) → (b ≡ true → Leaves most one) → Leaves most other → Leaves most (if b then one else other)
 either most true one other h k = h refl
@@ -48,7 +48,7 @@ module _ (most : ℕ) (line : Editing) (room : length line.bytes < most) where
       < most - 1 = ltb-true _ _ below in let longer : length (line.bytes ++ key ∷ []) < most = omega
       (arith, length-append line.bytes (key ∷ [])) in record { more = longer; within = omega arith }) as_it_was
 
-  moved-more : (key : ℕ) (last : Bool) → (last ≡ false → length line.bytes + 1 ≢ most) → HasRoom most (if last then Some Line else None) (record line { bytes = line.bytes ++ key ∷ [] })
+  moved-more : (key : ℕ) (last : Bool) → (last ≡ false → length line.bytes + 1 ≢ most) → HasLineRoom most (if last then Some Line else None) (record line { bytes = line.bytes ++ key ∷ [] })
   moved-more key true other = record { more = tt; within = omega (arith, length-append line.bytes (key ∷ [])) }
   moved-more key false other =
       let differs : length line.bytes + 1 ≢ most = other refl in

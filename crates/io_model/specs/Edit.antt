@@ -17,7 +17,7 @@ pub record Edited : Type 0 where
   pub end : Option LineEnd
 
 -- the line has room: for one more byte if typing goes on, else for its own bytes
-pub record HasRoom (most : ℕ) (end : Option LineEnd) (line : Editing) : Type 0 where
+pub record HasLineRoom (most : ℕ) (end : Option LineEnd) (line : Editing) : Type 0 where
   pub more : IfNone end (length line.bytes < most)
   pub within : length line.bytes ≤ most
 

@@ -108,7 +108,7 @@ pub record Arrives (tick : ℕ) (old new : Terminal) (before now : TerminalState
 abbrev pub driver_with : List Key → List ℕ → ℕ → TerminalState
 driver_with keys put faults = record { keys = keys; put = Some put; faults = faults }
 
--- Reads.
+-- ReadAttempted.
 
 -- what a key makes of a line, by the kind of the read and the number of bytes that it asks for
 abbrev pub effect_by : ReadKind → ℕ → Editing → ℕ → Edited
@@ -190,7 +190,7 @@ last_effect request line front key = key_effect request (typed request line fron
 
 -- A read whose echo was refused: it used the keys up to the one whose echo failed and no others. The echo of the keys
 -- before that one is out, and a part of its own echo. If that key ended a line, this line is the last finished one.
-pub record BreaksOff (request : Reading) (old new : Terminal) (before now : TerminalState) : Type 0 where
+pub record BreaksOffEcho (request : Reading) (old new : Terminal) (before now : TerminalState) : Type 0 where
   pub front : List ℕ  -- the keys before the one whose echo failed
   pub key : ℕ  -- the key whose echo failed
   pub rest : List ℕ  -- the keys that are not used
@@ -229,9 +229,9 @@ abbrev pub stored_over : List ℕ → List ℕ → List ℕ
 stored_over bytes buffer = bytes ++ drop (length bytes) buffer
 
 -- an attempt of a read had this answer
-pub record Reads (request : Reading) (answer : Progress) (old new : Terminal) (before now : TerminalState)
+pub record ReadAttempted (request : Reading) (answer : Progress) (old new : Terminal) (before now : TerminalState)
     : Type 0 where
-  pub outcome : MatchBool (is_refused answer) (BreaksOff request old new before now)
+  pub outcome : MatchBool (is_refused answer) (BreaksOffEcho request old new before now)
       (Attempted (read_attempt request old) answer new before now)
   pub turn : is_refused answer ≡ true → is_taken request.process old ≡ false
   pub driver : LeavesDriver answer before now
@@ -240,27 +240,28 @@ pub record Reads (request : Reading) (answer : Progress) (old new : Terminal) (b
 abbrev pub stored_bytes : Progress → Reading → Terminal → List ℕ
 stored_bytes answer request t = if is_refused answer then [] else (read_attempt request t).stored
 
--- Writes.
+-- WriteAttempted.
 
 -- the terminal got a part of these bytes: at least one of them was refused
 abbrev pub PutsPart : List ℕ → TerminalState → TerminalState → Type 0
 PutsPart bytes before now = GainsPart before.put bytes now.put
 
 -- a write was done: these bytes are out, and it returns this count
-pub record IsWritten (process : Pid) (bytes : List ℕ) (count : ℕ) (answer : Progress) (old new : Terminal)
+pub record IsOutputWritten (process : Pid) (bytes : List ℕ) (count : ℕ) (answer : Progress) (old new : Terminal)
     (before now : TerminalState) : Type 0 where
   pub answer_is : answer ≡ Done count
   pub terminal : new ≡ used_by process old
   pub put : now.put ≡ stream_with before.put bytes
 
 -- a byte of a write was refused: a part of the bytes is out, and there is no unfinished read
-pub record IsCutShort (process : Pid) (bytes : List ℕ) (old new : Terminal) (before now : TerminalState) : Type 0 where
-  pub terminal : new ≡ without_reading (used_by process old)
-  pub part : PutsPart bytes before now
+pub record IsOutputCutShort (process : Pid) (bytes : List ℕ) (old new : Terminal) (before now : TerminalState) : Type 0
+  where
+    pub terminal : new ≡ without_reading (used_by process old)
+    pub part : PutsPart bytes before now
 
 -- a write of these bytes had this answer; if it was done, it returned this count
-pub record Writes (process : Pid) (bytes : List ℕ) (count : ℕ) (answer : Progress) (old new : Terminal)
+pub record WriteAttempted (process : Pid) (bytes : List ℕ) (count : ℕ) (answer : Progress) (old new : Terminal)
     (before now : TerminalState) : Type 0 where
-  pub outcome : MatchBool (is_refused answer) (IsCutShort process bytes old new before now)
-      (IsWritten process bytes count answer old new before now)
+  pub outcome : MatchBool (is_refused answer) (IsOutputCutShort process bytes old new before now)
+      (IsOutputWritten process bytes count answer old new before now)
   pub driver : LeavesDriver answer before now

@@ -1,7 +1,7 @@
 //! How a line ends, and line editing as laws over every list of keys.
 
 ghost use Rattle.std.specs.Prelude.{◌≡◌, ℕ, ◌<◌, Some, None, List, [], ◌∷◌, ◌++◌, length, codes};
-ghost use Rattle.io_model.specs.Edit.{Editing, Edited, HasRoom, typing, edited, copied, after_typing, used_up, no_line, refused_key, still_typing, file_ended, line_ended, line_done};
+ghost use Rattle.io_model.specs.Edit.{Editing, Edited, HasLineRoom, typing, edited, copied, after_typing, used_up, no_line, refused_key, still_typing, file_ended, line_ended, line_done};
 
 /// What ends a read of a terminal.
 #[derive(Clone, Copy, Debug, PartialEq, Eq)]
@@ -36,9 +36,9 @@ pub fn unended_typing_uses_all()
 /// A line with room for a byte still has room after each key that does not end it.
 pub fn typing_keeps_room()
     ensures whole_line { (most : ℕ) (line : Editing) (key : ℕ) → length line.bytes < most →
-        HasRoom most (edited most line key).end (edited most line key).line }
+        HasLineRoom most (edited most line key).end (edited most line key).line }
     ensures bytes { (most : ℕ) (line : Editing) (key : ℕ) → length line.bytes < most →
-        HasRoom most (copied most line key).end (copied most line key).line }
+        HasLineRoom most (copied most line key).end (copied most line key).line }
 {}
 
 /// Two lines, typed one after another: one with a byte erased, and one that is deleted and typed

@@ -17,7 +17,7 @@ use Rattle.io_state.proofs.HeldLemmas.{slot-held}
 use Rattle.io_state.proofs.WaitLemmas.{none-some, some-same, reading-moves}
 use Rattle.io_state.specs.Again.{IsAgain, IsPending, path_number}
 use Rattle.io_state.specs.Sound.{IsIo, MayWait, target_at, read_kind, read_kind_of}
-use Rattle.io_state.specs.Terminals.{MayRead}
+use Rattle.io_state.specs.Terminals.{MayReadTerminal}
 
 opened-desc : (io : Io) (path : SysPath) (opened : OpenPath) (desc : Option Desc) → desc_of io.paths path.0 ≡ desc
     → option_map (λ (desc : Desc). record { path = path; desc = desc }) desc ≡ Some opened → (path ≡ opened.path) ×
@@ -63,7 +63,7 @@ something {X} o x e = subst (λ (o : Option X). IsSome o) (sym e) refl
 pub may-read : (io : Io) (p m number : ℕ) (kind : ReadKind) (call : IoCall) (regs : Regs) (opened : OpenPath)
     (code count : ℕ) → IsIo io → IsAgain call regs io p → path_number call regs ≡ number → open_path io p number ≡
     Some opened → opened.desc.target ≡ Term m → io_call_of code ≡ Some call → read_kind_of call ≡ Some kind
-    → 0 < count → MayRead io p m kind (unwrap_or (pending_at io p) (first_call code opened count))
+    → 0 < count → MayReadTerminal io p m kind (unwrap_or (pending_at io p) (first_call code opened count))
 may-read io p m number kind call regs opened code count is again same named on coded reads some = by (pending_at io p) refl again
   where
     kind_is : read_kind code ≡ Some kind
@@ -75,7 +75,7 @@ may-read io p m number kind call regs opened code count is again same named on c
     here : target_at io.paths opened.path.0 ≡ Some (Term m)
     here = opened-target io p number opened named ∙ ap (λ (x : Target). Some x) on
 
-    by : (pending : Option PendingCall) → pending_at io p ≡ pending → IfSome pending (IsPending call regs io p) → MayRead io p m kind (unwrap_or pending (first_call code opened count))
+    by : (pending : Option PendingCall) → pending_at io p ≡ pending → IfSome pending (IsPending call regs io p) → MayReadTerminal io p m kind (unwrap_or pending (first_call code opened count))
     by None none again = record {
       may = may-wait io p number opened code 0 count named (something (direction_of code) Way.Reading moves) some (λ n e. moves);
       on = here;

@@ -8,7 +8,7 @@ use Rattle.os9_outer.specs.TerminalState.{TerminalState}
 use Rattle.io_model.specs.Edit.{Typing}
 use Rattle.io_model.specs.Pending.{pending_of, with_pending}
 use Rattle.io_model.specs.Path.{PathTable, ArePaths, desc_of, holds_path, paths_after_begin, paths_after_dup, paths_after_close, paths_after_inherit}
-use Rattle.io_model.specs.Terminal.{Terminal, new_terminal, Reads, Writes, IsCutShort, IsWritten, BreaksOff, Attempted, IsSameCall, is_refused, is_taken, read_attempt, kept_waiting, typed_attempt, attempt_by, typed, stored_bytes, stored_over, is_process, without_reading, released, forgotten}
+use Rattle.io_model.specs.Terminal.{Terminal, new_terminal, ReadAttempted, WriteAttempted, IsOutputCutShort, IsOutputWritten, BreaksOffEcho, Attempted, IsSameCall, is_refused, is_taken, read_attempt, kept_waiting, typed_attempt, attempt_by, typed, stored_bytes, stored_over, is_process, without_reading, released, forgotten}
 use Rattle.io_model.specs.declared.edit.LineEnd.{LineEnd}
 use Rattle.io_model.specs.declared.edit.LineEnd.TheVariants.{Line, EndOfFile}
 use Rattle.io_model.specs.declared.pending.PendingCall.{PendingCall}
@@ -27,8 +27,8 @@ use Rattle.io_model.specs.declared.io_call.IoCall.{IoCall}
 use Rattle.io_model.specs.declared.io_call.IoCall.TheVariants as Call
 use Rattle.terminal_mgr.specs.Term.{read_of}
 use Rattle.io_state.proofs.HeldLemmas.{IsHeldStill, begun-still, doubled-still, closed-still, inherited-still, held-there}
-use Rattle.io_state.specs.Sound.{AreWaits, MayWait, SetsStatus, IsReadOf, IsWaitedFor, IsNoRead, read_kind, read_kind_of, most_of, target_at}
-use Rattle.io_state.specs.Terminals.{MayRead, count_of, pending_after}
+use Rattle.io_state.specs.Sound.{AreWaits, MayWait, SetsStatus, MakesTerminalRead, IsWaitedFor, IsNoRead, read_kind, read_kind_of, most_of, target_at}
+use Rattle.io_state.specs.Terminals.{MayReadTerminal, count_of, pending_after}
 
 abbrev nothing : {X : Type 0} → Option X
 nothing = None
@@ -190,7 +190,7 @@ if-some {X} (Some y) x P holds e = subst (λ (z : X). P z) (some-same y x e) hol
 
 -- the call that is kept of the process of an unfinished read
 kept-of : (io : Io) (p n : ℕ) (reading : Reading) → AreWaits io → (terminal_at io n).reading ≡ Some reading
-    → reading.process.0 ≡ p → (call : PendingCall) × (pending_at io p ≡ Some call) × IsReadOf io.paths n reading call
+    → reading.process.0 ≡ p → (call : PendingCall) × (pending_at io p ≡ Some call) × MakesTerminalRead io.paths n reading call
 kept-of io p n reading are is same =
     let was = are.reads n reading is in
     (was.call, ap (λ (k : ℕ). pending_at io k) (sym same) ∙ was.kept, was.read)
@@ -225,31 +225,31 @@ attempt-leaves false request answer old new a b =
     typed-leaves (typed request old.line old.ahead).end (typed request old.line old.ahead) request answer old new a b
 
 outcome-leaves : (refused : Bool) (request : Reading) (answer : Progress) (old new : Terminal)
-    (before now : TerminalState) → MatchBool refused (BreaksOff request old new before now)
+    (before now : TerminalState) → MatchBool refused (BreaksOffEcho request old new before now)
     (Attempted (read_attempt request old) answer new before now) → Leaves request answer old new
 outcome-leaves true request answer old new before now outcome = over (ap (λ (x : Terminal). x.reading) outcome.terminal)
 outcome-leaves false request answer old new before now outcome =
     attempt-leaves (is_taken request.process old) request answer old new outcome.answer_is outcome.terminal
 
-pub read-leaves : (request : Reading) (answer : Progress) (old new : Terminal) (before now : TerminalState) → Reads request answer old new before now → Leaves request answer old new
+pub read-leaves : (request : Reading) (answer : Progress) (old new : Terminal) (before now : TerminalState) → ReadAttempted request answer old new before now → Leaves request answer old new
 read-leaves request answer old new before now reads =
     outcome-leaves (is_refused answer) request answer old new before now reads.outcome
 
 -- the unfinished read of such a process is that of the call, and on that terminal
-reader-is : (io : Io) (p n m : ℕ) (kind : ReadKind) (call : PendingCall) (reading : Reading) → MayRead io p n kind call
-    → AreWaits io → (terminal_at io m).reading ≡ Some reading → reading.process.0 ≡ p → (m ≡ n) × IsReadOf io.paths m
+reader-is : (io : Io) (p n m : ℕ) (kind : ReadKind) (call : PendingCall) (reading : Reading) → MayReadTerminal io p n kind call
+    → AreWaits io → (terminal_at io m).reading ≡ Some reading → reading.process.0 ≡ p → (m ≡ n) × MakesTerminalRead io.paths m
     reading call
 reader-is io p n m kind call reading may are is same =
     let was = kept-of io p m reading are is same in
     let here : was.0 ≡ call = if-some (pending_at io p) was.0 (λ (kept : PendingCall). kept ≡ call) may.same was.1 in
-    let read : IsReadOf io.paths m reading call = subst (λ (k : PendingCall). IsReadOf io.paths m reading k) here was.2 in
+    let read : MakesTerminalRead io.paths m reading call = subst (λ (k : PendingCall). MakesTerminalRead io.paths m reading k) here was.2 in
     ((let on : Some (Term m) ≡ Some (Term n) = sym read.on ∙ may.on in cc), read)
 
 reading-same : (reading : Reading) (process : Pid) (kind : ReadKind) (most : ℕ) → reading.process ≡ process → reading.kind ≡ kind → reading.most ≡ most → reading ≡ read_of process kind most
 reading-same reading process kind most a b c = λ i. record { process = a i; kind = b i; most = c i }
 
 -- it is the same read
-pub same-read : (io : Io) (p n : ℕ) (kind : ReadKind) (call : PendingCall) → MayRead io p n kind call → AreWaits io → IsSameCall (read_of (pid p) kind (most_of call)) (terminal_at io n)
+pub same-read : (io : Io) (p n : ℕ) (kind : ReadKind) (call : PendingCall) → MayReadTerminal io p n kind call → AreWaits io → IsSameCall (read_of (pid p) kind (most_of call)) (terminal_at io n)
 same-read io p n kind call may are = by (terminal_at io n).reading refl
   where
     by : (reading : Option Reading) → (terminal_at io n).reading ≡ reading → IfSome reading (λ reading. reading.process ≡ pid p → reading ≡ read_of (pid p) kind (most_of call))
@@ -262,7 +262,7 @@ call-same : (io : Io) (p q : ℕ) (call : Option PendingCall) → q ≡ p → p 
 call-same io p q call same within =
     ap (λ (k : ℕ). get_or (set io.calls p call) k None) same ∙ get_or-set_same io.calls p call None within
 
-kept-may : (io : Io) (p n : ℕ) (kind : ReadKind) (call : PendingCall) (answer : Progress) → MayRead io p n kind call → (now : PendingCall) → pending_after answer call ≡ Some now
+kept-may : (io : Io) (p n : ℕ) (kind : ReadKind) (call : PendingCall) (answer : Progress) → MayReadTerminal io p n kind call → (now : PendingCall) → pending_after answer call ≡ Some now
     → MayWait io.paths p now
 kept-may io p n kind call (progress.Done count) may now e = absurd (none-some now e)
 kept-may io p n kind call progress.Wait may now e =
@@ -273,11 +273,11 @@ kept-may io p n kind call progress.NoMemory may now e = absurd (none-some now e)
 
 -- the read is over
 over-waits : (io : Io) (p n : ℕ) (kind : ReadKind) (call : PendingCall) (kept : Option PendingCall) (t : Terminal)
-    → p < length io.calls → n < length io.terminals → MayRead io p n kind call → ((now : PendingCall) → kept ≡ Some now
+    → p < length io.calls → n < length io.terminals → MayReadTerminal io p n kind call → ((now : PendingCall) → kept ≡ Some now
     → MayWait io.paths p now) → t.reading ≡ None → AreWaits io → AreWaits (with_call (with_terminal io n t) p kept)
 over-waits io p n kind call kept t process terminal may allowed none are =
     let gone = waits-read_gone io n t none are in
-    let may' : MayRead (with_terminal io n t) p n kind call =
+    let may' : MayReadTerminal (with_terminal io n t) p n kind call =
     record { may = may.may; on = may.on; kind_is = may.kind_is; same = may.same } in
     waits-kept (with_terminal io n t) p kept process allowed (λ m reading is same.
     let here = (reader-is (with_terminal io n t) p n m kind call reading may' gone is same).0 in
@@ -285,7 +285,7 @@ over-waits io p n kind call kept t process terminal may allowed none are =
 
 -- the read waits
 waiting-waits : (io : Io) (p n : ℕ) (kind : ReadKind) (call : PendingCall) (t : Terminal) → p < length io.calls
-    → MayRead io p n kind call → (t.reading ≡ Some (read_of (pid p) kind (most_of call))) ⊎
+    → MayReadTerminal io p n kind call → (t.reading ≡ Some (read_of (pid p) kind (most_of call))) ⊎
     (t.reading ≡ (terminal_at io n).reading) → AreWaits io → AreWaits (with_call (with_terminal io n t) p (Some call))
 waiting-waits io p n kind call t process may leaves are =
     waits-with_terminal (with_call io p (Some call)) n t (λ reading is. elim leaves [
@@ -309,7 +309,7 @@ waiting-waits io p n kind call t process may leaves are =
 
 -- after an attempt of a read
 pub waits-after_read : (io : Io) (p n : ℕ) (kind : ReadKind) (call : PendingCall) (t : Terminal) (answer : Progress)
-    → p < length io.calls → n < length io.terminals → MayRead io p n kind call
+    → p < length io.calls → n < length io.terminals → MayReadTerminal io p n kind call
     → Leaves (read_of (pid p) kind (most_of call)) answer (terminal_at io n) t → AreWaits io
     → AreWaits (with_call (with_terminal io n t) p (pending_after answer call))
 waits-after_read io p n kind call t answer process terminal may (over none) are =
@@ -323,12 +323,12 @@ waits-after_read io p n kind call t answer process terminal may (waits wait is) 
 
 -- what a write leaves of the unfinished read
 pub write-leaves : (process : Pid) (bytes : List ℕ) (count : ℕ) (answer : Progress) (old new : Terminal)
-    (before now : TerminalState) → Writes process bytes count answer old new before now → (new.reading ≡ None) ⊎
+    (before now : TerminalState) → WriteAttempted process bytes count answer old new before now → (new.reading ≡ None) ⊎
     (new.reading ≡ old.reading)
 write-leaves process bytes count answer old new before now writes = by (is_refused answer) writes.outcome
   where
-    by : (refused : Bool) → MatchBool refused (IsCutShort process bytes old new before now)
-        (IsWritten process bytes count answer old new before now) → (new.reading ≡ None) ⊎ (new.reading ≡ old.reading)
+    by : (refused : Bool) → MatchBool refused (IsOutputCutShort process bytes old new before now)
+        (IsOutputWritten process bytes count answer old new before now) → (new.reading ≡ None) ⊎ (new.reading ≡ old.reading)
     by true outcome = inl (ap (λ (x : Terminal). x.reading) outcome.terminal)
     by false outcome = inr (ap (λ (x : Terminal). x.reading) outcome.terminal)
 
@@ -370,10 +370,10 @@ attempt-count false request old =
 
 -- an attempt of a read answers how many bytes it stores
 pub stored-count : (request : Reading) (answer : Progress) (old new : Terminal) (before now : TerminalState)
-    → Reads request answer old new before now → length (stored_bytes answer request old) ≡ count_of answer
+    → ReadAttempted request answer old new before now → length (stored_bytes answer request old) ≡ count_of answer
 stored-count request answer old new before now reads = by (is_refused answer) refl reads.outcome
   where
-    by : (refused : Bool) → is_refused answer ≡ refused → MatchBool refused (BreaksOff request old new before now)
+    by : (refused : Bool) → is_refused answer ≡ refused → MatchBool refused (BreaksOffEcho request old new before now)
         (Attempted (read_attempt request old) answer new before now)
         → length (if refused then [] else (read_attempt request old).stored) ≡ count_of answer
     by true e outcome = refused-count answer e

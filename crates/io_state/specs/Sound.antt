@@ -68,17 +68,17 @@ pub record MayWait (paths : PathTable) (p : ℕ) (call : PendingCall) : Type 0 w
   pub reads : (n : ℕ) → target_at paths call.path.0 ≡ Some (Term n) → direction_of call.code ≡ Some Way.Reading
 
 -- this call makes this read of a terminal
-pub record IsReadOf (paths : PathTable) (n : ℕ) (reading : Reading) (call : PendingCall) : Type 0 where
+pub record MakesTerminalRead (paths : PathTable) (n : ℕ) (reading : Reading) (call : PendingCall) : Type 0 where
   pub on : target_at paths call.path.0 ≡ Some (Term n)
   pub kind : read_kind call.code ≡ Some reading.kind
   pub most : most_of call ≡ reading.most
 
 -- the process of an unfinished read of a terminal waits in the call that makes it
-pub record IsWaitedFor (paths : PathTable) (calls : List (Option PendingCall)) (n : ℕ) (reading : Reading) : Type
-    0 where
+pub record IsWaitedFor (paths : PathTable) (calls : List (Option PendingCall)) (n : ℕ) (reading : Reading)
+    : Type 0 where
   pub call : PendingCall
   pub kept : pending_of calls reading.process.0 ≡ Some call
-  pub read : IsReadOf paths n reading call
+  pub read : MakesTerminalRead paths n reading call
 
 -- the invariant of the pending calls and of the unfinished reads
 pub record AreWaits (io : Io) : Type 0 where

@@ -34,7 +34,7 @@ count_of NoMemory = 0
 
 -- a process may attempt a read of this terminal in this call: it may wait in it, and it is the pending call, if there
 -- is one
-pub record MayRead (io : Io) (p n : ℕ) (kind : ReadKind) (call : PendingCall) : Type 0 where
+pub record MayReadTerminal (io : Io) (p n : ℕ) (kind : ReadKind) (call : PendingCall) : Type 0 where
   pub may : MayWait io.paths p call
   pub on : target_at io.paths call.path.0 ≡ Some (Term n)
   pub kind_is : read_kind call.code ≡ Some kind

@@ -16,7 +16,7 @@ use Rattle.proc_model.specs.declared.proc_call.ProcCall.TheVariants as Call
 use Rattle.file_rules.specs.Load.{Loaded}
 use Rattle.file_rules.specs.ProgramFile.{ProgramFile}
 use Rattle.machine_model.specs.declared.ends.EventEnd.TheVariants.{Ran}
-use Rattle.call_laws.specs.Modules.{LeavesMemory, StaysEntered, ModuleComesOf as ComesOfEntered}
+use Rattle.call_laws.specs.Modules.{LeavesWithLastLink, StaysEntered, ModuleStaysOrLeaves as ComesOfEntered}
 use Rattle.call_laws.specs.NewObjects.{IsParameter}
 use Rattle.call_laws.specs.Objects.{IsNewOrShared, KeepsToItself}
 use Rattle.call_laws.specs.Others.{AttemptsCall, CallsOn, ComesOf, GetsSignal, GetsWake, turns_of_others}
@@ -24,9 +24,9 @@ use Rattle.call_laws.proofs.MemoryKept.{HoldOnly}
 use Rattle.call_laws.proofs.ModulesKept.{HasMore}
 use Rattle.machine_model.specs.State.{State}
 use Rattle.isolation_laws.specs.Isolation.{LeavesOthers}
-use Rattle.isolation_laws.specs.Links.{ChangesLinks}
+use Rattle.isolation_laws.specs.Links.{ChangesLinksOrLoads}
 use Rattle.isolation_laws.specs.Loading.{LoadsFile}
-use Rattle.isolation_laws.specs.Modules.{LeavesWithFile, ModuleComesOf}
+use Rattle.isolation_laws.specs.Modules.{LeavesWithFile, ModuleEntryChange}
 use Rattle.isolation_laws.specs.NewObjects.{HoldFile}
 use Rattle.isolation_laws.proofs.Loaded.{EnteredFrom, IsLoaded, entries-are, group-new, group-some, loaded-is, map-same, more-objects, file-block-at, old-object}
 
@@ -139,7 +139,7 @@ module _ (s : State) (p : ℕ) (file : ProgramFile) (loaded : Loaded) (loads : L
   -- what comes of a module from the loaded file on: none appears, and one leaves by F$Chain alone
   abbrev pub ComesLoaded : Option ModuleEntry → Option ModuleEntry → Type 0
   ComesLoaded (Some old) (Some new) = StaysEntered old new
-  ComesLoaded (Some old) None = LeavesMemory loaded.memory.modules old × AttemptsCall s.processes p Call.Chain
+  ComesLoaded (Some old) None = LeavesWithLastLink loaded.memory.modules old × AttemptsCall s.processes p Call.Chain
   ComesLoaded None (Some new) = ⊥
   ComesLoaded None None = Unit {0}
 
@@ -155,12 +155,13 @@ module _ (s : State) (p : ℕ) (file : ProgramFile) (loaded : Loaded) (loads : L
   loaded-chained call None (Some new) comes = absurd comes
   loaded-chained call None None comes = tt
 
-  module-leaves : (old : ModuleEntry) → LeavesMemory loaded.memory.modules old → AttemptsCall s.processes p Call.Chain → LeavesMemory s.processes.memory.modules old ⊎ LeavesWithFile s p old
+  module-leaves : (old : ModuleEntry) → LeavesWithLastLink loaded.memory.modules old → AttemptsCall s.processes p
+      Call.Chain → LeavesWithLastLink s.processes.memory.modules old ⊎ LeavesWithFile s p old
   module-leaves old gone call = by_entry (module_entry_at s.processes.memory.modules gone.number) refl (entered gone.number)
     where
       by_entry : (there : Option ModuleEntry) → module_entry_at s.processes.memory.modules gone.number ≡ there
           → EnteredFrom group there (module_entry_at loaded.memory.modules gone.number)
-          → LeavesMemory s.processes.memory.modules old ⊎ LeavesWithFile s p old
+          → LeavesWithLastLink s.processes.memory.modules old ⊎ LeavesWithFile s p old
       by_entry (Some there) at same = inl (record {
         number = gone.number;
         entry = gone.entry;
@@ -184,11 +185,11 @@ module _ (s : State) (p : ℕ) (file : ProgramFile) (loaded : Loaded) (loads : L
           })
 
   module-comes : (number : ℕ) (old mid new : Option ModuleEntry) → EnteredFrom group old mid
-      → module_entry_at loaded.memory.modules number ≡ mid → ComesLoaded mid new → ModuleComesOf s p number old new
+      → module_entry_at loaded.memory.modules number ≡ mid → ComesLoaded mid new → ModuleEntryChange s p number old new
   module-comes number (Some old) mid new same at comes =
       by_new new (subst (λ (mid : Option ModuleEntry). ComesLoaded mid new) same comes)
     where
-      by_new : (new : Option ModuleEntry) → ComesLoaded (Some old) new → ModuleComesOf s p number (Some old) new
+      by_new : (new : Option ModuleEntry) → ComesLoaded (Some old) new → ModuleEntryChange s p number (Some old) new
       by_new (Some new) stays = stays
       by_new None (gone, call) = module-leaves old gone call
   module-comes number None (Some mid) (Some new) entered at stays = record {
@@ -214,7 +215,7 @@ module _ (s : State) (p : ℕ) (file : ProgramFile) (loaded : Loaded) (loads : L
     pub others : (q : ℕ) → q ≢ p → ComesOf with-file p Ran n q (record_of s.processes.records q) (record_of n.records q)
     pub turns : turns_of_others s.processes p n.order ≡ turns_of_others s.processes p s.processes.order
     pub modules : (number : ℕ) → ComesLoaded (module_entry_at loaded.memory.modules number) (module_entry_at n.memory.modules number)
-    pub links : ChangesLinks s p Ran n.memory
+    pub links : ChangesLinksOrLoads s p Ran n.memory
 
   module _ (t : State) (left : FileLeft t.processes) where
     object-kept : (object : ℕ) → object < length s.processes.memory.objects → slice_get t.processes.memory.objects object ≡ slice_get s.processes.memory.objects object

@@ -8,7 +8,7 @@ use Rattle.proc_model.specs.Processes.{Processes, regs_at}
 use Rattle.proc_model.specs.Program.{asks_for_program}
 use Rattle.io_model.specs.PathList.{PathList}
 use Rattle.file_rules.specs.Attempts.{asker_of}
-use Rattle.file_rules.specs.Files.{Files, NoneFailed}
+use Rattle.file_rules.specs.Files.{Files, KeepsDriveFaults}
 use Rattle.file_rules.specs.Program.{parameters_of, tests_program}
 use Rattle.file_rules.specs.ProgramFile.{ProgramFile, ReadingIsBroken, ReadsProgram, program_file, program_on_route, reading_of}
 use Rattle.file_rules.specs.Step.{Step, refused, refuses}
@@ -45,7 +45,7 @@ module _ (s : State) (p : ℕ) (now : TimePacket) (file : ProgramFile) (new : Fi
   reading-is : (step : Step ProgramFile) → ReadsProgram step (Ok file) s.files new → reading_of step ≡ Ok file
   reading-is step it = by_outcome it.outcome
     where
-      by_outcome : ((Ok file ≡ reading_of step) × NoneFailed s.files.drives it.drives) ⊎ ReadingIsBroken step (Ok file) s.files.drives it.drives → reading_of step ≡ Ok file
+      by_outcome : ((Ok file ≡ reading_of step) × KeepsDriveFaults s.files.drives it.drives) ⊎ ReadingIsBroken step (Ok file) s.files.drives it.drives → reading_of step ≡ Ok file
       by_outcome (inl (is, none)) = sym is
       by_outcome (inr broken) = let is = broken.is in absurd cc
 

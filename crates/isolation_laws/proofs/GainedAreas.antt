@@ -35,7 +35,7 @@ use Rattle.file_rules.specs.ProgramFile.{ProgramFile}
 use Rattle.time_rules.specs.Attempts.{result_of, time_step}
 use Rattle.machine_model.specs.ProcessEvent.{after_instruction, next_instruction}
 use Rattle.machine_model.specs.declared.ends.EventEnd.{EventEnd}
-use Rattle.call_laws.specs.Modules.{KeepsModules}
+use Rattle.call_laws.specs.Modules.{FollowsLinkRules}
 use Rattle.call_laws.specs.Objects.{Appears, IsNewOrShared, IsOfModule}
 use Rattle.call_laws.specs.Others.{AttemptsCall}
 use Rattle.call_laws.proofs.CallsKept.{AttemptLeft, left-refused}
@@ -74,7 +74,7 @@ chains-alone m p (code, next, is) (other, next_too, is_too) = cc
 
 -- where no module is entered
 module _ (m : Processes) (p : ℕ) (names : NameAppeared m) where
-  apart-by : (n : Processes) → KeepsModules m.memory.modules n.memory.modules → AreasApart m p n
+  apart-by : (n : Processes) → FollowsLinkRules m.memory.modules n.memory.modules → AreasApart m p n
   apart-by n keeps r object may area appears = inr (λ grouped. (
       let below = names.groups object (was-shared m.memory n.memory object keeps grouped) in
       let late = appears.0 in
@@ -151,7 +151,7 @@ module _ (s : State) (p : ℕ) (names : NameAppeared s.processes) (file : Progra
       by_place (inr shared) =
           omega (arith, names.groups object shared, more-objects s.processes.memory file.bytes loaded (is-loaded s p file loaded it))
 
-  late-apart : (n : MemoryState) → KeepsModules loaded.memory.modules n.modules → (object : ℕ) → length loaded.memory.objects ≤ object → IsOfModule n object → ⊥
+  late-apart : (n : MemoryState) → FollowsLinkRules loaded.memory.modules n.modules → (object : ℕ) → length loaded.memory.objects ≤ object → IsOfModule n object → ⊥
   late-apart n keeps object late grouped =
       let below = loaded-below object (was-shared loaded.memory n object keeps grouped) in omega (arith, below, late)
 

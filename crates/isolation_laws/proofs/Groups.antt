@@ -31,8 +31,8 @@ use Rattle.file_rules.specs.ProgramFile.{ProgramFile, ReadsProgram, program_file
 use Rattle.time_rules.specs.Attempts.{result_of, time_step}
 use Rattle.machine_model.specs.ProcessEvent.{next_instruction}
 use Rattle.machine_model.specs.declared.ends.EventEnd.{EventEnd}
-use Rattle.call_laws.specs.Isolation.{LeavesOthers}
-use Rattle.call_laws.specs.Modules.{KeepsModules, ModuleComesOf, StaysEntered}
+use Rattle.call_laws.specs.Isolation.{LeavesOtherProcesses}
+use Rattle.call_laws.specs.Modules.{FollowsLinkRules, ModuleStaysOrLeaves, StaysEntered}
 use Rattle.call_laws.specs.Objects.{IsNewOrShared, IsOfModule, KeepsSizes}
 use Rattle.call_laws.specs.Others.{AttemptsCall}
 use Rattle.call_laws.proofs.CallsKept.{AttemptLeft, ended-left, left-refused, of-changes, of-needs, of-refuses}
@@ -64,22 +64,23 @@ longer m n sizes =
     ]
 
 -- a group that an entered module has now, one had before
-pub was-shared : (m n : MemoryState) (object : ℕ) → KeepsModules m.modules n.modules → IsOfModule n object → IsOfModule m object
+pub was-shared : (m n : MemoryState) (object : ℕ) → FollowsLinkRules m.modules n.modules → IsOfModule n object → IsOfModule m object
 was-shared m n object keeps grouped = by_old (module_entry_at m.modules grouped.number) refl
-    (subst (ModuleComesOf m.modules (module_entry_at m.modules grouped.number)) grouped.is (keeps grouped.number))
+    (subst (ModuleStaysOrLeaves m.modules (module_entry_at m.modules grouped.number)) grouped.is (keeps grouped.number))
   where
-    by_old : (old : Option ModuleEntry) → module_entry_at m.modules grouped.number ≡ old → ModuleComesOf m.modules (module_entry_at m.modules grouped.number) (Some grouped.entry) → IsOfModule m object
+    by_old : (old : Option ModuleEntry) → module_entry_at m.modules grouped.number ≡ old → ModuleStaysOrLeaves
+        m.modules (module_entry_at m.modules grouped.number) (Some grouped.entry) → IsOfModule m object
     by_old (Some old) was comes =
-        let stays : StaysEntered old grouped.entry = subst (λ old. ModuleComesOf m.modules old (Some grouped.entry)) was comes in
+        let stays : StaysEntered old grouped.entry = subst (λ old. ModuleStaysOrLeaves m.modules old (Some grouped.entry)) was comes in
         let groups : grouped.entry.group ≡ old.group = ap (λ (e : ModuleEntry). e.group) stays.same in
         record { number = grouped.number; entry = old; is = was; stands = (grouped.stands.0, sym (ap (λ group. slice_get group grouped.stands.0) groups) ∙ grouped.stands.1) }
-    by_old None was comes = absurd (subst (λ old. ModuleComesOf m.modules old (Some grouped.entry)) was comes)
+    by_old None was comes = absurd (subst (λ old. ModuleStaysOrLeaves m.modules old (Some grouped.entry)) was comes)
 
 abbrev pub KeepsGroups : MemoryState → MemoryState → Type 0
 KeepsGroups m n = (object : ℕ) → IsOfModule n object → IsNewOrShared m n object
 
 -- where none is entered
-groups-by : (m : Processes) (p : ℕ) (end : EventEnd) (n : Processes) → LeavesOthers m p end n → KeepsGroups m.memory n.memory
+groups-by : (m : Processes) (p : ℕ) (end : EventEnd) (n : Processes) → LeavesOtherProcesses m p end n → KeepsGroups m.memory n.memory
 groups-by m p end n leaves object grouped = inr (was-shared m.memory n.memory object leaves.modules grouped)
 
 abbrev AttemptGroups : Processes → ℕ → CallResult → Type 0
@@ -101,7 +102,7 @@ module _ (s : State) (p : ℕ) (file : ProgramFile) (loaded : Loaded) (it : Load
   abbrev program : Program
   program = loaded_program s.processes p file loaded.first
 
-  from-file : (n : MemoryState) → KeepsSizes loaded.memory n → KeepsModules loaded.memory.modules n.modules → KeepsGroups s.processes.memory n
+  from-file : (n : MemoryState) → KeepsSizes loaded.memory n → FollowsLinkRules loaded.memory.modules n.modules → KeepsGroups s.processes.memory n
   from-file n sizes keeps object grouped =
       shared-comes s p file loaded it (record s.processes { memory = n }) (longer loaded.memory n sizes) object (inr (was-shared loaded.memory n object keeps grouped))
 

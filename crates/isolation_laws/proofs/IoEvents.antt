@@ -40,8 +40,8 @@ use Rattle.call_laws.proofs.IoKept.{EffectLeft, FailsOn}
 use Rattle.call_laws.proofs.OthersLeft.{attempt-leaves, effect-left, left-leaves}
 use Rattle.call_laws.proofs.OthersKept.{free-is, living-record}
 use Rattle.call_laws.proofs.PathsKept.{IoLeft, PathsLeft, io-call, io-ended, io-interrupted, io-same, left-numbers}
-use Rattle.file_laws.specs.Devices.{IsOnDevice, number_in}
-use Rattle.file_laws.specs.Touch.{ChangesPath, IsSamePath, KeepsIo, LeavesDevices, PathsMove, WaitsForRecord}
+use Rattle.file_laws.specs.Devices.{DeviceAttempted, number_in}
+use Rattle.file_laws.specs.Touch.{ChangesPath, IsSamePath, KeepsIo, TouchesNoDevice, PathsMove, WaitsForRecord}
 use Rattle.file_rules.specs.Locking.{call_of}
 use Rattle.file_laws.proofs.TouchAttempts.{attempt-comes}
 use Rattle.file_laws.proofs.Codes.{code-there}
@@ -307,7 +307,7 @@ module _ (s : State) (p code : ℕ) (next : act_of s.processes p ≡ attempts co
   serves-io (on_paths call) result serves asked (it, same) =
       by_device (attempt-comes call s.processes s.files now p result rest.files s.terms rest.terms it)
     where
-      by_device : IsOnDevice call s.processes s.files p result rest.files s.terms rest.terms ⊎ LeavesDevices call s.processes
+      by_device : DeviceAttempted call s.processes s.files p result rest.files s.terms rest.terms ⊎ TouchesNoDevice call s.processes
           s.files now p result rest.files s.terms rest.terms ⊎ WaitsForRecord call s.processes s.files now p result
           rest.files s.terms rest.terms → LeavesIo s p then
       by_device (inl on) =

@@ -10,9 +10,9 @@ use Rattle.proc_model.specs.Records.{IsLiving, has_ended, record_at, record_of}
 use Rattle.proc_model.specs.Processes.{Processes}
 use Rattle.proc_model.specs.Ready.{act_of, attempts}
 use Rattle.machine_model.specs.declared.ends.EventEnd.{EventEnd}
-use Rattle.call_laws.specs.Modules.{KeepsModules}
+use Rattle.call_laws.specs.Modules.{FollowsLinkRules}
 use Rattle.call_laws.specs.Objects.{Appears, IsNewOrShared, IsOfModule, KeepsObjects, KeepsSizes, KeepsToItself}
-use Rattle.call_laws.specs.Others.{Begins, ComesOf, HasRecord, Stays}
+use Rattle.call_laws.specs.Others.{ForksProcess, ComesOf, HasRecord, Stays}
 use Rattle.call_laws.proofs.OthersKept.{living-record}
 use Rattle.call_laws.proofs.KeptEvents.{lives-runs, there-lives}
 use Rattle.isolation_laws.specs.Own.{AppearsIn, IsOfArea, IsOwn, KeepsOwnObject, NameAppeared}
@@ -107,17 +107,17 @@ module _ (m n : Processes) (q : ℕ) (end : EventEnd) (left : Leaves m q end n) 
       not-before r had before = let below = names.maps r object had before in let late = appears.0 in omega arith
 
       -- another process that names it begins
-      begins-then : (r : ℕ) → r ≢ q → HasRecord n r → NamesBlock (map_at n.memory r) object → (new : Record) × Begins m q n r new
+      begins-then : (r : ℕ) → r ≢ q → HasRecord n r → NamesBlock (map_at n.memory r) object → (new : Record) × ForksProcess m q n r new
       begins-then r differ (new, is) it =
           by_old (record_of m.records r) refl (subst (ComesOf m q end n r (record_of m.records r)) is (left.others r differ))
         where
-          by_old : (old : Option Record) → record_of m.records r ≡ old → ComesOf m q end n r old (Some new) → (new : Record) × Begins m q n r new
+          by_old : (old : Option Record) → record_of m.records r ≡ old → ComesOf m q end n r old (Some new) → (new : Record) × ForksProcess m q n r new
           by_old (Some old) was stays =
               absurd (not-before r (old, was) (subst (λ (slots : Slots ℕ). NamesBlock slots object) stays.map it))
           by_old None was begins = (new, begins)
 
       -- and then the process of the event does not
-      not-acting : (r other : ℕ) → r ≡ q → NamesBlock (map_at n.memory r) object → (new : Record) × Begins m q n other new → ⊥
+      not-acting : (r other : ℕ) → r ≡ q → NamesBlock (map_at n.memory r) object → (new : Record) × ForksProcess m q n other new → ⊥
       not-acting r other same it (new, begins) =
           not-before q acts (subst (λ (slots : Slots ℕ). NamesBlock slots object) begins.parent_map (subst (λ (r : ℕ). NamesBlock (map_at n.memory r) object) same it))
 
@@ -213,7 +213,7 @@ own-at_once s t end p object (q, chosen, lives, acts) names it =
 
 -- a group that appears is of a module that is entered
 pub own-unless_entered : (s t : State) (end : EventEnd) (p object : ℕ) → Event s end t → NameAppeared s.processes
-    → KeepsModules s.processes.memory.modules t.processes.memory.modules → AppearsIn s.processes p object t.processes
+    → FollowsLinkRules s.processes.memory.modules t.processes.memory.modules → AppearsIn s.processes p object t.processes
     → IsOwn t.processes p object
 own-unless_entered s t end p object event names keeps it =
     by_module (own-at_once s t end p object event names it)

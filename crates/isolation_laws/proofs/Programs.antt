@@ -34,8 +34,8 @@ use Rattle.file_rules.specs.ProgramFile.{ProgramFile, ReadsProgram, program_file
 use Rattle.machine_model.specs.ProcessEvent.{call_event_end}
 use Rattle.machine_model.specs.declared.ends.EventEnd.{EventEnd}
 use Rattle.machine_model.specs.declared.ends.EventEnd.TheVariants.{Ran}
-use Rattle.call_laws.specs.Isolation.{LeavesOthers as LeavesOthersAsBefore}
-use Rattle.call_laws.specs.Modules.{ModuleComesOf as ComesOfEntered}
+use Rattle.call_laws.specs.Isolation.{LeavesOtherProcesses as LeavesOthersAsBefore}
+use Rattle.call_laws.specs.Modules.{ModuleStaysOrLeaves as ComesOfEntered}
 use Rattle.call_laws.specs.NewObjects.{IsParameter}
 use Rattle.call_laws.specs.Others.{AttemptsCall, ComesOf, KeepsOwn}
 use Rattle.call_laws.proofs.CallsKept.{AttemptLeft, Left, left-refused}
@@ -45,9 +45,9 @@ use Rattle.call_laws.proofs.ModulesKept.{HaveMore, linked-modules, more-linked}
 use Rattle.call_laws.proofs.OthersKept.{comes-of, own-other, own-same, record-other, record-same}
 use Rattle.machine_model.specs.State.{Rest, State, with_rest}
 use Rattle.isolation_laws.specs.Isolation.{LeavesOthers}
-use Rattle.isolation_laws.specs.Links.{ChangesEntered, ChangesLinks}
+use Rattle.isolation_laws.specs.Links.{ChangesEntered, ChangesLinksOrLoads}
 use Rattle.isolation_laws.specs.Loading.{LoadsFile, StartsFileBy}
-use Rattle.isolation_laws.specs.Modules.{ModuleComesOf}
+use Rattle.isolation_laws.specs.Modules.{ModuleEntryChange}
 use Rattle.isolation_laws.proofs.FileKept.{ComesLoaded, FileLeft, file-leaves, is-loaded, loaded-chained, loaded-more, with-file}
 use Rattle.isolation_laws.proofs.FileRead.{HasRead, file-found, program-found}
 use Rattle.isolation_laws.proofs.Linking.{ResultLinks, attempt-links}
@@ -56,7 +56,7 @@ use Rattle.isolation_laws.proofs.Loaded.{cell-same, first-there, user-length, us
 -- ---- what is left as before
 
 module _ (s : State) (p : ℕ) where
-  module-as-before : (number : ℕ) (old new : Option ModuleEntry) → ComesOfEntered s.processes.memory.modules old new → ModuleComesOf s p number old new
+  module-as-before : (number : ℕ) (old new : Option ModuleEntry) → ComesOfEntered s.processes.memory.modules old new → ModuleEntryChange s p number old new
   module-as-before number (Some old) (Some new) stays = stays
   module-as-before number (Some old) None leaves = inl leaves
   module-as-before number None (Some new) comes = absurd comes
@@ -263,7 +263,7 @@ module _ (s : State) (p : ℕ) (file : ProgramFile) (loaded : Loaded) (loads : L
     from-left : (n : Processes) → Left before p Ran n → ((object : ℕ) → object < length loaded.memory.objects
         → slice_get n.memory.objects object ≡ slice_get loaded.memory.objects object)
         → ((number : ℕ) → ComesLoaded s p file loaded loads (module_entry_at loaded.memory.modules number)
-        (module_entry_at n.memory.modules number)) → ChangesLinks s p Ran n.memory → FileLeft s p file loaded loads n
+        (module_entry_at n.memory.modules number)) → ChangesLinksOrLoads s p Ran n.memory → FileLeft s p file loaded loads n
     from-left n left objects modules links = record {
       objects = objects;
       new_objects = new-objects n.memory left.leaves.new_objects;

@@ -13,7 +13,7 @@ use Rattle.call_laws.proofs.RunningLaws.{SignalsLeave, tick-leaves}
 use Rattle.call_laws.specs.Objects.{IsOfModule}
 use Rattle.isolation_laws.specs.Own.{IsOwn, KeepsOwnObject}
 use Rattle.machine_model.specs.Event.{Acts, Event, cost}
-use Rattle.machine_model.specs.Run.{Choose, Slice, Steps, Tick, is_going}
+use Rattle.machine_model.specs.Run.{Choose, Slice, SliceEvents, Tick, is_going}
 use Rattle.machine_model.specs.State.{State}
 use Rattle.isolation_laws.proofs.Owning.{own-event}
 
@@ -27,12 +27,12 @@ acts-chosen (attempts code) s p end t (result, rest, attempted, over, is) = ap (
 event-chosen : (s t : State) (end : EventEnd) → Event s end t → t.chosen ≡ s.chosen
 event-chosen s t end (p, chosen, lives, acts) = acts-chosen (act_of s.processes p) s p end t acts
 
-steps-chosen : (left : ℕ) (s : State) (states : List State) (t : State) → Steps left s states t → t.chosen ≡ s.chosen
+steps-chosen : (left : ℕ) (s : State) (states : List State) (t : State) → SliceEvents left s states t → t.chosen ≡ s.chosen
 steps-chosen left s [] t (over, is) = ap (λ (t : State). t.chosen) is
 steps-chosen left s (m ∷ ms) t (some, end, event, steps) =
     by_going (is_going end) (steps-chosen (left - cost s) m ms t) steps ∙ event-chosen s m end event
   where
-    by_going : (going : Bool) → (Steps (left - cost s) m ms t → t.chosen ≡ m.chosen) → MatchBool going (Steps (left - cost s) m ms t) ((ms ≡ []) × (t ≡ m)) → t.chosen ≡ m.chosen
+    by_going : (going : Bool) → (SliceEvents (left - cost s) m ms t → t.chosen ≡ m.chosen) → MatchBool going (SliceEvents (left - cost s) m ms t) ((ms ≡ []) × (t ≡ m)) → t.chosen ≡ m.chosen
     by_going true later steps = later steps
     by_going false later (none, is) = ap (λ (t : State). t.chosen) is
 
@@ -46,7 +46,7 @@ own-same : (m : Processes) (p object : ℕ) → IsLiving m.records p → IsOwn m
 own-same m p object lives own = record { lives = lives; own = own; bytes = refl }
 
 own-steps : (left : ℕ) (s : State) (states : List State) (t : State) (q p object : ℕ) → s.chosen ≡ Some q → p ≢ q
-    → Steps left s states t → IsLiving s.processes.records p → IsOwn s.processes p object → KeepsOwnObject s.processes p object
+    → SliceEvents left s states t → IsLiving s.processes.records p → IsOwn s.processes p object → KeepsOwnObject s.processes p object
     t.processes
 own-steps left s [] t q p object chosen differ (over, is) lives own =
     subst (λ (t : State). KeepsOwnObject s.processes p object t.processes) (sym is) (own-same s.processes p object lives own)
@@ -54,9 +54,9 @@ own-steps left s (m ∷ ms) t q p object chosen differ (some, end, event, steps)
     let first : KeepsOwnObject s.processes p object m.processes = own-event s m end q p object chosen differ event lives own in
     own-then s.processes m.processes t.processes p object first (by_going (is_going end) (own-steps (left - cost s) m ms t q p object (event-chosen s m end event ∙ chosen) differ) first steps)
   where
-    by_going : (going : Bool) → (Steps (left - cost s) m ms t → IsLiving m.processes.records p → IsOwn m.processes p object
+    by_going : (going : Bool) → (SliceEvents (left - cost s) m ms t → IsLiving m.processes.records p → IsOwn m.processes p object
         → KeepsOwnObject m.processes p object t.processes) → KeepsOwnObject s.processes p object m.processes
-        → MatchBool going (Steps (left - cost s) m ms t) ((ms ≡ []) × (t ≡ m)) → KeepsOwnObject m.processes p object
+        → MatchBool going (SliceEvents (left - cost s) m ms t) ((ms ≡ []) × (t ≡ m)) → KeepsOwnObject m.processes p object
         t.processes
     by_going true later first steps = later steps first.lives first.own
     by_going false later first (none, is) =
@@ -95,7 +95,7 @@ own-choice s t p object is lives own =
 
 own-chosen : (n : ℕ) (chosen : State) (states : List State) (end : SliceEnd) (t : State) (p object : ℕ)
     (who : Option ℕ) → chosen.chosen ≡ who → MatchOption who ((end ≡ Idle) × (states ≡ []) × (t ≡ chosen))
-    (λ p. (end ≡ Ran) × Steps n chosen states t) → t.chosen ≢ Some p → IsLiving chosen.processes.records p
+    (λ p. (end ≡ Ran) × SliceEvents n chosen states t) → t.chosen ≢ Some p → IsLiving chosen.processes.records p
     → IsOwn chosen.processes p object → KeepsOwnObject chosen.processes p object t.processes
 own-chosen n chosen states end t p object None is (idle, none, last) other lives own =
     subst (λ (t : State). KeepsOwnObject chosen.processes p object t.processes) (sym last) (own-same chosen.processes p object lives own)

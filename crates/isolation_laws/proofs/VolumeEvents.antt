@@ -22,7 +22,7 @@ use Rattle.proc_model.specs.UserBytes.{user_bytes}
 use Rattle.proc_model.specs.declared.proc_call.ProcCall.TheVariants as Call
 use Rattle.rbf_model.specs.Volume.{DiskVolume}
 use Rattle.file_rules.specs.Attempts.{asker_of}
-use Rattle.file_rules.specs.Files.{DriveState, Files, NoneFailed, directories_at, no_directories}
+use Rattle.file_rules.specs.Files.{DriveState, Files, KeepsDriveFaults, directories_at, no_directories}
 use Rattle.file_rules.specs.Processes.{files_ended, files_started}
 use Rattle.file_rules.specs.Program.{StartsFile, chains, forks, named_program, tests_program}
 use Rattle.file_rules.specs.ProgramFile.{program_file}
@@ -38,14 +38,14 @@ use Rattle.machine_model.specs.ProcessEvent.{next_instruction}
 use Rattle.machine_model.specs.declared.ends.EventEnd.{EventEnd}
 use Rattle.call_laws.specs.Others.{AttemptsCall}
 use Rattle.call_laws.proofs.ForkedChildren.{NamesChild}
-use Rattle.file_laws.specs.Devices.{IsOnDevice}
-use Rattle.file_laws.specs.Touch.{FaultAnswers, LeavesDevices, LeavesFiles, NoVolumeChanges, OneDriveFails, OneVolumeChanges, WaitsForRecord, may_change_volume}
+use Rattle.file_laws.specs.Devices.{DeviceAttempted}
+use Rattle.file_laws.specs.Touch.{FaultAnswers, TouchesNoDevice, LeavesFiles, NoVolumeChanges, OneDriveFails, OneVolumeChanges, WaitsForRecord, may_change_volume}
 use Rattle.file_laws.proofs.TouchAttempts.{attempt-comes}
 use Rattle.file_laws.proofs.Loads.{chain-leaves, fork-leaves, load-leaves}
 use Rattle.machine_model.specs.Event.{Acts, Event, before_delivery, files_after_delivery, files_after_instruction}
 use Rattle.machine_model.specs.Services.{Serves, Service, files_after_call, files_after_fork, loads, no_call, on_paths, on_processes, on_time, service_of, with_files}
 use Rattle.machine_model.specs.State.{Rest, State, with_rest}
-use Rattle.isolation_laws.specs.Drives.{Reaches, drive_by, drive_of_program}
+use Rattle.isolation_laws.specs.Drives.{ReachesDrive, drive_by, drive_of_program}
 use Rattle.isolation_laws.specs.Volumes.{ChangesOneVolume, FailsOneDrive, IsGivenDirectories, LeavesVolumes, SetsClock}
 use Rattle.isolation_laws.proofs.Asked.{Asks, asks}
 use Rattle.isolation_laws.proofs.Children.{fork-attempt-names}
@@ -75,7 +75,7 @@ stay-lists p old new volumes directories = record {
 
 -- no drive fails, or one that the process reaches
 abbrev DrivesCome : State → ℕ → List DriveState → Type 0
-DrivesCome s p drives = NoneFailed s.files.drives drives ⊎ FailsOneDrive s p drives
+DrivesCome s p drives = KeepsDriveFaults s.files.drives drives ⊎ FailsOneDrive s p drives
 
 leaves-by : (s : State) (p : ℕ) (t : State) → FilesStay p s.files t.files → DrivesCome s p t.files.drives → (t.clock ≡ s.clock) ⊎ SetsClock s p → LeavesVolumes s p t
 leaves-by s p t stay drives clock = record {
@@ -152,12 +152,12 @@ module _ (s : State) (p code : ℕ) (next : act_of s.processes p ≡ attempts co
 
   -- ---- a drive that fails
 
-  reaches : (service : Service) → service_of code ≡ service → (drive : ℕ) → drive_by service s p now ≡ Some drive → Reaches s p service drive
+  reaches : (service : Service) → service_of code ≡ service → (drive : ℕ) → drive_by service s p now ≡ Some drive → ReachesDrive s p service drive
   reaches service serves drive reached =
       record { attempted = (code, next, serves); now = now; is_now = is_now; reached = reached }
 
   drives-come : (service : Service) → service_of code ≡ service → (result : CallResult) (new : Files)
-      → NoneFailed s.files.drives new.drives ⊎ FaultAnswers (drive_by service s p now) s.files result new
+      → KeepsDriveFaults s.files.drives new.drives ⊎ FaultAnswers (drive_by service s p now) s.files result new
       → DrivesCome s p new.drives
   drives-come service serves result new (inl none) = inl none
   drives-come service serves result new (inr fault) = inr (record {
@@ -179,10 +179,10 @@ module _ (s : State) (p code : ℕ) (next : act_of s.processes p ≡ attempts co
       now → (start : Processes → ℕ → Program → CallResult) (entered_is : CallResult) (named : Option Entered)
       → named_program s.processes p ≡ named → (result : CallResult) (files : Files) → MatchOption named
       (StartsFile start s.processes (asker_of s.processes p now) s.files (length s.terms) p result files)
-      (λ named. (result ≡ entered_is) × (files ≡ s.files)) → NoneFailed s.files.drives files.drives ⊎ FaultAnswers
+      (λ named. (result ≡ entered_is) × (files ≡ s.files)) → KeepsDriveFaults s.files.drives files.drives ⊎ FaultAnswers
       list_drive s.files result files → DrivesCome s p files.drives
   program-drives service serves by start entered_is None unnamed result files it come =
-      drives-come service serves result files (subst (λ (reached : Option ℕ). NoneFailed s.files.drives files.drives ⊎
+      drives-come service serves result files (subst (λ (reached : Option ℕ). KeepsDriveFaults s.files.drives files.drives ⊎
       FaultAnswers reached s.files result files) (sym (by ∙ ap drive_by_name unnamed)) come)
   program-drives service serves by start entered_is (Some entered) named result files (is, same) come =
       inl (ap (λ (files : Files). files.drives) same)
@@ -258,7 +258,7 @@ module _ (s : State) (p code : ℕ) (next : act_of s.processes p ≡ attempts co
   serves-volumes (on_paths call) result rest serves asked (it, same) =
       by_device (attempt-comes call s.processes s.files now p result rest.files s.terms rest.terms it)
     where
-      by_device : IsOnDevice call s.processes s.files p result rest.files s.terms rest.terms ⊎ LeavesDevices call s.processes
+      by_device : DeviceAttempted call s.processes s.files p result rest.files s.terms rest.terms ⊎ TouchesNoDevice call s.processes
           s.files now p result rest.files s.terms rest.terms ⊎ WaitsForRecord call s.processes s.files now p result
           rest.files s.terms rest.terms → LeavesVolumes s p (then rest)
       by_device (inl on) =
@@ -286,12 +286,12 @@ after-delivery p files (Ok t) = record { volumes = refl; directories = λ q diff
 after-delivery p files (Err status) = stay-ended p files
 
 -- no drive fails in it
-instruction-drives : (p : ℕ) (files : Files) (outcome : Outcome) → NoneFailed files.drives (files_after_instruction files p outcome).drives
+instruction-drives : (p : ℕ) (files : Files) (outcome : Outcome) → KeepsDriveFaults files.drives (files_after_instruction files p outcome).drives
 instruction-drives p files (Done effect) = refl
 instruction-drives p files (Calls code regs) = refl
 instruction-drives p files (Aborts status) = refl
 
-delivery-drives : (p : ℕ) (files : Files) (result : Result Processes ℕ) → NoneFailed files.drives (files_after_delivery files p result).drives
+delivery-drives : (p : ℕ) (files : Files) (result : Result Processes ℕ) → KeepsDriveFaults files.drives (files_after_delivery files p result).drives
 delivery-drives p files (Ok t) = refl
 delivery-drives p files (Err status) = refl
 

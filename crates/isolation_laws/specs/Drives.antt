@@ -36,7 +36,7 @@ drive_by (on_paths call) s p now = drive_reached call (asker_of s.processes p no
 drive_by no_call s p now = None
 
 -- a process attempts a call, at the current time, and reaches this drive
-pub record Reaches (s : State) (p : ℕ) (service : Service) (drive : ℕ) : Type 0 where
+pub record ReachesDrive (s : State) (p : ℕ) (service : Service) (drive : ℕ) : Type 0 where
   pub attempted : AttemptsService s p service
   pub now : TimePacket
   pub is_now : IsNow s.clock s.processes.tick now

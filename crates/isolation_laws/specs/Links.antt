@@ -28,7 +28,7 @@ pub record NamesModule (m : Processes) (p : ℕ) (found : Entered) : Type 0 wher
   pub is : found_entry m.memory.modules name (regs_at m p).a ≡ Some found
 
 -- F$Link or F$Fork: the module that the call names has one more link
-pub record GainsLink (m : Processes) (p : ℕ) (n : MemoryState) : Type 0 where
+pub record LinksNamed (m : Processes) (p : ℕ) (n : MemoryState) : Type 0 where
   pub found : Entered
   pub call : AttemptsCall m p Call.Link × NamesModule m p found
       ⊎ AttemptsCall m p Call.Fork × (named_program m p ≡ Some found)
@@ -39,14 +39,14 @@ abbrev pub HasModuleAtU : Processes → ℕ → Entered → Type 0
 HasModuleAtU m p found = module_at m.memory.modules (map_at m.memory p) (regs_at m p).u ≡ Some found
 
 -- F$UnLink or F$UnLoad: the module that the call names has one link less; its group leaves if it has no link then
-pub record LosesLink (m : Processes) (p : ℕ) (n : MemoryState) : Type 0 where
+pub record NamedModuleLosesLink (m : Processes) (p : ℕ) (n : MemoryState) : Type 0 where
   pub found : Entered
   pub call : AttemptsCall m p Call.UnLink × HasModuleAtU m p found
       ⊎ AttemptsCall m p Call.UnLoad × NamesModule m p found
   pub less : n.modules ≡ (unlinked m.memory found.number).modules
 
 -- F$Chain: the module that the call names has one more link, and then the old primary module has one less
-pub record ChangesPrimary (m : Processes) (p : ℕ) (n : MemoryState) : Type 0 where
+pub record ChainsNamed (m : Processes) (p : ℕ) (n : MemoryState) : Type 0 where
   pub call : AttemptsCall m p Call.Chain
   pub found : Entered
   pub named : named_program m p ≡ Some found
@@ -55,7 +55,7 @@ pub record ChangesPrimary (m : Processes) (p : ℕ) (n : MemoryState) : Type 0 w
 -- the links of entered modules are as before, or one of these changes them
 abbrev pub ChangesEntered : Processes → ℕ → EventEnd → MemoryState → Type 0
 ChangesEntered m p end n =
-    (n.modules ≡ m.memory.modules) ⊎ GainsLink m p n ⊎ LosesLink m p n ⊎ ChangesPrimary m p n
+    (n.modules ≡ m.memory.modules) ⊎ LinksNamed m p n ⊎ NamedModuleLosesLink m p n ⊎ ChainsNamed m p n
     ⊎ LosesPrimary m p end n
 
 -- ---- a loaded file
@@ -78,5 +78,5 @@ pub record ChainsLoaded (s : State) (p : ℕ) (n : MemoryState) : Type 0 where
       ≡ without_link (linked loaded.memory loaded.first.number).modules (primary_of s.processes p)
 
 -- the links of entered modules change as without files, or a file is loaded
-abbrev pub ChangesLinks : State → ℕ → EventEnd → MemoryState → Type 0
-ChangesLinks s p end n = ChangesEntered s.processes p end n ⊎ LinksLoaded s p n ⊎ ChainsLoaded s p n
+abbrev pub ChangesLinksOrLoads : State → ℕ → EventEnd → MemoryState → Type 0
+ChangesLinksOrLoads s p end n = ChangesEntered s.processes p end n ⊎ LinksLoaded s p n ⊎ ChainsLoaded s p n

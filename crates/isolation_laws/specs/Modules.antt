@@ -8,13 +8,13 @@ use Rattle.proc_model.specs.Objects.{file_blocks}
 use Rattle.proc_model.specs.declared.proc_call.ProcCall.TheVariants as Call
 use Rattle.file_rules.specs.Load.{Loaded}
 use Rattle.file_rules.specs.ProgramFile.{ProgramFile}
-use Rattle.call_laws.specs.Modules.{LeavesMemory, StaysEntered}
+use Rattle.call_laws.specs.Modules.{LeavesWithLastLink, StaysEntered}
 use Rattle.call_laws.specs.Others.{AttemptsCall}
 use Rattle.isolation_laws.specs.Loading.{LoadsFile}
 use Rattle.machine_model.specs.State.{State}
 
 -- a module of this number is newly entered: it is of the file that a process loads, and has one link at most
-pub record IsEntered (s : State) (p number : ℕ) (new : ModuleEntry) : Type 0 where
+pub record IsModuleEntered (s : State) (p number : ℕ) (new : ModuleEntry) : Type 0 where
   pub file : ProgramFile
   pub loaded : Loaded
   pub loads : LoadsFile s p file loaded
@@ -38,14 +38,16 @@ pub record LeavesWithFile (s : State) (p : ℕ) (old : ModuleEntry) : Type 0 whe
   pub last_link : old.links ≤ 1
 
 -- the change of an entry of the module directory: an entered module stays or leaves, or a new one appears
-abbrev pub ModuleComesOf : State → ℕ → ℕ → Option ModuleEntry → Option ModuleEntry → Type 0
-ModuleComesOf s p number (Some old) (Some new) = StaysEntered old new
-ModuleComesOf s p number (Some old) None = LeavesMemory s.processes.memory.modules old ⊎ LeavesWithFile s p old
-ModuleComesOf s p number None (Some new) = IsEntered s p number new
-ModuleComesOf s p number None None = Unit {0}
+abbrev pub ModuleEntryChange : State → ℕ → ℕ → Option ModuleEntry → Option ModuleEntry → Type 0
+ModuleEntryChange s p number (Some old) (Some new) = StaysEntered old new
+ModuleEntryChange s p number (Some old) None = LeavesWithLastLink s.processes.memory.modules old
+    ⊎ LeavesWithFile s p old
+ModuleEntryChange s p number None (Some new) = IsModuleEntered s p number new
+ModuleEntryChange s p number None None = Unit {0}
 
 -- the module directory changes only by the rules of links and loads
-abbrev pub KeepsModules : State → ℕ → MemoryState → Type 0
-KeepsModules s p n =
+abbrev pub FollowsModuleRules : State → ℕ → MemoryState → Type 0
+FollowsModuleRules s p n =
     (number : ℕ)
-    → ModuleComesOf s p number (module_entry_at s.processes.memory.modules number) (module_entry_at n.modules number)
+    → ModuleEntryChange s p number (module_entry_at s.processes.memory.modules number)
+    (module_entry_at n.modules number)

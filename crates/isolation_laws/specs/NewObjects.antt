@@ -26,5 +26,5 @@ pub record HoldFile (s : State) (p : ℕ) (n : MemoryState) : Type 0 where
   pub rest : HoldParameters s.processes p (length s.processes.memory.objects + file_blocks file.bytes) n
 
 -- objects that appear hold nothing else
-abbrev pub HoldNothingElse : State → ℕ → MemoryState → Type 0
-HoldNothingElse s p n = HoldParameters s.processes p (length s.processes.memory.objects) n ⊎ HoldFile s p n
+abbrev pub HoldParametersOrFile : State → ℕ → MemoryState → Type 0
+HoldParametersOrFile s p n = HoldParameters s.processes p (length s.processes.memory.objects) n ⊎ HoldFile s p n

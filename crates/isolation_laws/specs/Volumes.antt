@@ -4,14 +4,14 @@ use Rattle.std.specs.Prelude.{◌≡◌, ◌≢◌, ◌⊎◌, ℕ, true, Some, 
 use Rattle.proc_model.specs.Records.{free_process}
 use Rattle.proc_model.specs.Ready.{attempts, act_of}
 use Rattle.proc_model.specs.declared.proc_call.ProcCall.TheVariants as Call
-use Rattle.file_rules.specs.Files.{DriveState, NoneFailed, OneFailed, directories_at, volume_at}
+use Rattle.file_rules.specs.Files.{DriveState, KeepsDriveFaults, OneFailed, directories_at, volume_at}
 use Rattle.file_rules.specs.declared.path_call.PathCall.{PathCall}
 use Rattle.file_rules.specs.declared.places.Directories.{Directories}
 use Rattle.call_laws.specs.Others.{AttemptsCall}
 use Rattle.time_rules.specs.Codes.{time_call_of}
 use Rattle.time_rules.specs.declared.time_call.TimeCall.TheVariants as Time
 use Rattle.file_laws.specs.Touch.{may_change_volume}
-use Rattle.isolation_laws.specs.Drives.{Reaches}
+use Rattle.isolation_laws.specs.Drives.{ReachesDrive}
 use Rattle.machine_model.specs.Services.{Service, on_paths}
 use Rattle.machine_model.specs.State.{State}
 
@@ -20,14 +20,14 @@ pub record ChangesOneVolume (s : State) (p : ℕ) (t : State) : Type 0 where
   pub call : PathCall
   pub changing : may_change_volume call ≡ true
   pub drive : ℕ
-  pub reaches : Reaches s p (on_paths call) drive
+  pub reaches : ReachesDrive s p (on_paths call) drive
   pub others : (other : ℕ) → other ≢ drive → volume_at t.files other ≡ volume_at s.files other
 
 -- a drive has failed, and no other one: the drive that the process reaches in an attempt of its call
 pub record FailsOneDrive (s : State) (p : ℕ) (drives : List DriveState) : Type 0 where
   pub service : Service
   pub drive : ℕ
-  pub reaches : Reaches s p service drive
+  pub reaches : ReachesDrive s p service drive
   pub number : ℕ
   pub failed : OneFailed drive number s.files.drives drives
 
@@ -45,7 +45,7 @@ SetsClock s p = (code : ℕ) × (act_of s.processes p ≡ attempts code) × (tim
 -- clock, except for these changes
 pub record LeavesVolumes (s : State) (p : ℕ) (t : State) : Type 0 where
   pub volumes : (t.files.volumes ≡ s.files.volumes) ⊎ ChangesOneVolume s p t
-  pub drives : NoneFailed s.files.drives t.files.drives ⊎ FailsOneDrive s p t.files.drives
+  pub drives : KeepsDriveFaults s.files.drives t.files.drives ⊎ FailsOneDrive s p t.files.drives
   pub directories : (q : ℕ) → q ≢ p
       → (directories_at t.files q ≡ directories_at s.files q) ⊎ IsGivenDirectories s p q (directories_at t.files q)
   pub clock : (t.clock ≡ s.clock) ⊎ SetsClock s p

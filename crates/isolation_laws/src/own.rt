@@ -8,7 +8,7 @@ ghost use Rattle.proc_model.specs.Slots.{NamesBlock};
 ghost use Rattle.proc_model.specs.Records.{IsLiving};
 ghost use Rattle.proc_model.specs.Ready.{act_of, attempts};
 ghost use Rattle.proc_model.specs.Rows.{two_processes};
-ghost use Rattle.call_laws.specs.Modules.{KeepsModules};
+ghost use Rattle.call_laws.specs.Modules.{FollowsLinkRules};
 ghost use Rattle.call_laws.specs.Objects.{Appears};
 ghost use Rattle.call_laws.specs.Others.{HasRecord};
 ghost use Rattle.isolation_laws.specs.Own.{AppearsIn, IsOfArea, IsOwn, IsOwnOrShared, KeepsOwnObject, NameAppeared};
@@ -30,7 +30,7 @@ pub fn what_appears_is_its_own()
         → IsOwnOrShared t.processes p object }
     ensures unless_entered { (s t : State) (end : EventEnd) (p object : ℕ) → Event s end t
         → NameAppeared s.processes
-        → KeepsModules s.processes.memory.modules t.processes.memory.modules
+        → FollowsLinkRules s.processes.memory.modules t.processes.memory.modules
         → AppearsIn s.processes p object t.processes → IsOwn t.processes p object }
     ensures area { (s t : State) (end : EventEnd) (p object : ℕ) → Event s end t
         → NameAppeared s.processes

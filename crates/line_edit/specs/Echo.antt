@@ -8,7 +8,7 @@ abbrev pub echoed : EditOut → List ℕ
 echoed out = take out.echo_len out.echo
 
 -- the line and the result are what the key makes of a line
-pub record Makes (key : Edited) (line : Editing) (out : EditOut) : Type 0 where
+pub record IsEditResult (key : Edited) (line : Editing) (out : EditOut) : Type 0 where
   pub line_is : line ≡ key.line
   pub echo_is : echoed out ≡ key.echo
   pub end_is : out.end ≡ key.end

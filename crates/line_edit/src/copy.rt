@@ -1,6 +1,6 @@
 ghost use Rattle.std.specs.Prelude.{◌≡◌, ◌<◌, ◌≤◌, length};
-ghost use Rattle.io_model.specs.Edit.{HasRoom, copied, file_ended, moved};
-ghost use Rattle.line_edit.specs.Echo.{echoed, Makes};
+ghost use Rattle.io_model.specs.Edit.{HasLineRoom, copied, file_ended, moved};
+ghost use Rattle.line_edit.specs.Echo.{echoed, IsEditResult};
 
 use crate::edit_out::EditOut;
 use crate::line::Line;
@@ -18,7 +18,7 @@ pub fn copy(line: &mut Line, most: u16, key: u8) -> EditOut
     ensures echo { echoed result ≡ (copied most line.old key).echo }
     ensures end { result.end ≡ (copied most line.old key).end }
     ensures fits { result.echo_len ≤ 1024 }
-    ensures room { HasRoom most result.end line.new }
+    ensures room { HasLineRoom most result.end line.new }
 {
     if key == END_OF_FILE && line.len() == 0 {
         end_file(line)
@@ -29,7 +29,7 @@ pub fn copy(line: &mut Line, most: u16, key: u8) -> EditOut
 
 // The end of the file.
 pub(crate) fn end_file(line: &Line) -> EditOut
-    ensures { Makes (file_ended line.now) line.now result }
+    ensures { IsEditResult (file_ended line.now) line.now result }
 {
     let mut out = EditOut::silent();
     out.end = Some(LineEnd::EndOfFile);
@@ -38,7 +38,7 @@ pub(crate) fn end_file(line: &Line) -> EditOut
 
 fn move_byte(line: &mut Line, most: u16, key: u8) -> EditOut
     requires { length line.old.bytes < 256 }
-    ensures { Makes (moved most line.old key) line.new result }
+    ensures { IsEditResult (moved most line.old key) line.new result }
 {
     let mut out = EditOut::silent();
     line.push(key);

@@ -1,6 +1,6 @@
 ghost use Rattle.std.specs.Prelude.{◌≡◌, ℕ, ◌<◌, ◌≤◌, length};
-ghost use Rattle.io_model.specs.Edit.{HasRoom, edited, backspaced, deleted, reprinted, duplicated, returned, typed_key, escaped};
-ghost use Rattle.line_edit.specs.Echo.{echoed, Makes};
+ghost use Rattle.io_model.specs.Edit.{HasLineRoom, edited, backspaced, deleted, reprinted, duplicated, returned, typed_key, escaped};
+ghost use Rattle.line_edit.specs.Echo.{echoed, IsEditResult};
 
 use crate::copy::end_file;
 use crate::edit_out::{EditOut, shown_byte};
@@ -19,7 +19,7 @@ pub fn edit(line: &mut Line, most: u16, key: u8) -> EditOut
     ensures echo { echoed result ≡ (edited most line.old key).echo }
     ensures end { result.end ≡ (edited most line.old key).end }
     ensures fits { result.echo_len ≤ 1024 }
-    ensures room { HasRoom most result.end line.new }
+    ensures room { HasLineRoom most result.end line.new }
 {
     match key {
         BACKSPACE => backspace(line),
@@ -33,7 +33,7 @@ pub fn edit(line: &mut Line, most: u16, key: u8) -> EditOut
 }
 
 fn backspace(line: &mut Line) -> EditOut
-    ensures { Makes (backspaced line.old) line.new result }
+    ensures { IsEditResult (backspaced line.old) line.new result }
 {
     let mut out = EditOut::silent();
     out.rub_out(&line.as_slice()[..usize::from(line.len().min(1))]);
@@ -42,7 +42,7 @@ fn backspace(line: &mut Line) -> EditOut
 }
 
 fn delete_line(line: &mut Line) -> EditOut
-    ensures { Makes (deleted line.old) line.new result }
+    ensures { IsEditResult (deleted line.old) line.new result }
 {
     let mut out = EditOut::silent();
     out.rub_out(line.as_slice());
@@ -51,7 +51,7 @@ fn delete_line(line: &mut Line) -> EditOut
 }
 
 fn reprint(line: &Line) -> EditOut
-    ensures { Makes (reprinted line.now) line.now result }
+    ensures { IsEditResult (reprinted line.now) line.now result }
 {
     let mut out = EditOut::silent();
     out.next_line();
@@ -61,7 +61,7 @@ fn reprint(line: &Line) -> EditOut
 
 fn duplicate(line: &mut Line, most: u16) -> EditOut
     requires { length line.old.bytes < 256 }
-    ensures { Makes (duplicated most line.old) line.new result }
+    ensures { IsEditResult (duplicated most line.old) line.new result }
 {
     let mut out = EditOut::silent();
     out.rub_out(line.as_slice());
@@ -72,7 +72,7 @@ fn duplicate(line: &mut Line, most: u16) -> EditOut
 
 fn finish(line: &mut Line) -> EditOut
     requires { length line.old.bytes < 256 }
-    ensures { Makes (returned line.old) line.new result }
+    ensures { IsEditResult (returned line.old) line.new result }
 {
     let mut out = EditOut::silent();
     out.next_line();
@@ -82,7 +82,7 @@ fn finish(line: &mut Line) -> EditOut
 }
 
 fn escape(line: &Line) -> EditOut
-    ensures { Makes (escaped line.now) line.now result }
+    ensures { IsEditResult (escaped line.now) line.now result }
 {
     if line.len() == 0 {
         end_file(line)
@@ -93,7 +93,7 @@ fn escape(line: &Line) -> EditOut
 
 fn type_key(line: &mut Line, most: u16, key: u8) -> EditOut
     requires { most ≤ 256 }
-    ensures { Makes (typed_key most line.old key) line.new result }
+    ensures { IsEditResult (typed_key most line.old key) line.new result }
 {
     if line.len() >= most.saturating_sub(1) {
         return EditOut::bell();

@@ -13,7 +13,7 @@ use Rattle.proc_model.specs.ModuleLinks.{Entered}
 use Rattle.proc_model.specs.Program.{Program}
 use Rattle.load_calls.proofs.LoadedLemmas.{some-memory}
 use Rattle.file_drives.specs.Drives.{DriveView, media_of}
-use Rattle.file_rules.specs.Files.{Asker, Files, NoneFailed}
+use Rattle.file_rules.specs.Files.{Asker, Files, KeepsDriveFaults}
 use Rattle.file_rules.specs.Load.{GoesOnLoaded, Loaded}
 use Rattle.file_rules.specs.Attempts.{asker_of}
 use Rattle.file_rules.specs.Program.{StartsFile, named_program, parameters_of, starts_first, tests_program}
@@ -23,10 +23,10 @@ use Rattle.file_rules.specs.Route.{list_of, reads_list}
 use Rattle.file_state.proofs.CountLemmas.{called-more, called-none}
 use Rattle.file_state.specs.Attempt.{Standing}
 use Rattle.file_state.specs.Counted.{CalledAtMost}
-use Rattle.file_state.specs.Tie.{IsSound, StandsFor}
+use Rattle.file_state.specs.Tie.{AreSoundFiles, RepresentsFiles}
 use Rattle.file_state.specs.declared.state.FileState.{FileState}
 use Rattle.io_model.specs.PathList.{PathList}
-use Rattle.proc_state.specs.Tie.{Answers, Comes, Represents, processes_of}
+use Rattle.proc_state.specs.Tie.{ReturnsDoneOrRefused, ReturnsCallEnd, RepresentsProcesses, processes_of}
 use Rattle.proc_state.specs.declared.state.ProcState.{ProcState}
 use Rattle.load_calls.specs.Reading.{AnswersReading, IsInBuffer, ReadsTo}
 use Rattle.load_calls.specs.declared.reading.ProgramRead.{ProgramRead}
@@ -41,13 +41,13 @@ pub record ByFile (step : Step ProgramFile) (m : Processes) (next : ProgramFile 
   pub reading : Result ProgramFile ℕ
   pub reads : ReadsProgram step reading was left
   pub goes : GoesOnLoaded m reading next result
-  pub comes : Comes m p result end processes
+  pub comes : ReturnsCallEnd m p result end processes
 
 module _ (step : Step ProgramFile) (most : ℕ) (m : Processes) (next : ProgramFile → Loaded → CallResult) (was : Files) (p : ℕ) (buffer : List ℕ) (new : FileState)
     (before after : List DriveView) where
   -- it is refused by what was read
   pub file-refused : (number : ℕ) (processes : ProcState) (read : ReadsTo step most was (Err number) buffer new before
-      after) → Represents processes m → ByFile step m next was p (Error number) processes read.left
+      after) → RepresentsProcesses processes m → ByFile step m next was p (Error number) processes read.left
   file-refused number processes read stands = by read.reading read.reads read.answers
     where
       by : (reading : Result ProgramFile ℕ) → ReadsProgram step reading was read.left → AnswersReading buffer reading (Err number) → ByFile step m next was p (Error number) processes read.left
@@ -64,8 +64,8 @@ module _ (step : Step ProgramFile) (most : ℕ) (m : Processes) (next : ProgramF
   pub file-read : (it : ProgramRead) (outcome : Result (Unit {0}) ℕ) (end : CallEnd) (processes : ProcState)
       (read : ReadsTo step most was (Ok it) buffer new before after)
       → ((file : ProgramFile) → ReadsProgram step (Ok file) was read.left → IsInBuffer buffer file it
-      → GoesOn m file next outcome processes) → ((call : CallResult) → Answers m call outcome processes
-      → Comes m p call end processes) → ByFile step m next was p end processes read.left
+      → GoesOn m file next outcome processes) → ((call : CallResult) → ReturnsDoneOrRefused m call outcome processes
+      → ReturnsCallEnd m p call end processes) → ByFile step m next was p end processes read.left
   file-read it outcome end processes read on ends = by read.reading read.reads read.answers
     where
       by : (reading : Result ProgramFile ℕ) → ReadsProgram step reading was read.left → AnswersReading buffer reading (Ok it) → ByFile step m next was p end processes read.left
@@ -88,7 +88,7 @@ pub record KeepsPaths (old new : FileState) : Type 0 where
   pub records : new.records ≡ old.records
 
 paths-kept : (step : Step ProgramFile) (most : ℕ) (was : Files) (buffer : List ℕ) (old new : FileState)
-    (views before after : List DriveView) (result : Result ProgramRead ℕ) → StandsFor old views was
+    (views before after : List DriveView) (result : Result ProgramRead ℕ) → RepresentsFiles old views was
     → ReadsTo step most was result buffer new before after → KeepsPaths old new
 paths-kept step most was buffer old new views before after result stands read = record {
   io = sym read.stands.io ∙ ap (λ (files : Files). files.io) read.reads.state ∙ stands.io;
@@ -97,7 +97,7 @@ paths-kept step most was buffer old new views before after result stands read = 
 }
 
 -- the processes are those of some machine
-some-inner : (processes : ProcState) → (m : Processes) × Represents processes m
+some-inner : (processes : ProcState) → (m : Processes) × RepresentsProcesses processes m
 some-inner processes =
     let memory = some-memory processes.memory in (processes_of processes memory.0, record { memory = memory.1; is = refl })
 
@@ -108,8 +108,8 @@ some-time = record { year = 90; month = 1; day = 1; hour = 0; minute = 0; second
 -- so it is where a file was read
 pub reading-keeps : (processes : ProcState) (old new : FileState) (before after : List DriveView)
     (result : Result ProgramRead ℕ) (buffer : List ℕ) (step : Processes → Files → TimePacket → Step ProgramFile)
-    (most : Processes → Files → TimePacket → ℕ) → IsSound old before → ((m : Processes) (was : Files) (now : TimePacket)
-    → Represents processes m → StandsFor old before was → ReadsTo (step m was now) (most m was now) was result buffer
+    (most : Processes → Files → TimePacket → ℕ) → AreSoundFiles old before → ((m : Processes) (was : Files) (now : TimePacket)
+    → RepresentsProcesses processes m → RepresentsFiles old before was → ReadsTo (step m was now) (most m was now) was result buffer
     new before after) → KeepsPaths old new
 reading-keeps processes old new before after result buffer step most sound reads =
     let it = some-inner processes in
@@ -133,7 +133,7 @@ parameters-there asker files left terms m p file reads = by_outcome reads.outcom
     by_list (Err Unreadable) next is = absurd cc
     by_list (Err NoName) next is = by_params (parameters_of m p) _ is
 
-    by_outcome : ((Ok file ≡ reading_of (program_file asker files terms (tests_program m p))) × NoneFailed
+    by_outcome : ((Ok file ≡ reading_of (program_file asker files terms (tests_program m p))) × KeepsDriveFaults
         files.drives reads.drives) ⊎ ReadingIsBroken (program_file asker files terms (tests_program m p)) (Ok file)
         files.drives reads.drives → IsSome (parameters_of m p)
     by_outcome (inl well) = by_list (list_of asker) _ well.0
@@ -169,7 +169,7 @@ module _ (start : Processes → ℕ → Program → CallResult) (full : Processe
   StartAttempted = AttemptsBy StartAttempts m p end (start_calls m p now was terms) before after
 
   -- of an entered module
-  pub start-named : is_some (named_program m p) ≡ true → Comes m p (full m p) end after.processes → StandsFor after.files after.views was → after.views ≡ before.views → StartAttempted
+  pub start-named : is_some (named_program m p) ≡ true → ReturnsCallEnd m p (full m p) end after.processes → RepresentsFiles after.files after.views was → after.views ≡ before.views → StartAttempted
   start-named named comes stands same = record {
     result = full m p;
     left = was;

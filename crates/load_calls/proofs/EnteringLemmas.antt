@@ -4,7 +4,7 @@ use Rattle.std.specs.Prelude.{IsSomeAnd}
 use Rattle.std.specs.Option.{option_map_or}
 use Rattle.std.proofs.lemmas.Option.{none-some}
 use Rattle.guest_memory.specs.declared.memory.Memory.{Memory}
-use Rattle.guest_memory.specs.Tie.{Represents, modules_of}
+use Rattle.guest_memory.specs.Tie.{RepresentsMemory, modules_of}
 use Rattle.guest_memory.proofs.Entered.{free_place}
 use Rattle.proc_model.specs.declared.module.ModuleInfo.{ModuleInfo}
 use Rattle.proc_model.specs.declared.module.ModuleFault.{ModuleFault}
@@ -51,20 +51,20 @@ beside-is group number m info of =
 -- the modules of a file from one place up to another are entered, and what the rest comes to, they all come to
 pub record Progress (file group : List ℕ) (number from : ℕ) (m : MemoryState) (to : ℕ) (memory : Memory) : Type 0 where
   pub modules : List (Option ModuleEntry)
-  pub represents : Represents memory (with_modules m modules)
+  pub represents : RepresentsMemory memory (with_modules m modules)
   pub of_group : IsOfGroup group number (with_modules m modules)
   pub goes_on : (outcome : Result (List (Option ModuleEntry)) (ℕ × ℕ)) → EntersModules file group false to modules outcome → EntersModules file group false from m.modules outcome
 
 -- none yet
-pub progress-none : (file group : List ℕ) (number from : ℕ) (m : MemoryState) (memory : Memory) → Represents memory m → IsOfGroup group number m → Progress file group number from m from memory
+pub progress-none : (file group : List ℕ) (number from : ℕ) (m : MemoryState) (memory : Memory) → RepresentsMemory memory m → IsOfGroup group number m → Progress file group number from m from memory
 progress-none file group number from m memory tied of = record { modules = m.modules; represents = tied; of_group = of; goes_on = λ outcome rest. rest }
 
 module _ (file group : List ℕ) (number from : ℕ) (m : MemoryState) (to : ℕ) (memory : Memory) (p : Progress file group number from m to memory) where
   -- all of them are entered
-  pub all-entered : (after : List (Option ModuleEntry)) → step_from file to ≡ End → EntersModules file group false from m.modules (Ok after) → Represents memory (with_modules m after)
+  pub all-entered : (after : List (Option ModuleEntry)) → step_from file to ≡ End → EntersModules file group false from m.modules (Ok after) → RepresentsMemory memory (with_modules m after)
   all-entered after is enters =
       let same : p.modules ≡ after = let one = Enters-one (p.goes_on (Ok p.modules) (at_end is)) enters in cc in
-      subst (λ (modules : List (Option ModuleEntry)). Represents memory (with_modules m modules)) same p.represents
+      subst (λ (modules : List (Option ModuleEntry)). RepresentsMemory memory (with_modules m modules)) same p.represents
 
   -- none breaks a rule where all can be entered
   pub none-broken : (after : List (Option ModuleEntry)) (at : ℕ) (fault : ModuleFault) → step_from file to ≡ Fault at fault → EntersModules file group false from m.modules (Ok after) → ⊥
@@ -103,11 +103,11 @@ module _ (file group : List ℕ) (number from : ℕ) (m : MemoryState) (to : ℕ
 
   -- one module more
   pub progress-more : (info : ModuleInfo) (new : Memory) → step_from file to ≡ Module info
-      → entry_refusal (modules_of memory) info ≡ None → ((t : MemoryState) → Represents memory t
-      → Represents new (entered_beside t number info)) → Progress file group number from m (info.at + info.size) new
+      → entry_refusal (modules_of memory) info ≡ None → ((t : MemoryState) → RepresentsMemory memory t
+      → RepresentsMemory new (entered_beside t number info)) → Progress file group number from m (info.at + info.size) new
   progress-more info new is taken enters = record {
     modules = with_module p.modules info group false;
-    represents = subst (λ (t : MemoryState). Represents new t) (beside-is group number (with_modules m p.modules) info p.of_group) (enters (with_modules m p.modules) p.represents);
+    represents = subst (λ (t : MemoryState). RepresentsMemory new t) (beside-is group number (with_modules m p.modules) info p.of_group) (enters (with_modules m p.modules) p.represents);
     of_group = group-kept group number (with_modules m p.modules) info p.of_group;
     goes_on = λ outcome rest. p.goes_on outcome (entered is (refusal-seen memory (with_modules m p.modules) p.represents info ∙ taken) rest);
   }

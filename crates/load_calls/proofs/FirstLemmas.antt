@@ -10,14 +10,14 @@ use Rattle.file_rules.specs.Processes.{first_files}
 use Rattle.file_drives.specs.Drives.{DriveView, drive_views}
 use Rattle.file_laws.proofs.Starts.{kinds-start}
 use Rattle.file_state.proofs.StateLemmas.{stands-first}
-use Rattle.file_state.specs.Tie.{IsSound}
+use Rattle.file_state.specs.Tie.{AreSoundFiles}
 use Rattle.file_state.specs.declared.state.FileState.{FileState}
 
 first-sound : (state : FileState) (views : List DriveView) → views ≡ [] → state.io ≡ first_io
     → state.disks ≡ replicate 4 None → state.directories ≡ replicate 33 no_directories → state.records ≡ no_records
-    → IsSound state views
+    → AreSoundFiles state views
 first-sound state views none io disks directories records =
-    subst (λ (views : List DriveView). IsSound state views) (sym none) (record {
+    subst (λ (views : List DriveView). AreSoundFiles state views) (sym none) (record {
       files = record { io = first_io; directories = replicate 33 no_directories; volumes = []; drives = []; records = no_records };
       stands = stands-first state [] (omega arith) io disks directories records;
       kinds = kinds-start [] [] (first_files [] []) (record { volumes = []; mounted = tt; is = refl });
@@ -27,6 +27,6 @@ first-sound state views none io disks directories records =
 pub alone-sound : {Table : Type 0} {Driver : Table → Type 0} (members : (drive : DynBox Table Global Driver) → Ghosts (Driver drive.vtable))
     (drives : List (DynBox Table Global Driver)) (state : FileState) → drives ≡ [] → state.io ≡ first_io
     → state.disks ≡ replicate 4 None → state.directories ≡ replicate 33 no_directories → state.records ≡ no_records
-    → IsSound state (drive_views members drives)
+    → AreSoundFiles state (drive_views members drives)
 alone-sound members drives state none io disks directories records =
     first-sound state (drive_views members drives) (ap (drive_views members) none) io disks directories records

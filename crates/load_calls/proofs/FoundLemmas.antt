@@ -5,7 +5,7 @@ use Rattle.os9_base.specs.declared.errors.TheConstants.{E_FNA, E_SHARE, E_MEMFUL
 use Rattle.os9_base.specs.declared.limits.TheConstants.{MOST_GROUP_BYTES}
 use Rattle.io_model.specs.PathList.{PathList}
 use Rattle.io_model.specs.declared.modes.TheConstants.{MODE_EXECUTE}
-use Rattle.rbf_access.specs.Reading.{IsRead, filled_buffer}
+use Rattle.rbf_access.specs.Reading.{IsReadInto, filled_buffer}
 use Rattle.rbf_change.specs.Contents.{bytes_from}
 use Rattle.rbf_model.specs.File.{DiskFile}
 use Rattle.file_rules.specs.Files.{Asker, Files}
@@ -48,7 +48,7 @@ size-whole user files found size is =
 -- ---- its bytes
 
 -- a read of as many bytes as it has puts all of them to the front
-pub whole-of : (file : DiskFile) (size : ℕ) (before new rest : List ℕ) (count : ℕ) → length before ≡ size → IsRead file 0 before new count → IsWhole file size (new ++ rest)
+pub whole-of : (file : DiskFile) (size : ℕ) (before new rest : List ℕ) (count : ℕ) → length before ≡ size → IsReadInto file 0 before new count → IsWhole file size (new ++ rest)
 whole-of file size before new rest count long read = record { bytes_are = whole }
   where
     whole : length file.contents ≡ size → take size (new ++ rest) ≡ file.contents

@@ -4,7 +4,7 @@ use Rattle.std.specs.Option.{option_map_or}
 use Rattle.std.proofs.lemmas.Bool.{le-leb, ltb-false, ltb-true, lt-leb, false≢true}
 use Rattle.os9_base.specs.declared.errors.TheConstants.{E_MEMFUL}
 use Rattle.guest_memory.specs.declared.memory.Memory.{Memory}
-use Rattle.guest_memory.specs.Tie.{Represents}
+use Rattle.guest_memory.specs.Tie.{RepresentsMemory}
 use Rattle.proc_model.specs.declared.memory.TheConstants.{MOST_LINKS}
 use Rattle.proc_model.specs.declared.module.ModuleInfo.{ModuleInfo}
 use Rattle.proc_model.specs.Memory.{map_at}
@@ -22,7 +22,7 @@ use Rattle.proc_calls.specs.Linked.{links_entered}
 use Rattle.load_calls.specs.Loading.{has_place}
 use Rattle.load_calls.proofs.MapLemmas.{mapped-at, mapped-there, mapped-new}
 
-module _ (memory : Memory) (m : Processes) (tied : Represents memory m.memory) (p : ℕ) (within : p < 33)
+module _ (memory : Memory) (m : Processes) (tied : RepresentsMemory memory m.memory) (p : ℕ) (within : p < 33)
     (file : ProgramFile) (loaded : Loaded) (it : IsLoaded m.memory file.bytes loaded) (info : ModuleInfo)
     (first_is : loaded.first.entry ≡ new_entry info (new_numbers m.memory (file_blocks file.bytes)) false)
     (some : 1 ≤ file_blocks file.bytes) where

@@ -4,7 +4,7 @@ use Rattle.std.specs.Option.{option_map_or}
 use Rattle.std.proofs.lemmas.List.FromFn.{length-range_with_len}
 use Rattle.os9_base.specs.declared.errors.TheConstants.{E_BMID, E_DIRFUL, E_KWNMOD, E_NORAM}
 use Rattle.guest_memory.specs.declared.memory.Memory.{Memory}
-use Rattle.guest_memory.specs.Tie.{Answers, Represents}
+use Rattle.guest_memory.specs.Tie.{ReturnsMemoryResult, RepresentsMemory}
 use Rattle.guest_memory.proofs.Entered.{free_place}
 use Rattle.proc_model.specs.declared.memory.MemoryFault.{MemoryFault}
 use Rattle.proc_model.specs.declared.memory.MemoryFault.TheVariants.{NoRam}
@@ -180,11 +180,11 @@ module _ (file : List ℕ) (m : MemoryState) (info : ModuleInfo) (after : List (
 
   -- it is loaded then
   pub entered-first : (result : Result ModId MemoryFault) (id : ModId) (new : Memory)
-      → wants_blocks m (file_blocks file) ≡ false → result ≡ Ok id → Answers (change.entered m file info false) m
-      result new → Represents new (with_first file m info)
+      → wants_blocks m (file_blocks file) ≡ false → result ≡ Ok id → ReturnsMemoryResult (change.entered m file info false) m
+      result new → RepresentsMemory new (with_first file m info)
   entered-first result id new room done answers = by (wants_blocks m (file_blocks file)) room answers
     where
-      by : (wants : Bool) → wants ≡ false → Answers (if wants then Err NoRam else Ok (with_first file m info)) m result new → Represents new (with_first file m info)
+      by : (wants : Bool) → wants ≡ false → ReturnsMemoryResult (if wants then Err NoRam else Ok (with_first file m info)) m result new → RepresentsMemory new (with_first file m info)
       by true none answers = absurd cc
       by false e answers = answers.1
 
@@ -199,7 +199,7 @@ module _ (file : List ℕ) (m : MemoryState) (info : ModuleInfo) (after : List (
   pub rest-enters : EntersModules file group false (info.at + info.size) (with_first file m info).modules (Ok after)
   rest-enters = others file m info group after is enters
 
-  pub can-enter : (number : ℕ) (memory : Memory) → free_number m.modules ≡ Some number → Represents memory (with_first file m info) → CanEnter file number (info.at + info.size) memory
+  pub can-enter : (number : ℕ) (memory : Memory) → free_number m.modules ≡ Some number → RepresentsMemory memory (with_first file m info) → CanEnter file number (info.at + info.size) memory
   can-enter number memory free tied = record {
     m = with_first file m info;
     represents = tied;
@@ -213,17 +213,17 @@ module _ (file : List ℕ) (m : MemoryState) (info : ModuleInfo) (after : List (
 -- it is not refused where it has room
 pub not-refused : (file : List ℕ) (m : MemoryState) (info : ModuleInfo) (result : Result ModId MemoryFault)
     (fault : MemoryFault) (new : Memory) → wants_blocks m (file_blocks file) ≡ false → result ≡ Err fault
-    → Answers (change.entered m file info false) m result new → ⊥
+    → ReturnsMemoryResult (change.entered m file info false) m result new → ⊥
 not-refused file m info result fault new room failed answers = by (wants_blocks m (file_blocks file)) room answers
   where
-    by : (wants : Bool) → wants ≡ false → Answers (if wants then Err NoRam else Ok (with_first file m info)) m result new → ⊥
+    by : (wants : Bool) → wants ≡ false → ReturnsMemoryResult (if wants then Err NoRam else Ok (with_first file m info)) m result new → ⊥
     by true none answers = absurd cc
     by false e answers = not-both result fault failed answers.0
 
 -- ---- what was tried
 
 -- each memory is one of some machine
-pub some-memory : (memory : Memory) → (m : MemoryState) × Represents memory m
+pub some-memory : (memory : Memory) → (m : MemoryState) × RepresentsMemory memory m
 some-memory memory = let it = represented memory in (_, it)
 
 -- nothing breaks a rule in a file whose modules can be entered

@@ -8,7 +8,7 @@ use Rattle.std.proofs.lemmas.List.FromFn.{length-range_with_len}
 use Rattle.std.proofs.lemmas.List.Quantifiers.{position-Some}
 use Rattle.std.proofs.lemmas.Option.{slice_get-get_or}
 use Rattle.guest_memory.specs.declared.memory.Memory.{Memory}
-use Rattle.guest_memory.specs.Tie.{Represents}
+use Rattle.guest_memory.specs.Tie.{RepresentsMemory}
 use Rattle.guest_memory.proofs.Seen.{names-seen}
 use Rattle.guest_memory.proofs.Lists.{slice_get-left}
 use Rattle.proc_model.specs.Memory.{MemoryState, map_at, with_map}
@@ -59,7 +59,7 @@ new-slot : (slots : Slots ℕ) (n k : ℕ) → 1 ≤ k → ((slot number : ℕ) 
 new-slot slots n zero some below = absurd (omega arith)
 new-slot slots n (suc k) some below = position-none slots.places n below
 
-module _ (memory : Memory) (m : MemoryState) (tied : Represents memory m) (p : ℕ) (within : p < 33) (file : List ℕ) (loaded : Loaded) (it : IsLoaded m file loaded) where
+module _ (memory : Memory) (m : MemoryState) (tied : RepresentsMemory memory m) (p : ℕ) (within : p < 33) (file : List ℕ) (loaded : Loaded) (it : IsLoaded m file loaded) where
   abbrev group : List ℕ
   group = new_numbers m (file_blocks file)
 

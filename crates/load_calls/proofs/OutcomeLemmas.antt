@@ -4,7 +4,7 @@ use Rattle.std.specs.Option.{option_map_or}
 use Rattle.std.proofs.lemmas.Option.{none-some, same_Some}
 use Rattle.os9_base.specs.declared.errors.TheConstants.{E_BMID, E_NORAM}
 use Rattle.guest_memory.specs.declared.memory.Memory.{Memory}
-use Rattle.guest_memory.specs.Tie.{Represents, modules_of}
+use Rattle.guest_memory.specs.Tie.{RepresentsMemory, modules_of}
 use Rattle.proc_model.specs.declared.module.ModuleInfo.{ModuleInfo}
 use Rattle.proc_model.specs.Loading.{EntersModules}
 use Rattle.proc_model.specs.Memory.{MemoryState, wants_blocks}
@@ -90,8 +90,8 @@ first-there m file loaded it =
     ap (λ (s : MemoryState). module_entry_at s.modules loaded.first.number) it.memory_is ∙ (first-found m it.after loaded.first it.first_is).entry_is
 
 -- the modules that are entered are so still
-pub others-stay : (old new : Memory) (m : MemoryState) (file : List ℕ) (loaded : Loaded) → Represents old m
-    → IsLoaded m file loaded → Represents new loaded.memory → (number : ℕ)
+pub others-stay : (old new : Memory) (m : MemoryState) (file : List ℕ) (loaded : Loaded) → RepresentsMemory old m
+    → IsLoaded m file loaded → RepresentsMemory new loaded.memory → (number : ℕ)
     → IsSome (module_entry_at (modules_of old) number) → IsSome (module_entry_at (modules_of new) number)
 others-stay old new m file loaded tied it stands number some = by (module_entry_at m.modules number) refl (entered-tied old m tied number ∙ some)
   where

@@ -18,7 +18,7 @@ use Rattle.file_state.proofs.CountLemmas.{called-more, called-none, called-read,
 use Rattle.file_state.proofs.KeepLemmas.{ReachesAtMost, others-reached}
 use Rattle.file_state.proofs.ReachedLemmas.{file-there, has-read, has-read-then}
 use Rattle.file_state.specs.Counted.{CalledAtMost}
-use Rattle.file_state.specs.Reached.{HasRead}
+use Rattle.file_state.specs.Reached.{HasReadDrive}
 use Rattle.file_state.specs.declared.state.FileState.{FileState}
 use Rattle.load_calls.proofs.FoundLemmas.{size-whole}
 use Rattle.load_calls.specs.Calls.{found_calls, size_calls}
@@ -42,7 +42,7 @@ only-none step most views = record {
 }
 
 pub only-read : (step : Step ProgramFile) (most : ℕ) (fault : Option ℕ) (drive : ℕ) (files : Files) (new : FileState)
-    (before after : List DriveView) → ReachesAtMost step drive before after → HasRead fault drive files new before
+    (before after : List DriveView) → ReachesAtMost step drive before after → HasReadDrive fault drive files new before
     after → CalledAtMost most before after → OnlyReads step most before after
 only-read step most fault drive files new before after reached read calls = record {
   calls = calls;
@@ -63,7 +63,7 @@ only-then step first then before mid after was is = record {
 -- none failed
 pub reads-well : (step : Step ProgramFile) (most : ℕ) (was : Files) (reading : Result ProgramFile ℕ)
     (result : Result ProgramRead ℕ) (buffer : List ℕ) (new : FileState) (start before after : List DriveView)
-    (drive : ℕ) → reading_of step ≡ reading → HasRead None drive was new start after → AnswersReading buffer reading
+    (drive : ℕ) → reading_of step ≡ reading → HasReadDrive None drive was new start after → AnswersReading buffer reading
     result → OnlyReads step most before after → ReadsTo step most was result buffer new before after
 reads-well step most was reading result buffer new start before after drive is read answers only = record {
   reading = reading;
@@ -78,7 +78,7 @@ reads-well step most was reading result buffer new start before after drive is r
 
 -- the one that was reached
 pub reads-broken : (step : Step ProgramFile) (most : ℕ) (was : Files) (number : ℕ) (buffer : List ℕ) (new : FileState)
-    (start before after : List DriveView) (drive : ℕ) → drive_of step ≡ Some drive → HasRead (Some number) drive was
+    (start before after : List DriveView) (drive : ℕ) → drive_of step ≡ Some drive → HasReadDrive (Some number) drive was
     new start after → OnlyReads step most before after → ReadsTo step most was (Err number) buffer new before after
 reads-broken step most was number buffer new start before after drive reached read only = record {
   reading = Err number;
@@ -116,7 +116,7 @@ reads-behind step first most was result buffer new before mid after only it =
 -- ---- the file that was found
 
 module _ (user next : ℕ) (was : Files) (found : Found) (place : FilePlace) (state : FileState)
-    (start views : List DriveView) (at : IsFoundAt was place found) (first : HasRead None place.drive was state start
+    (start views : List DriveView) (at : IsFoundAt was place found) (first : HasReadDrive None place.drive was state start
     views) where
   abbrev before : Files
   before = with_drives was (drive_states views)
@@ -137,11 +137,11 @@ module _ (user next : ℕ) (was : Files) (found : Found) (place : FilePlace) (st
       (ap (λ (size : Result ℕ ℕ). reading_of (program_by found next size)) (sym is)) first refl (only-none step most views)
 
   module _ (new : FileState) (now : List DriveView) (io : new.io ≡ state.io) (directories : new.directories ≡ state.directories) (records : new.records ≡ state.records) where
-    read-here : (fault : Option ℕ) (most : DiskVolume → DiskFile → ℕ) → ReadsFile place fault most state.disks views new.disks now → HasRead fault place.drive before new views now
+    read-here : (fault : Option ℕ) (most : DiskVolume → DiskFile → ℕ) → ReadsFile place fault most state.disks views new.disks now → HasReadDrive fault place.drive before new views now
     read-here fault most read =
         has-read state new views now before place found.file fault most first.stands there io directories records read
 
-    read-on : (fault : Option ℕ) (most : DiskVolume → DiskFile → ℕ) → ReadsFile place fault most state.disks views new.disks now → HasRead fault place.drive was new start now
+    read-on : (fault : Option ℕ) (most : DiskVolume → DiskFile → ℕ) → ReadsFile place fault most state.disks views new.disks now → HasReadDrive fault place.drive was new start now
     read-on fault most read =
         has-read-then fault place.drive was state new start views now first (read-here fault most read)
 
@@ -151,7 +151,7 @@ module _ (user next : ℕ) (was : Files) (found : Found) (place : FilePlace) (st
         (called-read state new views now before place found.volume found.file fault most first.stands at.volume_is at.file_is read)
 
     -- its descriptor was read
-    pub fd-read : ReadsFile place None (λ v file. 1) state.disks views new.disks now → HasRead None place.drive was new start now
+    pub fd-read : ReadsFile place None (λ v file. 1) state.disks views new.disks now → HasReadDrive None place.drive was new start now
     fd-read read = read-on None (λ v file. 1) read
 
     pub fd-only : ReadsFile place None (λ v file. 1) state.disks views new.disks now → OnlyReads step 1 views now
@@ -165,7 +165,7 @@ module _ (user next : ℕ) (was : Files) (found : Found) (place : FilePlace) (st
     fd-broken (Device number) answer buffer is read device =
         let only = only-here (Some number) (λ v file. 1) read in
         reads-broken step (found_calls user was found) was answer buffer new start views now place.drive reached
-        (subst (λ (n : ℕ). HasRead (Some n) place.drive was new start now) (sym is) (read-on (Some number) (λ v file. 1) read))
+        (subst (λ (n : ℕ). HasReadDrive (Some n) place.drive was new start now) (sym is) (read-on (Some number) (λ v file. 1) read))
         (record {
           calls = called-more 1 (found_calls user was found) views now (omega arith) only.calls;
           media_kept = only.media_kept;

@@ -24,15 +24,15 @@ use Rattle.file_drives.specs.Mounted.{HasFileAt}
 use Rattle.file_state.proofs.CountLemmas.{called-more, called-read}
 use Rattle.file_state.proofs.ReachedLemmas.{has-read, read-none}
 use Rattle.file_state.specs.Counted.{CalledAtMost, calls_of}
-use Rattle.file_state.specs.Reached.{HasRead}
-use Rattle.file_state.specs.Tie.{StandsFor}
+use Rattle.file_state.specs.Reached.{HasReadDrive}
+use Rattle.file_state.specs.Tie.{RepresentsFiles}
 use Rattle.file_state.specs.declared.state.FileState.{FileState}
 use Rattle.file_routes.proofs.ReachLemmas.{volume-there, walk-comes, walks-forbidden, walks-found, walks-reaches, walks-unfound, WalkComes}
 use Rattle.file_routes.proofs.VolumeLemmas.{file-there}
 use Rattle.file_routes.proofs.RouteLemmas.{leads-on}
-use Rattle.file_routes.specs.Reached.{Finds}
-use Rattle.file_routes.specs.Walks.{SomeFrom, Walks}
-use Rattle.file_routes.specs.Routes.{HasNames, IsRoute, Led, NamesOn, leads, led_by, next_step, refuses_by, route_on}
+use Rattle.file_routes.specs.Reached.{FindsFilePlace}
+use Rattle.file_routes.specs.Walks.{SomeFrom, WalksAlongNames}
+use Rattle.file_routes.specs.Routes.{HasCourseNames, IsRoute, Led, NamesOn, leads, led_by, next_step, refuses_by, route_on}
 use Rattle.file_routes.specs.declared.walk.WalkStart.{WalkStart}
 use Rattle.file_routes.specs.declared.walk.Walker.{Walker}
 use Rattle.file_routes.specs.declared.route.Route.{Route}
@@ -105,7 +105,7 @@ module _ (asker : Asker) (files : Files) (terms : ℕ) (refusal : Option ℕ) wh
 
   -- what comes of a call whose list leads to no file
   pub program-nowhere : (state : FileState) (views : List DriveView) (number : ℕ) (buffer : List ℕ)
-      → StandsFor state views files → program_file asker files terms (refuses_by refusal) ≡ refused number
+      → RepresentsFiles state views files → program_file asker files terms (refuses_by refusal) ≡ refused number
       → ReadsTo (program_file asker files terms (refuses_by refusal)) (program_calls asker files terms refusal) files
       (Err number) buffer state views views
   program-nowhere state views number buffer stands is =
@@ -131,14 +131,14 @@ module _ (asker : Asker) (files : Files) (terms : ℕ) (refusal : Option ℕ) wh
 pub record Arrives (asker : Asker) (files : Files) (list : PathList) (from place : FilePlace) (new : FileState) (views now : List DriveView) : Type 0 where
   pub found : Found
   pub there : IsFoundAt files place found
-  pub read : HasRead None place.drive files new views now
+  pub read : HasReadDrive None place.drive files new views now
   pub step_is : program_on_route asker files list (along from list.names) ≡ program_there asker.user files list.next found
   pub walk_most : ℕ
   pub called : CalledAtMost walk_most views now
   pub most_is : program_route_calls asker files (along from list.names) ≡ walk_most + found_calls asker.user files found
 
 module _ (asker : Asker) (process : Pid) (user : ℕ) (files : Files) (list : PathList) (from : FilePlace)
-    (state new : FileState) (views now : List DriveView) (same : asker.user ≡ user) (stands : StandsFor state views
+    (state new : FileState) (views now : List DriveView) (same : asker.user ≡ user) (stands : RepresentsFiles state views
     files) (has : HasFileAt state.disks views from) (io : new.io ≡ state.io) (directories : new.directories ≡
     state.directories) (records : new.records ≡ state.records) where
   abbrev walker : Walker
@@ -170,8 +170,8 @@ module _ (asker : Asker) (process : Pid) (user : ℕ) (files : Files) (list : Pa
       ap (λ (volume : Option DiskVolume). calls_on_volume asker.user files from list.names volume) is
       ∙ ap (λ (u : ℕ). calls_on_volume u files from list.names (Some v)) same
 
-  module _ (arrived : Result FilePlace DirError) (it : Walks walker from list.names arrived state.disks views new.disks now) where
-    read : HasRead (directory_fault arrived) from.drive files new views now
+  module _ (arrived : Result FilePlace DirError) (it : WalksAlongNames walker from list.names arrived state.disks views new.disks now) where
+    read : HasReadDrive (directory_fault arrived) from.drive files new views now
     read = has-read state new views now files from has.file (directory_fault arrived) (λ v file. walk_calls v.files user true from.number list.names) stands there io directories records it.drive
 
     comes-to : WalkComes walker files from list.names arrived
@@ -187,14 +187,14 @@ module _ (asker : Asker) (process : Pid) (user : ℕ) (files : Files) (list : Pa
     only reached =
         only-read step most (directory_fault arrived) from.drive files new views now (inl reached) read called-all
 
-  ended : (number : ℕ) (buffer : List ℕ) → step ≡ reaches from.drive (refused number) → HasRead None from.drive files
+  ended : (number : ℕ) (buffer : List ℕ) → step ≡ reaches from.drive (refused number) → HasReadDrive None from.drive files
       new views now → (drive_of step ≡ Some from.drive → OnlyReads step most views now) → ReadsTo step most files
       (Err number) buffer new views now
   ended number buffer is it only =
       reads-well step most files (Err number) (Err number) buffer new views views now from.drive (ap reading_of is) it refl (only (ap drive_of is))
 
   -- no file was found
-  walk-refused : (error : DirError) (buffer : List ℕ) → Walks walker from list.names (Err error) state.disks views
+  walk-refused : (error : DirError) (buffer : List ℕ) → WalksAlongNames walker from list.names (Err error) state.disks views
       new.disks now → ReadsTo step most files (Err (directory_error error)) buffer new views now
   walk-refused NotAllowed buffer it =
       ended E_FNA buffer (walks-forbidden asker walker files from list.names same (program_found asker files list) (comes-to (Err NotAllowed) it)) (read (Err NotAllowed) it)
@@ -211,13 +211,13 @@ module _ (asker : Asker) (process : Pid) (user : ℕ) (files : Files) (list : Pa
   walk-refused (File TooManyRuns) buffer it = absurd (comes-to (Err (File TooManyRuns)) it)
 
   pub walk-ends : (error : DirError) (number : ℕ) (buffer : List ℕ) → number ≡ directory_error error
-      → Walks walker from list.names (Err error) state.disks views new.disks now → ReadsTo step most files
+      → WalksAlongNames walker from list.names (Err error) state.disks views new.disks now → ReadsTo step most files
       (Err number) buffer new views now
   walk-ends error number buffer is it =
       subst (λ (n : ℕ). ReadsTo step most files (Err n) buffer new views now) (sym is) (walk-refused error buffer it)
 
   -- or one was
-  found-here : (place : FilePlace) (at : Finds walker files from list.names place)
+  found-here : (place : FilePlace) (at : FindsFilePlace walker files from list.names place)
       → record {
         place = record { drive = from.drive; number = place.number };
         volume = at.found.volume;
@@ -228,9 +228,9 @@ module _ (asker : Asker) (process : Pid) (user : ℕ) (files : Files) (list : Pa
       ap (λ (drive : ℕ). record { place = record { drive = drive; number = place.number }; volume = at.found.volume; file = at.found.file }) (sym at.drive_is)
       ∙ ap (λ (p : FilePlace). record { place = p; volume = at.found.volume; file = at.found.file }) (sym at.place_is)
 
-  pub walk-arrives : (place : FilePlace) → Walks walker from list.names (Ok place) state.disks views new.disks now → Arrives asker files list from place new views now
+  pub walk-arrives : (place : FilePlace) → WalksAlongNames walker from list.names (Ok place) state.disks views new.disks now → Arrives asker files list from place new views now
   walk-arrives place it =
-      let at : Finds walker files from list.names place = comes-to (Ok place) it in
+      let at : FindsFilePlace walker files from list.names place = comes-to (Ok place) it in
       record {
         found = at.found;
         there = record {
@@ -238,7 +238,7 @@ module _ (asker : Asker) (process : Pid) (user : ℕ) (files : Files) (list : Pa
           volume_is = ap (volume_at files) at.drive_is ∙ at.volume_is;
           file_is = at.file_is;
         };
-        read = subst (λ (drive : ℕ). HasRead None drive files new views now) (sym at.drive_is) (read (Ok place) it);
+        read = subst (λ (drive : ℕ). HasReadDrive None drive files new views now) (sym at.drive_is) (read (Ok place) it);
         step_is =
             walks-found asker walker files from list.names same (program_found asker files list) place at
             ∙ ap (reaches from.drive) (found-step asker files list at.found)
@@ -279,8 +279,8 @@ module _ (asker : Asker) (files : Files) (list : PathList) (from place : FilePla
 -- ---- the route
 
 -- the names of a course
-pub route-names : (cells : Cells) (course : Course) (start : WalkStart) → course ≡ Along start → HasNames cells course → SomeFrom cells start.first
-route-names cells course start is has = subst (λ (course : Course). HasNames cells course) is has
+pub route-names : (cells : Cells) (course : Course) (start : WalkStart) → course ≡ Along start → HasCourseNames cells course → SomeFrom cells start.first
+route-names cells course start is has = subst (λ (course : Course). HasCourseNames cells course) is has
 
 -- where a route leads along names, so does the list
 pub route-along : (cells : Cells) (asker : Asker) (led : Step Led) (route : Route) (start : WalkStart)
@@ -302,5 +302,5 @@ route-device cells asker files terms refusal route it is =
 -- ---- the query
 
 -- the kernel has as many drives as the machine
-pub as-many : (state : FileState) (views : List DriveView) (files : Files) → StandsFor state views files → length files.drives ≡ length views
+pub as-many : (state : FileState) (views : List DriveView) (files : Files) → RepresentsFiles state views files → length files.drives ≡ length views
 as-many state views files stands = ap (λ (drives : List DriveState). length drives) stands.drives ∙ length-map views drive_state

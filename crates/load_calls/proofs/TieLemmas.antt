@@ -8,13 +8,13 @@ use Rattle.guest_memory.specs.Tie.{cells_of}
 use Rattle.guest_memory.proofs.Seen.{cells_of-seen}
 use Rattle.device_paths.specs.Standing.{NamesFrom}
 use Rattle.proc_model.specs.Records.{record_at}
-use Rattle.proc_state.specs.Tie.{IsSame, Represents, processes_of}
+use Rattle.proc_state.specs.Tie.{AreProcessesSame, RepresentsProcesses, processes_of}
 use Rattle.proc_state.specs.declared.state.ProcState.{ProcState}
 use Rattle.proc_state.proofs.Entered.{represented}
 use Rattle.proc_state.proofs.UserBytes.{same-then}
 
 -- they are the same still
-pub same-processes : (before mid after : ProcState) → IsSame before mid → IsSame mid after → IsSame before after
+pub same-processes : (before mid after : ProcState) → AreProcessesSame before mid → AreProcessesSame mid after → AreProcessesSame before after
 same-processes before mid after one other = record {
   memory = same-then before.memory mid.memory after.memory one.memory other.memory;
   table = other.table ∙ one.table;
@@ -25,22 +25,22 @@ same-processes before mid after one other = record {
 }
 
 -- they are those of some machine
-pub some-machine : (s : ProcState) → (m : Processes) × Represents s m
+pub some-machine : (s : ProcState) → (m : Processes) × RepresentsProcesses s m
 some-machine s =
     let own = represented s.memory in
     let m : Processes = processes_of s _ in
-    let tied : Represents s m = record { memory = own; is = refl } in (m, tied)
+    let tied : RepresentsProcesses s m = record { memory = own; is = refl } in (m, tied)
 
 -- the user of a process
-pub same-user : (s : ProcState) (m : Processes) (p : ℕ) → Represents s m → user_at m p ≡ (record_at s.table p).user
+pub same-user : (s : ProcState) (m : Processes) (p : ℕ) → RepresentsProcesses s m → user_at m p ≡ (record_at s.table p).user
 same-user s m p tied = ap (λ (i : Processes). user_at i p) tied.is
 
 -- the registers at a call
-pub regs-are : (by : Requester) (s : ProcState) (m : Processes) → InCall by s → Represents s m → by.regs ≡ regs_at m by.p.0
+pub regs-are : (by : Requester) (s : ProcState) (m : Processes) → InCall by s → RepresentsProcesses s m → by.regs ≡ regs_at m by.p.0
 regs-are by s m calls tied = calls.regs ∙ ap (λ (m : Processes). regs_at m by.p.0) (sym tied.is)
 
 -- names that stand in its memory
 pub names-seen : (s : ProcState) (m : Processes) (p : ℕ) (first : Option ℕ) (names : List (List ℕ)) → p < 33
-    → Represents s m → NamesFrom (cells_of s.memory p) first names → NamesFrom (cells_at m p) first names
+    → RepresentsProcesses s m → NamesFrom (cells_of s.memory p) first names → NamesFrom (cells_at m p) first names
 names-seen s m p first names process tied stand =
     subst (λ (cells : Cells). NamesFrom cells first names) (cells_of-seen s.memory p process m.memory tied.memory) stand

@@ -6,7 +6,7 @@ use Rattle.os9_base.specs.declared.call.CallEnd.{CallEnd}
 use Rattle.os9_base.specs.declared.registers.TimePacket.{TimePacket}
 use Rattle.proc_model.specs.CallResult.{CallResult}
 use Rattle.proc_model.specs.Processes.{Processes}
-use Rattle.proc_state.specs.Tie.{Comes}
+use Rattle.proc_state.specs.Tie.{ReturnsCallEnd}
 use Rattle.file_drives.specs.Drives.{media_of}
 use Rattle.file_rules.specs.Attempts.{asker_of}
 use Rattle.file_rules.specs.Files.{Asker, Files}
@@ -17,7 +17,7 @@ use Rattle.file_rules.specs.Step.{Step}
 use Rattle.file_rules.specs.Route.{list_of}
 use Rattle.file_state.specs.Attempt.{OnEach, Standing}
 use Rattle.file_state.specs.Counted.{CalledAtMost, calls_of}
-use Rattle.file_state.specs.Tie.{StandsFor}
+use Rattle.file_state.specs.Tie.{RepresentsFiles}
 use Rattle.load_calls.specs.Calls.{list_calls}
 
 -- an attempt of a process had this end, called the drives at most this number of times, and left all media unchanged
@@ -26,8 +26,8 @@ pub record AttemptsBy (attempt : CallResult → Files → Type 0) (m : Processes
   pub result : CallResult
   pub left : Files
   pub attempted : attempt result left
-  pub comes : Comes m p result end after.processes
-  pub stands : StandsFor after.files after.views left
+  pub comes : ReturnsCallEnd m p result end after.processes
+  pub stands : RepresentsFiles after.files after.views left
   pub calls : CalledAtMost most before.views after.views
   pub media_kept : media_of after.views ≡ media_of before.views
 
@@ -42,8 +42,8 @@ start_calls m p now files terms =
     option_map_or (λ named. 0) (named_program m p) (file_calls (asker_of m p now) files terms (tests_program m p))
 
 -- attempts of F$Load, F$Fork and F$Chain, at a time, on a machine with this number of terminals
-abbrev pub LoadsFrom : TimePacket → ℕ → CallEnd → ℕ → Standing → Standing → Type 0
-LoadsFrom now p end terms before after =
+abbrev pub LoadAttemptedFrom : TimePacket → ℕ → CallEnd → ℕ → Standing → Standing → Type 0
+LoadAttemptedFrom now p end terms before after =
     OnEach before
     (λ m was. AttemptsBy (LoadAttempts m (asker_of m p now) was terms p) m p end
     (file_calls (asker_of m p now) was terms (λ step. step)) before after)

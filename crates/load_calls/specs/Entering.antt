@@ -1,6 +1,6 @@
 -- A file of modules, while they are entered as one group.
 use Rattle.std.specs.Prelude.{◌≡◌, ℕ, ◌*◌, ◌≤◌, false, Option, Some, Result, Ok, Err, List, length}
-use Rattle.guest_memory.specs.Tie.{Represents}
+use Rattle.guest_memory.specs.Tie.{RepresentsMemory}
 use Rattle.guest_memory.specs.declared.memory.Memory.{Memory}
 use Rattle.proc_model.specs.Loading.{EntersModules}
 use Rattle.proc_model.specs.Memory.{MemoryState}
@@ -21,7 +21,7 @@ pub record IsOfGroup (group : List ℕ) (number : ℕ) (m : MemoryState) : Type 
 -- the modules of a file from a place on can be entered in the group of this module, which has room for the file
 pub record CanEnter (file : List ℕ) (number from : ℕ) (memory : Memory) : Type 0 where
   pub m : MemoryState
-  pub represents : Represents memory m
+  pub represents : RepresentsMemory memory m
   pub group : List ℕ
   pub of_group : IsOfGroup group number m
   pub room : length file ≤ 8192 * length group
@@ -50,9 +50,9 @@ pub record TriesFile (file : List ℕ) (m : MemoryState) (result : Result Module
 -- memory has the file, and the result is the number of its first module; or memory is unchanged, and the result is the
 -- refusal
 abbrev pub ComesLoaded : MemoryState → Result Loaded ℕ → Result ModId ℕ → Memory → Type 0
-ComesLoaded m (Err number) result new = (result ≡ Err number) × Represents new m
+ComesLoaded m (Err number) result new = (result ≡ Err number) × RepresentsMemory new m
 ComesLoaded m (Ok loaded) result new =
-    (result ≡ Ok (record { 0 = loaded.first.number })) × Represents new loaded.memory
+    (result ≡ Ok (record { 0 = loaded.first.number })) × RepresentsMemory new loaded.memory
 
 -- a file is loaded, or is refused
 pub record EntersFile (file : List ℕ) (m : MemoryState) (result : Result ModId ℕ) (new : Memory) : Type 0 where

@@ -13,24 +13,24 @@ use Rattle.proc_model.specs.Processes.{Processes, own_at, with_memory}
 use Rattle.proc_model.specs.Link.{links_at}
 use Rattle.file_rules.specs.Load.{GoesOnLoaded, Loaded}
 use Rattle.file_rules.specs.ProgramFile.{ProgramFile}
-use Rattle.proc_state.specs.Tie.{Answers, Represents}
+use Rattle.proc_state.specs.Tie.{ReturnsDoneOrRefused, RepresentsProcesses}
 use Rattle.proc_state.specs.declared.state.ProcState.{ProcState}
 
 -- what the header of a file's first module says
-abbrev pub HasFirst : List ℕ → ModuleInfo → Type 0
-HasFirst file info = step_from file 0 ≡ Module info
+abbrev pub HasFirstModule : List ℕ → ModuleInfo → Type 0
+HasFirstModule file info = step_from file 0 ≡ Module info
 
 -- the memory of the processes has the file, and the number is that of its first module
 pub record IsEnteredIn (m : Processes) (loaded : Loaded) (id : ModId) (new : ProcState) : Type 0 where
   pub number_is : id.0 ≡ loaded.first.number
-  pub stands : Represents new (with_memory m loaded.memory)
+  pub stands : RepresentsProcesses new (with_memory m loaded.memory)
 
 -- a call whose file was read goes on, and has this outcome
 pub record GoesOn (m : Processes) (file : ProgramFile) (next : ProgramFile → Loaded → CallResult)
     (outcome : Result (Unit {0}) ℕ) (new : ProcState) : Type 0 where
   pub result : CallResult
   pub goes : GoesOnLoaded m (Ok file) next result
-  pub answers : Answers m result outcome new
+  pub answers : ReturnsDoneOrRefused m result outcome new
 
 -- the map of a process has this number of free slots in a row, and the process may have one link more at the highest
 -- such run

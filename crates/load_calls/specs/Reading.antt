@@ -4,7 +4,7 @@ use Rattle.os9_base.specs.declared.registers.TimePacket.{TimePacket}
 use Rattle.proc_model.specs.Processes.{Processes, cells_at}
 use Rattle.io_model.specs.PathList.{PathList}
 use Rattle.device_paths.specs.Standing.{NamesFrom}
-use Rattle.proc_state.specs.Tie.{Represents}
+use Rattle.proc_state.specs.Tie.{RepresentsProcesses}
 use Rattle.file_rules.specs.Attempts.{asker_of}
 use Rattle.file_rules.specs.Files.{Asker, Files}
 use Rattle.file_rules.specs.ProgramFile.{ProgramFile, ReadsProgram, program_on_route}
@@ -14,8 +14,8 @@ use Rattle.lock_model.specs.declared.place.FilePlace.{FilePlace}
 use Rattle.file_drives.specs.Drives.{DriveView, media_of}
 use Rattle.file_state.specs.Attempt.{Standing}
 use Rattle.file_state.specs.Counted.{CalledAtMost}
-use Rattle.file_state.specs.Reached.{HasRead}
-use Rattle.file_state.specs.Tie.{StandsFor}
+use Rattle.file_state.specs.Reached.{HasReadDrive}
+use Rattle.file_state.specs.Tie.{RepresentsFiles}
 use Rattle.file_state.specs.declared.state.FileState.{FileState}
 use Rattle.rbf_access.specs.Faults.{file_error}
 use Rattle.rbf_access.specs.declared.faults.FileFault.{FileFault}
@@ -43,7 +43,7 @@ pub record ReadsTo (step : Step ProgramFile) (most : ℕ) (was : Files) (result 
   pub left : Files
   pub reads : ReadsProgram step reading was left
   pub answers : AnswersReading buffer reading result
-  pub stands : StandsFor new after left
+  pub stands : RepresentsFiles new after left
   pub calls : CalledAtMost most before after
   -- the media are unchanged, and so are the drives that the step does not reach
   pub media_kept : media_of after ≡ media_of before
@@ -62,23 +62,24 @@ ReadsBetween step most was result before after =
     ReadsTo step most was result after.processes.buffer.items after.files before.views after.views
 
 -- this step of a calling process, at any time, from each state that the kernel's state represents
-abbrev pub ReadsFrom : ℕ → (Asker → Files → Step ProgramFile) → (Asker → Files → ℕ) → Result ProgramRead ℕ → Standing
+abbrev pub ReadsProgramFrom : ℕ → (Asker → Files → Step ProgramFile) → (Asker → Files → ℕ) → Result ProgramRead ℕ
+    → Standing
     → Standing → Type 0
-ReadsFrom p step most result before after =
-    (m : Processes) (was : Files) (now : TimePacket) → Represents before.processes m
-    → StandsFor before.files before.views was
+ReadsProgramFrom p step most result before after =
+    (m : Processes) (was : Files) (now : TimePacket) → RepresentsProcesses before.processes m
+    → RepresentsFiles before.files before.views was
     → ReadsBetween (step (asker_of m p now) was) (most (asker_of m p now) was) was result before after
 
 -- the file reached from a directory along names: those of a process's path list from `first` on, before `next`
 abbrev pub ReadsAlong : ℕ → FilePlace → Option ℕ → ℕ → Result ProgramRead ℕ → Standing → Standing → Type 0
 ReadsAlong p from first next result before after =
-    (m : Processes) (was : Files) (now : TimePacket) (list : PathList) → Represents before.processes m
-    → StandsFor before.files before.views was → NamesFrom (cells_at m p) first list.names → next ≡ list.next
+    (m : Processes) (was : Files) (now : TimePacket) (list : PathList) → RepresentsProcesses before.processes m
+    → RepresentsFiles before.files before.views was → NamesFrom (cells_at m p) first list.names → next ≡ list.next
     → ReadsBetween (program_on_route (asker_of m p now) was list (along from list.names))
     (program_route_calls (asker_of m p now) was (along from list.names)) was result before after
 
 -- a file was found at a place, and its drive has only been read
-pub record HasFound (place : FilePlace) (was : Files) (found : Found) (now : Standing) : Type 0 where
+pub record HasFoundFile (place : FilePlace) (was : Files) (found : Found) (now : Standing) : Type 0 where
   pub before : List DriveView
-  pub read : HasRead None place.drive was now.files before now.views
+  pub read : HasReadDrive None place.drive was now.files before now.views
   pub there : IsFoundAt was place found

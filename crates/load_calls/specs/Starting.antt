@@ -9,7 +9,7 @@ use Rattle.file_rules.specs.Program.{loaded_program}
 use Rattle.file_rules.specs.ProgramFile.{ProgramFile}
 use Rattle.fork_calls.specs.Naming.{meant}
 use Rattle.fork_calls.specs.declared.program.NamedProgram.{NamedProgram}
-use Rattle.proc_state.specs.Tie.{Represents}
+use Rattle.proc_state.specs.Tie.{RepresentsProcesses}
 use Rattle.proc_state.specs.declared.state.ProcState.{ProcState}
 
 -- the number with which a start of a program with a data area of `pages` pages is refused, whose file is first loaded
@@ -26,6 +26,6 @@ start_refusal m process group pages =
 pub record IsProgramIn (m : Processes) (p : ℕ) (file : ProgramFile) (loaded : Loaded) (program : NamedProgram)
     (new : ProcState) : Type 0 where
   pub number_is : program.id.0 ≡ loaded.first.number
-  pub stands : Represents new (with_memory m loaded.memory)
+  pub stands : RepresentsProcesses new (with_memory m loaded.memory)
   pub is : meant program loaded.first.entry (take program.parameters new.buffer.items)
       ≡ loaded_program m p file loaded.first

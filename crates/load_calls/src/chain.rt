@@ -5,18 +5,18 @@ ghost use Rattle.proc_model.specs.Processes.{Processes};
 ghost use Rattle.load_calls.specs.Entering.{TriesFile};
 ghost use Rattle.file_rules.specs.Program.{chains, parameters_of, starts_first};
 ghost use Rattle.file_rules.specs.ProgramFile.{ProgramFile};
-ghost use Rattle.guest_memory.specs.Tie.{Represents as RepresentsMemory};
-ghost use Rattle.file_state.specs.Tie.{IsSound};
+ghost use Rattle.guest_memory.specs.Tie.{RepresentsMemory};
+ghost use Rattle.file_state.specs.Tie.{AreSoundFiles};
 ghost use Rattle.load_calls.specs.Attempts.{ChainsFrom};
 ghost use Rattle.os9_base.specs.declared.registers.TimePacket.{TimePacket};
-ghost use Rattle.load_calls.specs.Loading.{GoesOn, HasFirst};
+ghost use Rattle.load_calls.specs.Loading.{GoesOn, HasFirstModule};
 ghost use Rattle.os9_base.specs.declared.limits.TheConstants.{MOST_GROUP_BYTES as MOST};
 ghost use Rattle.proc_model.specs.Memory.{MemoryState};
 ghost use Rattle.proc_model.specs.Records.{IsLiving};
 ghost use Rattle.io_state.specs.Context.{InCall, SameTerminals};
 ghost use Rattle.file_state.specs.Context.{machine_seen};
 ghost use Rattle.file_drives.specs.Drives.{drives_seen};
-ghost use Rattle.proc_state.specs.Tie.{Represents};
+ghost use Rattle.proc_state.specs.Tie.{RepresentsProcesses};
 ghost use Rattle.load_calls.specs.Reading.{IsInBuffer};
 
 use crate::front::try_front;
@@ -50,7 +50,7 @@ use proc_state::state::ProcState;
 /// fails; else those of `chain_read`. Nothing has changed then.
 pub fn f_chain(machine: &mut Machine, devices: &mut Devices, by: Requester) -> CallEnd
     requires calls { InCall by machine.old.processes }
-    requires sound { IsSound machine.old.files (drives_seen BlockDriver-box devices.old) }
+    requires sound { AreSoundFiles machine.old.files (drives_seen BlockDriver-box devices.old) }
     ensures call { (now : TimePacket) → ChainsFrom now by.p.0 result (vec_len devices.old.terms)
         (machine_seen BlockDriver-box machine.old devices.old)
         (machine_seen BlockDriver-box machine.new devices.new) }
@@ -78,7 +78,7 @@ pub fn f_chain(machine: &mut Machine, devices: &mut Devices, by: Requester) -> C
 pub(crate) fn chain_read(s: &mut ProcState, p: Pid, read: ProgramRead) -> Result<(), u8>
     requires lives { IsLiving s.old.table p.0 }
     requires short { read.size ≤ MOST }
-    ensures call { (m : Processes) (file : ProgramFile) → Represents s.old m
+    ensures call { (m : Processes) (file : ProgramFile) → RepresentsProcesses s.old m
         → IsInBuffer s.old.buffer.items file read → IsSome (parameters_of m p.0)
         → GoesOn m file (starts_first chains m p.0) result s.new }
     ensures lives { IsLiving s.new.table p.0 }
@@ -99,8 +99,8 @@ fn chain_tried(s: &mut ProcState, p: Pid, read: ProgramRead, first: ModuleInfo) 
     requires short { read.size ≤ MOST }
     requires tried { (m : MemoryState) → RepresentsMemory s.old.memory m
         → TriesFile (take read.size s.old.buffer.items) m (Ok first) }
-    requires first { HasFirst (take read.size s.old.buffer.items) first }
-    ensures call { (m : Processes) (file : ProgramFile) → Represents s.old m
+    requires first { HasFirstModule (take read.size s.old.buffer.items) first }
+    ensures call { (m : Processes) (file : ProgramFile) → RepresentsProcesses s.old m
         → IsInBuffer s.old.buffer.items file read → IsSome (parameters_of m p.0)
         → GoesOn m file (starts_first chains m p.0) result s.new }
     ensures lives { IsLiving s.new.table p.0 }

@@ -3,7 +3,7 @@
 ghost use Rattle.std.specs.Prelude.{◌≡◌, ℕ, ◌≤◌, false, IsSome, Ok, Option, List, length};
 ghost use Rattle.load_calls.specs.Entering.{CanEnter, ComesLoaded, EntersFile, IsOfGroup, TriesFile};
 ghost use Rattle.file_rules.specs.Load.{Loaded, Loads};
-ghost use Rattle.guest_memory.specs.Tie.{Represents, modules_of};
+ghost use Rattle.guest_memory.specs.Tie.{RepresentsMemory, modules_of};
 ghost use Rattle.os9_base.specs.declared.limits.TheConstants.{MOST_GROUP_BYTES};
 ghost use Rattle.proc_model.specs.Loading.{EntersModules};
 ghost use Rattle.proc_model.specs.Memory.{MemoryState, with_modules};
@@ -23,7 +23,7 @@ use proc_model::module::{ModId, ModuleInfo, ModuleStep};
 /// Those of `try_file`. Nothing has changed then.
 pub fn enter_file(memory: &mut Memory, file: &[u8]) -> Result<ModId, u8>
     requires short { length file.now ≤ MOST_GROUP_BYTES }
-    ensures loads { (m : MemoryState) → Represents memory.old m
+    ensures loads { (m : MemoryState) → RepresentsMemory memory.old m
         → EntersFile file.now m result memory.new }
 {
     match try_file(memory, file) {
@@ -36,9 +36,10 @@ pub fn enter_file(memory: &mut Memory, file: &[u8]) -> Result<ModId, u8>
 /// one group. Returns the number of the first.
 pub fn enter_tried(memory: &mut Memory, file: &[u8], first: ModuleInfo) -> ModId
     requires short { length file.now ≤ MOST_GROUP_BYTES }
-    requires tried { (m : MemoryState) → Represents memory.old m → TriesFile file.now m (Ok first) }
+    requires tried { (m : MemoryState) → RepresentsMemory memory.old m
+        → TriesFile file.now m (Ok first) }
     requires first { step_from file.now 0 ≡ ModuleStep.Module first }
-    ensures loads { (m : MemoryState) (loaded : Loaded) → Represents memory.old m
+    ensures loads { (m : MemoryState) (loaded : Loaded) → RepresentsMemory memory.old m
         → Loads m file.now (Ok loaded) → ComesLoaded m (Ok loaded) (Ok result) memory.new }
     ensures entered { IsSome (module_entry_at (modules_of memory.new) result.0) }
     ensures stay { (number : ℕ) → IsSome (module_entry_at (modules_of memory.old) number)
@@ -61,9 +62,9 @@ fn enter_others(memory: &mut Memory, file: &[u8], id: ModId, start: u32)
     requires within { start ≤ length file.now }
     requires can { CanEnter file.now id.0 start memory.old }
     ensures entered { (m : MemoryState) (group : List ℕ) (after : List (Option ModuleEntry))
-        → Represents memory.old m → IsOfGroup group id.0 m
+        → RepresentsMemory memory.old m → IsOfGroup group id.0 m
         → EntersModules file.now group false start m.modules (Ok after)
-        → Represents memory.new (with_modules m after) }
+        → RepresentsMemory memory.new (with_modules m after) }
 {
     let mut from = start;
     loop {

@@ -6,10 +6,10 @@ ghost use Rattle.file_drives.specs.Mounted.{HasFileAt, OnDisks, ReadsFile};
 ghost use Rattle.file_rules.specs.Files.{Files};
 ghost use Rattle.file_rules.specs.Open.{may_open};
 ghost use Rattle.file_rules.specs.Route.{Found};
-ghost use Rattle.file_state.specs.Tie.{StandsFor};
+ghost use Rattle.file_state.specs.Tie.{RepresentsFiles};
 ghost use Rattle.io_model.specs.declared.modes.TheConstants.{MODE_EXECUTE as EXECUTE};
 ghost use Rattle.os9_base.specs.declared.limits.TheConstants.{MOST_GROUP_BYTES as MOST};
-ghost use Rattle.proc_state.specs.Tie.{IsSame};
+ghost use Rattle.proc_state.specs.Tie.{AreProcessesSame};
 ghost use Rattle.load_calls.specs.Found as model;
 ghost use Rattle.load_calls.specs.Found.{IsWhole};
 ghost use Rattle.rbf_access.specs.Faults.{file_fault};
@@ -44,7 +44,7 @@ pub(crate) fn program_size(
     user: u16,
 ) -> Result<u16, u8>
     ensures size { (views : List DriveView) (was : Files) (found : Found)
-        → StandsFor files.now views was → found.place ≡ place → IsFdOf found.file fd.now
+        → RepresentsFiles files.now views was → found.place ≡ place → IsFdOf found.file fd.now
         → result ≡ model.program_size user was found }
     ensures short { IfOk result (λ size. size ≤ MOST) }
 {
@@ -100,7 +100,7 @@ pub(crate) fn load_whole(
     ensures drive { ReadsFile place (file_fault result) (λ v file. read_calls file 0 size)
         disks.old (drives_seen BlockDriver-box devices.old)
         disks.new (drives_seen BlockDriver-box devices.new) }
-    ensures same { IsSame s.old s.new }
+    ensures same { AreProcessesSame s.old s.new }
     ensures terms_kept { devices.new.terms ≡ devices.old.terms }
 {
     load_front(disks, devices, place, size, &mut s.buffer)

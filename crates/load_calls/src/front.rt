@@ -4,12 +4,12 @@ ghost use Rattle.std.specs.Prelude.{◌≡◌, ◌≤◌, IfOk, IsSome, Ok, take
 ghost use Rattle.proc_model.specs.Processes.{Processes};
 ghost use Rattle.load_calls.specs.Entering.{TriesFile};
 ghost use Rattle.file_rules.specs.Load.{Loaded, Loads};
-ghost use Rattle.guest_memory.specs.Tie.{Represents as RepresentsMemory, modules_of};
-ghost use Rattle.load_calls.specs.Loading.{HasFirst, IsEnteredIn};
+ghost use Rattle.guest_memory.specs.Tie.{RepresentsMemory, modules_of};
+ghost use Rattle.load_calls.specs.Loading.{HasFirstModule, IsEnteredIn};
 ghost use Rattle.os9_base.specs.declared.limits.TheConstants.{MOST_GROUP_BYTES as MOST};
 ghost use Rattle.proc_model.specs.Memory.{MemoryState};
 ghost use Rattle.proc_model.specs.ModuleList.{module_entry_at};
-ghost use Rattle.proc_state.specs.Tie.{Represents};
+ghost use Rattle.proc_state.specs.Tie.{RepresentsProcesses};
 
 use crate::entering::enter_tried;
 use crate::trial::try_file;
@@ -26,7 +26,7 @@ pub(crate) fn try_front(s: &ProcState, size: u16) -> Result<ModuleInfo, u8>
     requires short { size ≤ MOST }
     ensures tries { (m : MemoryState) → RepresentsMemory s.now.memory m
         → TriesFile (take size s.now.buffer.items) m result }
-    ensures first { IfOk result (HasFirst (take size s.now.buffer.items)) }
+    ensures first { IfOk result (HasFirstModule (take size s.now.buffer.items)) }
 {
     try_file(&s.memory, &s.buffer[..size as usize])
 }
@@ -37,8 +37,8 @@ pub(crate) fn enter_front(s: &mut ProcState, size: u16, first: ModuleInfo) -> Mo
     requires short { size ≤ MOST }
     requires tried { (m : MemoryState) → RepresentsMemory s.old.memory m
         → TriesFile (take size s.old.buffer.items) m (Ok first) }
-    requires first { HasFirst (take size s.old.buffer.items) first }
-    ensures loads { (m : Processes) (loaded : Loaded) → Represents s.old m
+    requires first { HasFirstModule (take size s.old.buffer.items) first }
+    ensures loads { (m : Processes) (loaded : Loaded) → RepresentsProcesses s.old m
         → Loads m.memory (take size s.old.buffer.items) (Ok loaded)
         → IsEnteredIn m loaded result s.new }
     ensures entered { IsSome (module_entry_at (modules_of s.new.memory) result.0) }

@@ -5,19 +5,19 @@ ghost use Rattle.proc_model.specs.Processes.{Processes};
 ghost use Rattle.load_calls.specs.Entering.{TriesFile};
 ghost use Rattle.file_rules.specs.Load.{links_first};
 ghost use Rattle.file_rules.specs.ProgramFile.{ProgramFile};
-ghost use Rattle.guest_memory.specs.Tie.{Represents as RepresentsMemory};
-ghost use Rattle.file_state.specs.Tie.{IsSound};
-ghost use Rattle.load_calls.specs.Attempts.{LoadsFrom};
+ghost use Rattle.guest_memory.specs.Tie.{RepresentsMemory};
+ghost use Rattle.file_state.specs.Tie.{AreSoundFiles};
+ghost use Rattle.load_calls.specs.Attempts.{LoadAttemptedFrom};
 ghost use Rattle.os9_base.specs.declared.registers.TimePacket.{TimePacket};
 ghost use Rattle.load_calls.specs.Loading as model;
-ghost use Rattle.load_calls.specs.Loading.{GoesOn, HasFirst};
+ghost use Rattle.load_calls.specs.Loading.{GoesOn, HasFirstModule};
 ghost use Rattle.os9_base.specs.declared.limits.TheConstants.{MOST_GROUP_BYTES as MOST};
 ghost use Rattle.proc_model.specs.Memory.{MemoryState};
 ghost use Rattle.proc_model.specs.Records.{IsLiving};
 ghost use Rattle.io_state.specs.Context.{InCall, SameTerminals};
 ghost use Rattle.file_state.specs.Context.{machine_seen};
 ghost use Rattle.file_drives.specs.Drives.{drives_seen};
-ghost use Rattle.proc_state.specs.Tie.{Represents};
+ghost use Rattle.proc_state.specs.Tie.{RepresentsProcesses};
 ghost use Rattle.load_calls.specs.Reading.{IsInBuffer};
 
 use crate::front::{enter_front, try_front};
@@ -48,9 +48,9 @@ use proc_state::state::ProcState;
 /// Nothing has changed then.
 pub fn f_load(machine: &mut Machine, devices: &mut Devices, by: Requester) -> CallEnd
     requires calls { InCall by machine.old.processes }
-    requires sound { IsSound machine.old.files (drives_seen BlockDriver-box devices.old) }
-    ensures call { (now : TimePacket) → LoadsFrom now by.p.0 result (vec_len devices.old.terms)
-        (machine_seen BlockDriver-box machine.old devices.old)
+    requires sound { AreSoundFiles machine.old.files (drives_seen BlockDriver-box devices.old) }
+    ensures call { (now : TimePacket) → LoadAttemptedFrom now by.p.0 result
+        (vec_len devices.old.terms) (machine_seen BlockDriver-box machine.old devices.old)
         (machine_seen BlockDriver-box machine.new devices.new) }
     ensures kept { SameTerminals by machine.new.processes devices.old devices.new }
     ensures io { machine.new.files.io ≡ machine.old.files.io }
@@ -72,7 +72,7 @@ pub fn f_load(machine: &mut Machine, devices: &mut Devices, by: Requester) -> Ca
 pub(crate) fn load_read(s: &mut ProcState, p: Pid, read: ProgramRead) -> Result<(), u8>
     requires lives { IsLiving s.old.table p.0 }
     requires short { read.size ≤ MOST }
-    ensures call { (m : Processes) (file : ProgramFile) → Represents s.old m
+    ensures call { (m : Processes) (file : ProgramFile) → RepresentsProcesses s.old m
         → IsInBuffer s.old.buffer.items file read → GoesOn m file (links_first m p.0) result s.new }
     ensures lives { IsLiving s.new.table p.0 }
 {
@@ -93,8 +93,8 @@ fn load_tried(s: &mut ProcState, p: Pid, read: ProgramRead, first: ModuleInfo) -
     requires short { read.size ≤ MOST }
     requires tried { (m : MemoryState) → RepresentsMemory s.old.memory m
         → TriesFile (take read.size s.old.buffer.items) m (Ok first) }
-    requires first { HasFirst (take read.size s.old.buffer.items) first }
-    ensures call { (m : Processes) (file : ProgramFile) → Represents s.old m
+    requires first { HasFirstModule (take read.size s.old.buffer.items) first }
+    ensures call { (m : Processes) (file : ProgramFile) → RepresentsProcesses s.old m
         → IsInBuffer s.old.buffer.items file read → GoesOn m file (links_first m p.0) result s.new }
     ensures lives { IsLiving s.new.table p.0 }
 {
@@ -111,7 +111,8 @@ fn load_tried(s: &mut ProcState, p: Pid, read: ProgramRead, first: ModuleInfo) -
 fn has_place(s: &ProcState, p: Pid, blocks: u8) -> bool
     requires process { p.0 < 33 }
     requires some { 1 ≤ blocks }
-    ensures { (m : Processes) → Represents s.now m → result ≡ model.has_place m p.0 blocks }
+    ensures { (m : Processes) → RepresentsProcesses s.now m → result
+        ≡ model.has_place m p.0 blocks }
 {
     match s.memory.free_run(p, blocks) {
         Some(slot) => s.own(p).links[slot as usize] < MOST_LINKS,

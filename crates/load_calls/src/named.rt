@@ -4,10 +4,10 @@ ghost use Rattle.std.specs.Prelude.{◌≡◌, is_some, option_and_then};
 ghost use Rattle.proc_model.specs.Processes.{Processes};
 ghost use Rattle.proc_model.specs.ModuleLinks.{found_entry};
 ghost use Rattle.file_rules.specs.Program.{named_program};
-ghost use Rattle.guest_memory.specs.Tie.{Represents as RepresentsMemory};
+ghost use Rattle.guest_memory.specs.Tie.{RepresentsMemory};
 ghost use Rattle.proc_model.specs.Memory.{MemoryState};
 ghost use Rattle.proc_model.specs.Records.{IsLiving};
-ghost use Rattle.proc_state.specs.Tie.{IsSame, Represents};
+ghost use Rattle.proc_state.specs.Tie.{AreProcessesSame, RepresentsProcesses};
 
 use fork_calls::naming::read_name;
 use guest_memory::memory::Memory;
@@ -19,8 +19,9 @@ use proc_state::state::ProcState;
 /// entered (System Programmer's Manual, F$Fork and F$Chain)? If not, X is a path list.
 pub(crate) fn names_program(s: &mut ProcState, p: Pid) -> bool
     requires lives { IsLiving s.old.table p.0 }
-    ensures named { (m : Processes) → Represents s.old m → result ≡ is_some (named_program m p.0) }
-    ensures same { IsSame s.old s.new }
+    ensures named { (m : Processes) → RepresentsProcesses s.old m → result
+        ≡ is_some (named_program m p.0) }
+    ensures same { AreProcessesSame s.old s.new }
 {
     let regs = s.regs(p);
     let name = read_name(&mut s.memory, p, regs.x);

@@ -6,15 +6,15 @@ ghost use Rattle.load_calls.specs.Entering.{TriesFile};
 ghost use Rattle.file_rules.specs.Load.{Loaded, Loads};
 ghost use Rattle.file_rules.specs.Program.{parameters_of};
 ghost use Rattle.file_rules.specs.ProgramFile.{ProgramFile};
-ghost use Rattle.guest_memory.specs.Tie.{Represents as RepresentsMemory, modules_of};
-ghost use Rattle.load_calls.specs.Loading.{HasFirst};
+ghost use Rattle.guest_memory.specs.Tie.{RepresentsMemory, modules_of};
+ghost use Rattle.load_calls.specs.Loading.{HasFirstModule};
 ghost use Rattle.load_calls.specs.Starting as model;
 ghost use Rattle.load_calls.specs.Starting.{IsProgramIn};
 ghost use Rattle.os9_base.specs.declared.limits.TheConstants.{MOST_GROUP_BYTES as MOST};
 ghost use Rattle.proc_model.specs.Memory.{MemoryState};
 ghost use Rattle.proc_model.specs.ModuleList.{module_entry_at};
 ghost use Rattle.proc_model.specs.Records.{IsLiving};
-ghost use Rattle.proc_state.specs.Tie.{Represents};
+ghost use Rattle.proc_state.specs.Tie.{RepresentsProcesses};
 ghost use Rattle.load_calls.specs.Reading.{IsInBuffer};
 
 use crate::front::enter_front;
@@ -69,10 +69,11 @@ pub(crate) fn enter_program(
     requires short { read.size ≤ MOST }
     requires tried { (m : MemoryState) → RepresentsMemory s.old.memory m
         → TriesFile (take read.size s.old.buffer.items) m (Ok first) }
-    requires first { HasFirst (take read.size s.old.buffer.items) first }
-    ensures enters { (m : Processes) (file : ProgramFile) (loaded : Loaded) → Represents s.old m
-        → IsInBuffer s.old.buffer.items file read → Loads m.memory file.bytes (Ok loaded)
-        → IsSome (parameters_of m p.0) → IsProgramIn m p.0 file loaded result s.new }
+    requires first { HasFirstModule (take read.size s.old.buffer.items) first }
+    ensures enters { (m : Processes) (file : ProgramFile) (loaded : Loaded)
+        → RepresentsProcesses s.old m → IsInBuffer s.old.buffer.items file read
+        → Loads m.memory file.bytes (Ok loaded) → IsSome (parameters_of m p.0)
+        → IsProgramIn m p.0 file loaded result s.new }
     ensures entered { IsSome (module_entry_at (modules_of s.new.memory) result.id.0) }
     ensures lives { IsLiving s.new.table p.0 }
 {

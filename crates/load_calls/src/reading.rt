@@ -8,15 +8,15 @@ ghost use Rattle.file_drives.specs.Mounted.{HasFileAt};
 ghost use Rattle.file_rules.specs.Files.{Files};
 ghost use Rattle.file_rules.specs.ProgramFile.{program_file};
 ghost use Rattle.file_rules.specs.Route.{Found};
-ghost use Rattle.file_state.specs.Tie.{IsSound};
+ghost use Rattle.file_state.specs.Tie.{AreSoundFiles};
 ghost use Rattle.file_routes.specs.Walks.{SomeFrom};
 ghost use Rattle.file_routes.specs.Routes.{refuses_by};
 ghost use Rattle.guest_memory.specs.Tie.{cells_of};
 ghost use Rattle.os9_base.specs.declared.limits.TheConstants.{MOST_GROUP_BYTES as MOST};
-ghost use Rattle.proc_state.specs.Tie.{IsSame};
+ghost use Rattle.proc_state.specs.Tie.{AreProcessesSame};
 ghost use Rattle.load_calls.specs.Calls.{found_calls, program_calls};
 ghost use Rattle.load_calls.specs.Found.{program_there};
-ghost use Rattle.load_calls.specs.Reading.{HasFound, ReadsAlong, ReadsBetween, ReadsFrom, read_by};
+ghost use Rattle.load_calls.specs.Reading.{HasFoundFile, ReadsAlong, ReadsBetween, ReadsProgramFrom, read_by};
 
 use crate::found::{load_whole, program_size};
 use device_table::devices::Devices;
@@ -57,14 +57,14 @@ pub fn read_program(
     refusal: Option<u8>,
 ) -> Result<ProgramRead, u8>
     requires calls { InCall by machine.old.processes }
-    requires sound { IsSound machine.old.files (drives_seen BlockDriver-box devices.old) }
-    ensures call { ReadsFrom by.p.0
+    requires sound { AreSoundFiles machine.old.files (drives_seen BlockDriver-box devices.old) }
+    ensures call { ReadsProgramFrom by.p.0
         (λ asker was. program_file asker was (vec_len devices.old.terms) (refuses_by refusal))
         (λ asker was. program_calls asker was (vec_len devices.old.terms) refusal) result
         (machine_seen BlockDriver-box machine.old devices.old)
         (machine_seen BlockDriver-box machine.new devices.new) }
     ensures short { IfOk result (λ read. read.size ≤ MOST) }
-    ensures same { IsSame machine.old.processes machine.new.processes }
+    ensures same { AreProcessesSame machine.old.processes machine.new.processes }
     ensures kept { SameTerminals by machine.new.processes devices.old devices.new }
 {
     let query = Query {
@@ -104,7 +104,7 @@ fn read_along(
         (machine_seen BlockDriver-box machine.old devices.old)
         (machine_seen BlockDriver-box machine.new devices.new) }
     ensures short { IfOk result (λ read. read.size ≤ MOST) }
-    ensures same { IsSame machine.old.processes machine.new.processes }
+    ensures same { AreProcessesSame machine.old.processes machine.new.processes }
     ensures kept { SameTerminals by machine.new.processes devices.old devices.new }
 {
     let user = machine.processes.table.user(by.p);
@@ -135,13 +135,13 @@ fn read_there(
 ) -> Result<ProgramRead, u8>
     requires file { HasFileAt machine.old.files.disks
         (drives_seen BlockDriver-box devices.old) located.place }
-    ensures there { (was : Files) (found : Found) → HasFound located.place was found
+    ensures there { (was : Files) (found : Found) → HasFoundFile located.place was found
         (machine_seen BlockDriver-box machine.old devices.old)
         → ReadsBetween (program_there user was located.next found) (found_calls user was found) was
         result (machine_seen BlockDriver-box machine.old devices.old)
         (machine_seen BlockDriver-box machine.new devices.new) }
     ensures short { IfOk result (λ read. read.size ≤ MOST) }
-    ensures same { IsSame machine.old.processes machine.new.processes }
+    ensures same { AreProcessesSame machine.old.processes machine.new.processes }
     ensures terms_kept { devices.new.terms ≡ devices.old.terms }
 {
     let fd = match machine.files.disks.fd(devices, located.place) {

@@ -8,7 +8,7 @@ ghost use Rattle.file_rules.specs.ProgramFile.{ProgramFile};
 ghost use Rattle.file_rules.specs.Step.{Step};
 ghost use Rattle.file_routes.specs.Routes.{refuses_by};
 ghost use Rattle.proc_model.specs.Records.{IsLiving};
-ghost use Rattle.proc_state.specs.Tie.{Represents};
+ghost use Rattle.proc_state.specs.Tie.{RepresentsProcesses};
 
 use os9_base::errors::{E_BPADDR, E_NEMOD};
 use os9_base::registers::Pid;
@@ -26,7 +26,7 @@ const ANY_PROGRAM: u8 = 0x10;
 /// if the call goes on.
 pub fn program_refusal(s: &ProcState, p: Pid) -> Option<u8>
     requires { IsLiving s.now.table p.0 }
-    ensures { (m : Processes) (step : Step ProgramFile) → Represents s.now m
+    ensures { (m : Processes) (step : Step ProgramFile) → RepresentsProcesses s.now m
         → refuses_by result step ≡ tests_program m p.0 step }
 {
     let regs = s.regs(p);

@@ -2,7 +2,7 @@
 
 ghost use Rattle.std.specs.Prelude.{◌≡◌, ℕ, ◌≤◌, false, IfOk, Ok, Option, List, length};
 ghost use Rattle.load_calls.specs.Entering.{TriesFile};
-ghost use Rattle.guest_memory.specs.Tie.{Represents};
+ghost use Rattle.guest_memory.specs.Tie.{RepresentsMemory};
 ghost use Rattle.os9_base.specs.declared.limits.TheConstants.{MOST_GROUP_BYTES};
 ghost use Rattle.proc_model.specs.Loading.{EntersModules};
 ghost use Rattle.proc_model.specs.Memory.{MemoryState};
@@ -26,7 +26,8 @@ use proc_model::module::{ModuleInfo, ModuleStep};
 /// module, else E$NoRAM exactly if fewer blocks are free than it needs.
 pub fn try_file(memory: &Memory, file: &[u8]) -> Result<ModuleInfo, u8>
     requires short { length file.now ≤ MOST_GROUP_BYTES }
-    ensures tries { (m : MemoryState) → Represents memory.now m → TriesFile file.now m result }
+    ensures tries { (m : MemoryState) → RepresentsMemory memory.now m
+        → TriesFile file.now m result }
     ensures first { IfOk result (λ info. step_from file.now 0 ≡ ModuleStep.Module info) }
 {
     match try_modules(memory.modules(), file) {
@@ -43,10 +44,11 @@ pub fn try_file(memory: &Memory, file: &[u8]) -> Result<ModuleInfo, u8>
 /// needs.
 fn try_room(memory: &Memory, file: &[u8]) -> Result<ModuleInfo, u8>
     requires short { length file.now ≤ MOST_GROUP_BYTES }
-    requires tried { (m : MemoryState) (group : List ℕ) → Represents memory.now m
+    requires tried { (m : MemoryState) (group : List ℕ) → RepresentsMemory memory.now m
         → (after : List (Option ModuleEntry))
         × EntersModules file.now group false 0 m.modules (Ok after) }
-    ensures tries { (m : MemoryState) → Represents memory.now m → TriesFile file.now m result }
+    ensures tries { (m : MemoryState) → RepresentsMemory memory.now m
+        → TriesFile file.now m result }
     ensures first { IfOk result (λ info. step_from file.now 0 ≡ ModuleStep.Module info) }
 {
     match next_module(file, 0) {

@@ -11,7 +11,7 @@ use Rattle.proc_model.specs.Ready.{Act, act_of, attempts, delivers, executes}
 use Rattle.proc_model.specs.declared.proc_call.ProcCall.TheVariants as Call
 use Rattle.lock_model.specs.Laws.{Covers}
 use Rattle.lock_model.specs.Locks.{request_of}
-use Rattle.lock_model.specs.Records.{AreRecords}
+use Rattle.lock_model.specs.Records.{AreLockRecords}
 use Rattle.lock_model.specs.declared.lock.Request.{Request}
 use Rattle.lock_model.specs.declared.lock.TheConstants.{PATH_PLACES}
 use Rattle.lock_model.proofs.Agreeing.{records-ended-below, records-first, records-forgotten}
@@ -44,7 +44,7 @@ use Rattle.machine_model.specs.Start.{Boot, Starts}
 use Rattle.machine_model.specs.State.{Rest, State}
 use Rattle.isolation_laws.proofs.Asked.{Asks, asks}
 use Rattle.call_laws.specs.Running.{IsRunning}
-use Rattle.file_laws.specs.Claims.{Claims, CoversCall, Made, Requests, read_call}
+use Rattle.file_laws.specs.Claims.{Claims, CoversCall, MadePathCall, Requests, read_call}
 use Rattle.file_laws.proofs.Claimed.{records-come}
 use Rattle.lock_laws.proofs.Covering.{range-covers}
 use Rattle.lock_laws.specs.Locked.{AreAgreed}
@@ -94,7 +94,7 @@ module _ (files : Files) (p : ℕ) (agreed : AreAgreed files) where
 -- what reads a file at most
 left-agreed : {reached : Option ℕ} {result : CallResult} (old new : Files) → LeavesFiles reached old result new → AreAgreed old → AreAgreed new
 left-agreed old new left agreed = record {
-  records = subst AreRecords (sym left.records) agreed.records;
+  records = subst AreLockRecords (sym left.records) agreed.records;
   places = ap (λ (io : Io). length io.paths.descs) left.io ∙ agreed.places;
 }
 
@@ -133,7 +133,7 @@ module _ (asker : Asker) (files : Files) (found : OpenFile) (claim : Claim) wher
       differ is = cc
 
 module _ (s : State) (p code : ℕ) (running : IsRunning s) (next : act_of s.processes p ≡ attempts code) (coded : path_call_of code ≡ Some Path.ReadLn) (now : TimePacket) (terms : ℕ) where
-  abbrev m : Made
+  abbrev m : MadePathCall
   m = record { call = Path.ReadLn; asker = asker_of s.processes p now; files = s.files; terms = terms }
 
   -- a request that waits has as many bytes as the call that is attempted again asks for

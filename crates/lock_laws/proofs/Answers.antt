@@ -42,7 +42,7 @@ use Rattle.file_rules.specs.declared.path_call.PathCall.{PathCall}
 use Rattle.file_rules.specs.declared.path_call.PathCall.TheVariants as Call
 use Rattle.file_rules.specs.declared.status.TheConstants.{SS_LOCK, SS_SIZE}
 use Rattle.os9_base.specs.declared.calls.TheConstants.{F_PERR, I_WRITE, I_WRITLN}
-use Rattle.file_laws.specs.Attempt.{Attempt, HasFault, asker_in, made_in}
+use Rattle.file_laws.specs.Attempt.{Attempt, ReportsDriveFault, asker_in, made_in}
 use Rattle.file_laws.specs.Devices.{number_in}
 use Rattle.file_laws.specs.Touch.{OneDriveFails}
 use Rattle.file_laws.proofs.TouchAttempts.{ends-refused}
@@ -347,7 +347,7 @@ module _ (it : Attempt) where
   step = file_step it.call asker it.files (length it.before)
 
   -- a drive failed in it
-  pub broken-fault : IsBroken step asker it.files it.attempted.effect → HasFault it
+  pub broken-fault : IsBroken step asker it.files it.attempted.effect → ReportsDriveFault it
   broken-fault broken =
       subst (λ (result : CallResult). OneDriveFails (drive_of step) it.files result it.new) (sym it.attempted.result_is)
       (subst (λ (new : Files). OneDriveFails (drive_of step) it.files (result_of it.processes it.process (io_effect it.attempted.effect)) new) (sym it.attempted.state)
@@ -364,10 +364,10 @@ module _ (it : Attempt) where
       })))
 
   -- an attempt that makes a request ends as that is answered, or a drive fails in it
-  ends-so : (grant : Grant) (so : IsAnsweredSo grant it) → end_by_answer so.request grant it.attempted.effect.end ⊎ HasFault it
+  ends-so : (grant : Grant) (so : IsAnsweredSo grant it) → end_by_answer so.request grant it.attempted.effect.end ⊎ ReportsDriveFault it
   ends-so grant so = by_does it.attempted.does
     where
-      by_does : FileDoes step asker it.files it.attempted.effect it.before it.after → end_by_answer so.request grant it.attempted.effect.end ⊎ HasFault it
+      by_does : FileDoes step asker it.files it.attempted.effect it.before it.after → end_by_answer so.request grant it.attempted.effect.end ⊎ ReportsDriveFault it
       by_does (inl well) =
           let (next, is, goes) = comes-to asker it.files (length it.before) so.requests.found it.call so.requests.claim so.requests.names so.requests.claims in
           inl (subst (end_by_answer so.request grant) (sym (ap (λ (effect : FileEffect). effect.end) well.effect_is))
@@ -422,17 +422,17 @@ module _ (it : Attempt) where
               inr (subst (λ (request : Request). TakesEffect (made_in it) found request it.new.records) (sym granted.requests.is)
               (subst (TakesEffect (made_in it) found first) (sym (records regs answered)) takes))
 
-  pub deadlock-refuses : IsAnsweredSo Deadlock it → (it.result ≡ CallResult.refused E_DEADLK) ⊎ HasFault it
+  pub deadlock-refuses : IsAnsweredSo Deadlock it → (it.result ≡ CallResult.refused E_DEADLK) ⊎ ReportsDriveFault it
   deadlock-refuses so = by_end (ends-so Deadlock so)
     where
-      by_end : (it.attempted.effect.end ≡ fails E_DEADLK) ⊎ HasFault it → (it.result ≡ CallResult.refused E_DEADLK) ⊎ HasFault it
+      by_end : (it.attempted.effect.end ≡ fails E_DEADLK) ⊎ ReportsDriveFault it → (it.result ≡ CallResult.refused E_DEADLK) ⊎ ReportsDriveFault it
       by_end (inl is) = inl (result-by (fails E_DEADLK) is)
       by_end (inr fault) = inr fault
 
-  pub lock-refuses : IsAnsweredSo Locked it → (it.result ≡ CallResult.refused E_LOCK) ⊎ HasFault it
+  pub lock-refuses : IsAnsweredSo Locked it → (it.result ≡ CallResult.refused E_LOCK) ⊎ ReportsDriveFault it
   lock-refuses so = by_end (ends-so Locked so)
     where
-      by_end : (it.attempted.effect.end ≡ fails E_LOCK) ⊎ HasFault it → (it.result ≡ CallResult.refused E_LOCK) ⊎ HasFault it
+      by_end : (it.attempted.effect.end ≡ fails E_LOCK) ⊎ ReportsDriveFault it → (it.result ≡ CallResult.refused E_LOCK) ⊎ ReportsDriveFault it
       by_end (inl is) = inl (result-by (fails E_LOCK) is)
       by_end (inr fault) = inr fault
 

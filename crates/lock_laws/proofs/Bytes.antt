@@ -7,7 +7,7 @@ use Rattle.lock_model.specs.Laws.{Covers, IsIn}
 use Rattle.lock_model.specs.declared.lock.Range.{Range}
 use Rattle.rbf_model.specs.Writes.{put_at}
 use Rattle.rbf_change.specs.Contents.{extended, resized, written}
-use Rattle.rbf_change.specs.Faults.{IsFront, end, none, sector}
+use Rattle.rbf_change.specs.Faults.{IsWriteFront, end, none, sector}
 use Rattle.lock_laws.specs.Contents.{ChangesWithin, ComesFrom, IsBefore}
 
 -- contents that stay
@@ -149,7 +149,7 @@ written-within range old (byte ∷ rest) covers = record {
 
 -- a write that was ended: a front of its bytes is there
 pub front-within : (range : Range) (old bytes : List ℕ) (count : ℕ) → Covers range (length bytes)
-    → IsFront (length old) range.start bytes count → ChangesWithin range bytes old
+    → IsWriteFront (length old) range.start bytes count → ChangesWithin range bytes old
     (put_at old range.start (take count bytes))
 front-within range old bytes count covers is = record {
   kept = λ i out there. elim (cases_lt i at) [
@@ -177,7 +177,7 @@ front-within range old bytes count covers is = record {
     long = put-length old part at
 
     -- none is written, or what is written is in the file
-    fits : (count : ℕ) → IsFront (length old) at bytes count → (count ≡ 0) ⊎ (at + count ≤ length old)
+    fits : (count : ℕ) → IsWriteFront (length old) at bytes count → (count ≡ 0) ⊎ (at + count ≤ length old)
     fits count none = inl refl
     fits count (sector less within even) = inr (omega (arith, within))
     fits count (end less same) = inr (omega (arith, same))

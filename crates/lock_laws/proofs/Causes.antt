@@ -20,7 +20,7 @@ use Rattle.file_laws.specs.Devices.{IsDevice}
 use Rattle.machine_model.specs.State.{State}
 use Rattle.call_laws.specs.Running.{WaitsOnPath}
 use Rattle.lock_laws.specs.Living.{IsRunOpen}
-use Rattle.lock_laws.specs.Touches.{WaitsFor}
+use Rattle.lock_laws.specs.Touches.{HasWaitCause}
 use Rattle.lock_laws.proofs.Events.{waits-so}
 use Rattle.lock_laws.proofs.Locks.{cause_of}
 
@@ -34,7 +34,7 @@ device-cause (Folder drive sector) is = absurd (no-place (record { drive = drive
 device-cause (Term terminal) is = (Cause.Term terminal, refl)
 device-cause (Pipe pipe) is = (Cause.Pipe pipe, refl)
 
-pub call-cause : (s : State) (q : ℕ) (pending : PendingCall) → IsRunOpen s → pending_at s.files.io q ≡ Some pending → (cause : Cause) × WaitsFor s q cause
+pub call-cause : (s : State) (q : ℕ) (pending : PendingCall) → IsRunOpen s → pending_at s.files.io q ≡ Some pending → (cause : Cause) × HasWaitCause s q cause
 call-cause s q pending run is = by_request (request_of s.files.records.locks q) refl
   where
     it : WaitsOnPath s.files q pending
@@ -45,13 +45,13 @@ call-cause s q pending run is = by_request (request_of s.files.records.locks q) 
         ap (λ (pending : Option PendingCall). option_and_then cause_by (option_and_then (λ (pending : PendingCall). target_of s.files.io pending.path) pending)) is
         ∙ ap (λ (desc : Option Desc). option_and_then cause_by (option_map (λ (desc : Desc). desc.target) desc)) it.there ∙ on
 
-    by_device : request_of s.files.records.locks q ≡ None → IsDevice it.desc.target ⊎ IsSome (request_of s.files.records.locks q) → (cause : Cause) × WaitsFor s q cause
+    by_device : request_of s.files.records.locks q ≡ None → IsDevice it.desc.target ⊎ IsSome (request_of s.files.records.locks q) → (cause : Cause) × HasWaitCause s q cause
     by_device none (inl device) =
         let (cause, on) = device-cause it.desc.target device in
         (cause, waits-so s.files.io s.files.records.locks q cause none (target cause on))
     by_device none (inr some) = absurd (false≢true (sym (ap is_some none) ∙ some))
 
-    by_request : (place : Option Request) → request_of s.files.records.locks q ≡ place → (cause : Cause) × WaitsFor s q cause
+    by_request : (place : Option Request) → request_of s.files.records.locks q ≡ place → (cause : Cause) × HasWaitCause s q cause
     by_request None none = by_device none it.on
     by_request (Some request) some = (
       cause_of request.lock.file,

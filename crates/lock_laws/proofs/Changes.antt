@@ -11,7 +11,7 @@ use Rattle.io_model.specs.declared.terminal.ReadKind.TheVariants.{Bytes, WholeLi
 use Rattle.lock_model.specs.Conflict.{conflicts}
 use Rattle.lock_model.specs.Laws.{Covers, MayHold}
 use Rattle.lock_model.specs.Locks.{Locks, request_of}
-use Rattle.lock_model.specs.Records.{AreRecords, Records, with_waiting}
+use Rattle.lock_model.specs.Records.{AreLockRecords, Records, with_waiting}
 use Rattle.lock_model.specs.Waits.{closes, first_answer, is_late, later_answer}
 use Rattle.lock_model.specs.declared.lock.Grant.TheVariants.{Deadlock, Granted, Locked, Wait}
 use Rattle.lock_model.specs.declared.lock.Held.{Held}
@@ -28,7 +28,7 @@ use Rattle.file_rules.specs.declared.path_call.PathCall.{PathCall}
 use Rattle.file_rules.specs.declared.path_call.PathCall.TheVariants as Call
 use Rattle.file_laws.specs.Devices.{number_in}
 use Rattle.file_laws.proofs.Requests.{emptied-at}
-use Rattle.file_laws.specs.Claims.{CoversCall, Made, Requests}
+use Rattle.file_laws.specs.Claims.{CoversCall, MadePathCall, Requests}
 use Rattle.file_laws.specs.Recorded.{IsGranted, IsTaken, RecordsCome, path_in, settled}
 
 -- ---- what answers say
@@ -90,7 +90,7 @@ line-bytes : WholeLine ≡ Bytes → ⊥
 line-bytes is = cc
 
 -- a line that was read fits in the range requested if that covers the call
-line-fits : (m : Made) (found : OpenFile) (request : Request) (bytes : List ℕ)
+line-fits : (m : MadePathCall) (found : OpenFile) (request : Request) (bytes : List ℕ)
     → bytes ≡ bytes_at WholeLine m.asker found request.lock.range.start → Covers request.lock.range m.asker.caller.regs.y
     → Covers request.lock.range (length bytes)
 line-fits m found request bytes is covers last end =
@@ -102,10 +102,10 @@ line-fits m found request bytes is covers last end =
     omega (arith, long, most, covers last end)
 
 -- the request of a line read covers the call
-abbrev pub CoversLine : Made → Type 0
+abbrev pub CoversLine : MadePathCall → Type 0
 CoversLine m = m.call ≡ Call.ReadLn → (request : Request) → Requests m request → CoversCall m.call m.asker.caller.regs request
 
-module _ (m : Made) (agreed : AreRecords m.files.records) (places : length m.files.io.paths.descs ≡ PATH_PLACES)
+module _ (m : MadePathCall) (agreed : AreLockRecords m.files.records) (places : length m.files.io.paths.descs ≡ PATH_PLACES)
     (own : (request : Request) → request_of m.files.records.locks m.asker.caller.process.0 ≡ Some request
     → request.lock.owner.0 ≡ m.asker.caller.process.0) where
   abbrev p : ℕ
@@ -114,7 +114,7 @@ module _ (m : Made) (agreed : AreRecords m.files.records) (places : length m.fil
   abbrev locks : Locks
   locks = m.files.records.locks
 
-  settled-agreed : AreRecords (settled m)
+  settled-agreed : AreLockRecords (settled m)
   settled-agreed = records-forgotten m.files.records p agreed
 
   -- a request of an attempt is of its process
@@ -156,7 +156,7 @@ module _ (m : Made) (agreed : AreRecords m.files.records) (places : length m.fil
   lock-may request it WholeLine bytes (IsTaken.by_lock call code kind none) covers = absurd (line-bytes kind)
 
   -- a process that waits on keeps its request
-  waits-agreed : (request : Request) → Requests m request → answer_in locks p m.asker.tick request ≡ Wait → AreRecords (with_waiting m.files.records request.lock.owner.0 (Some request))
+  waits-agreed : (request : Request) → Requests m request → answer_in locks p m.asker.tick request ≡ Wait → AreLockRecords (with_waiting m.files.records request.lock.owner.0 (Some request))
   waits-agreed request it answer = by_kept (request_of locks p) refl it.is answer
     where
       owner : request.lock.owner.0 ≡ p
@@ -165,11 +165,11 @@ module _ (m : Made) (agreed : AreRecords m.files.records) (places : length m.fil
       by_kept : (kept : Option Request) → request_of locks p ≡ kept → request ≡ unwrap_or kept
           (first_request m.asker it.found it.claim) → (if is_none kept then first_answer locks request else
           later_answer locks m.asker.tick request) ≡ Wait
-          → AreRecords (with_waiting m.files.records request.lock.owner.0 (Some request))
+          → AreLockRecords (with_waiting m.files.records request.lock.owner.0 (Some request))
       by_kept None none is waits =
           records-waiting m.files.records request (ap (request_of locks) owner ∙ none) (first-unclosed (conflicts locks request.lock) _ (closes locks request.lock) waits) agreed
       by_kept (Some other) there is waits =
-          subst AreRecords (sym same) agreed
+          subst AreLockRecords (sym same) agreed
         where
           same : with_waiting m.files.records request.lock.owner.0 (Some request) ≡ m.files.records
           same =
@@ -177,16 +177,16 @@ module _ (m : Made) (agreed : AreRecords m.files.records) (places : length m.fil
               ∙ ap (λ (kept : Option Request). with_waiting m.files.records p kept) (ap (λ (request : Request). Some request) is ∙ sym there)
               ∙ ap (λ (requests : List (Option Request)). let now : Records = record m.files.records { locks = record locks { requests = requests } } in now) (set-get_or locks.requests p None)
 
-  pub come-agreed : CoversLine m → (now : Records) → RecordsCome m now → AreRecords now
-  come-agreed covers now (RecordsCome.stay is) = subst AreRecords (sym is) settled-agreed
+  pub come-agreed : CoversLine m → (now : Records) → RecordsCome m now → AreLockRecords now
+  come-agreed covers now (RecordsCome.stay is) = subst AreLockRecords (sym is) settled-agreed
   come-agreed covers now (RecordsCome.holds request kind bytes it taken is) =
-      subst AreRecords (sym is) (records-held (settled m) (path_in it) (lock_by kind request.lock bytes) bytes
+      subst AreLockRecords (sym is) (records-held (settled m) (path_in it) (lock_by kind request.lock bytes) bytes
       (path-low it.requests.found it.requests.names) (lock-may request it kind bytes taken covers) settled-agreed)
   come-agreed covers now (RecordsCome.writes request bytes it sent is) =
-      subst AreRecords (sym is) (records-written (settled m) (path_in it) request.lock bytes
+      subst AreLockRecords (sym is) (records-written (settled m) (path_in it) request.lock bytes
       (path-low it.requests.found it.requests.names) (granted-free locks p m.asker.tick request
       (request_of locks p) it.answer) settled-agreed)
   come-agreed covers now (RecordsCome.ends found names ends is) =
-      subst AreRecords (sym is) (records-without (settled m) found.opened.path.0 settled-agreed)
+      subst AreLockRecords (sym is) (records-without (settled m) found.opened.path.0 settled-agreed)
   come-agreed covers now (RecordsCome.waits request requests answer is) =
-      subst AreRecords (sym is) (waits-agreed request requests answer)
+      subst AreLockRecords (sym is) (waits-agreed request requests answer)

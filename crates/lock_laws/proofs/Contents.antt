@@ -18,7 +18,7 @@ use Rattle.rbf_change.specs.NewFiles.{directory_plan, file_plan}
 use Rattle.io_model.specs.Attempts.{pending_in}
 use Rattle.io_model.specs.Step.{IoEnd, answers}
 use Rattle.file_rules.specs.Attempts.{file_step}
-use Rattle.file_rules.specs.Change.{Change, Makes, MayLeave}
+use Rattle.file_rules.specs.Change.{Change, AppliesChange, ChangeMayLeave}
 use Rattle.file_rules.specs.Files.{Files, volume_at}
 use Rattle.file_rules.specs.Locking.{records_after}
 use Rattle.file_rules.specs.Seek.{long_of}
@@ -28,8 +28,8 @@ use Rattle.file_rules.specs.declared.path_call.PathCall.TheVariants as Call
 use Rattle.file_rules.specs.declared.status.TheConstants.{SS_SIZE}
 use Rattle.file_laws.proofs.Named.{is-named}
 use Rattle.file_laws.specs.Kinds.{AreKinds, IsOfKind, IsOnTarget}
-use Rattle.file_laws.specs.Attempt.{Attempt, HasFault, made_in}
-use Rattle.file_laws.specs.Claims.{Made}
+use Rattle.file_laws.specs.Attempt.{Attempt, ReportsDriveFault, made_in}
+use Rattle.file_laws.specs.Claims.{MadePathCall}
 use Rattle.file_laws.specs.Devices.{number_in}
 use Rattle.file_laws.proofs.Requests.{over-drops}
 use Rattle.lock_laws.specs.Contents.{ChangesWithin, ContentsCome, HasPath, IsCovered, IsPathOn, WritesBytes, contents_of}
@@ -51,7 +51,7 @@ abbrev contents_in : List (Option DiskVolume) → FilePlace → List ℕ
 contents_in volumes place =
     option_map_or (λ (file : DiskFile). file.contents) (option_and_then (λ (v : DiskVolume). v.files place.number) (slice_index_or volumes place.drive None)) []
 
-module _ (m : Made) (kinds : AreKinds m.files) (covered : IsCovered m) (place : FilePlace) (path : ℕ) (on : IsPathOn m.files.io.paths path place) (now : Records) (faulted : Type 0) where
+module _ (m : MadePathCall) (kinds : AreKinds m.files) (covered : IsCovered m) (place : FilePlace) (path : ℕ) (on : IsPathOn m.files.io.paths path place) (now : Records) (faulted : Type 0) where
   abbrev Come : List (Option DiskVolume) → Type 0
   Come volumes = ContentsCome m place now faulted (contents_in m.files.volumes place) (contents_in volumes place)
 
@@ -158,71 +158,72 @@ module _ (m : Made) (kinds : AreKinds m.files) (covered : IsCovered m) (place : 
           (size-then v w place.number there-of.file was-there request.lock.range open_end (long_of m.asker.caller.regs) m.asker.now from it)
 
       made-come : (change : Change) (records : Records) → IsClaimedChange m.call m.asker m.files m.terms drive change
-          records → IsAfter records → (n : ℕ) → Makes change m.asker.user m.asker.now v w n → Come volumes
+          records → IsAfter records → (n : ℕ) → AppliesChange change m.asker.user m.asker.now v w n → Come volumes
       made-come change records (IsClaimedChange.by_write request bytes granted sent on is room recorded) after n makes =
-          by_number (subst (λ (change : Change). Makes change m.asker.user m.asker.now v w n) is makes)
+          by_number (subst (λ (change : Change). AppliesChange change m.asker.user m.asker.now v w n) is makes)
         where
           has : Has request granted bytes
           has = inl (after ∙ ap (λ (records : Records). with_waiting records m.asker.caller.process.0 None) recorded)
 
-          by_number : Makes (Change.writes granted.requests.found.place.number request.lock.range.start bytes) m.asker.user m.asker.now v w n → Come volumes
+          by_number : AppliesChange (Change.writes granted.requests.found.place.number request.lock.range.start bytes) m.asker.user m.asker.now v w n → Come volumes
           by_number it = elim (cases_eq place.number granted.requests.found.place.number) [
             | inl same ↦
                 within-come request bytes granted (place-is request granted on same) (inl sent) has
                 (write-then v w place.number there-of.file was-there request.lock.range bytes m.asker.now (room (request-covers m covered request granted.requests))
-                (subst (λ (k : ℕ). Makes (Change.writes k request.lock.range.start bytes) m.asker.user m.asker.now v w n) (sym same) it))
+                (subst (λ (k : ℕ). AppliesChange (Change.writes k request.lock.range.start bytes) m.asker.user m.asker.now v w n) (sym same) it))
             | inr apart ↦ then-come (other-written v w place.number there-of.file was-there granted.requests.found.place.number request.lock.range.start bytes m.asker.now apart it)
           ]
       made-come change records (IsClaimedChange.by_size request granted set on is room recorded) after n makes =
-          by_number (subst (λ (change : Change). Makes change m.asker.user m.asker.now v w n) is makes)
+          by_number (subst (λ (change : Change). AppliesChange change m.asker.user m.asker.now v w n) is makes)
         where
-          by_number : Makes (Change.sizes granted.requests.found.place.number (long_of m.asker.caller.regs)) m.asker.user m.asker.now v w n → Come volumes
+          by_number : AppliesChange (Change.sizes granted.requests.found.place.number (long_of m.asker.caller.regs)) m.asker.user m.asker.now v w n → Come volumes
           by_number it =
               let (open_end, from) = room (request-covers m covered request granted.requests) in
               elim (cases_eq place.number granted.requests.found.place.number) [
                 | inl same ↦
                     sized-come request granted (place-is request granted on same) set (found-is request granted on same) open_end from
-                    (subst (λ (k : ℕ). Makes (Change.sizes k (long_of m.asker.caller.regs)) m.asker.user m.asker.now v w n) (sym same) it)
+                    (subst (λ (k : ℕ). AppliesChange (Change.sizes k (long_of m.asker.caller.regs)) m.asker.user m.asker.now v w n) (sym same) it)
                     (length granted.requests.found.file.contents == long_of m.asker.caller.regs) refl
                     (after ∙ ap (λ (records : Records). with_waiting records m.asker.caller.process.0 None) recorded)
                 | inr apart ↦ then-come (other-sized v w place.number there-of.file was-there granted.requests.found.place.number (long_of m.asker.caller.regs) m.asker.now apart it)
               ]
       made-come change records (IsClaimedChange.by_attributes k attributes is recorded) after n makes =
-          then-come (attributes-then v w place.number there-of.file was-there k attributes m.asker.now (subst (λ (change : Change). Makes change m.asker.user m.asker.now v w n) is makes))
+          then-come (attributes-then v w place.number there-of.file was-there k attributes m.asker.now (subst (λ (change : Change). AppliesChange change m.asker.user m.asker.now v w n) is makes))
       made-come change records (IsClaimedChange.by_file d name attributes is folder recorded) after n makes =
           let (dir, at, is_dir) = folder-in d folder in
           then-come (entered-then v w place.number there-of.file was-there there-of.kind d dir at is_dir n name
           (file_plan attributes m.asker.user m.asker.now) (kinds.clusters drive v mounted)
-          (subst (λ (change : Change). Makes change m.asker.user m.asker.now v w n) is makes))
+          (subst (λ (change : Change). AppliesChange change m.asker.user m.asker.now v w n) is makes))
       made-come change records (IsClaimedChange.by_directory d name attributes is folder recorded) after n makes =
           let (dir, at, is_dir) = folder-in d folder in
           then-come (entered-then v w place.number there-of.file was-there there-of.kind d dir at is_dir n name
           (directory_plan attributes m.asker.user m.asker.now d n) (kinds.clusters drive v mounted)
-          (subst (λ (change : Change). Makes change m.asker.user m.asker.now v w n) is makes))
+          (subst (λ (change : Change). AppliesChange change m.asker.user m.asker.now v w n) is makes))
       made-come change records (IsClaimedChange.by_deletion d k name is folder closed recorded) after n makes =
           let (dir, at, is_dir) = folder-in d folder in
           then-come (deleted-then v w place.number there-of.file was-there there-of.kind d dir at is_dir k name
-          (closed-apart k closed) (subst (λ (change : Change). Makes change m.asker.user m.asker.now v w n) is
+          (closed-apart k closed) (subst (λ (change : Change). AppliesChange change m.asker.user m.asker.now v w n) is
           makes))
 
       -- ---- ended by a fault
 
-      left-come : faulted → (change : Change) (records : Records) → IsClaimedChange m.call m.asker m.files m.terms drive change records → MayLeave change m.asker.user m.asker.now v w → Come volumes
+      left-come : faulted → (change : Change) (records : Records) → IsClaimedChange m.call m.asker m.files m.terms
+          drive change records → ChangeMayLeave change m.asker.user m.asker.now v w → Come volumes
       left-come broke change records (IsClaimedChange.by_write request bytes granted sent on is room recorded) left =
-          by_number (subst (λ (change : Change). MayLeave change m.asker.user m.asker.now v w) is left)
+          by_number (subst (λ (change : Change). ChangeMayLeave change m.asker.user m.asker.now v w) is left)
         where
-          by_number : MayLeave (Change.writes granted.requests.found.place.number request.lock.range.start bytes) m.asker.user m.asker.now v w → Come volumes
+          by_number : ChangeMayLeave (Change.writes granted.requests.found.place.number request.lock.range.start bytes) m.asker.user m.asker.now v w → Come volumes
           by_number it = elim (cases_eq place.number granted.requests.found.place.number) [
             | inl same ↦
                 within-come request bytes granted (place-is request granted on same) (inl sent) (inr broke)
                 (write-ended v w place.number there-of.file was-there request.lock.range bytes (room (request-covers m covered request granted.requests))
-                (subst (λ (k : ℕ). MayLeave (Change.writes k request.lock.range.start bytes) m.asker.user m.asker.now v w) (sym same) it))
+                (subst (λ (k : ℕ). ChangeMayLeave (Change.writes k request.lock.range.start bytes) m.asker.user m.asker.now v w) (sym same) it))
             | inr apart ↦ then-come (other-write-ended v w place.number there-of.file was-there granted.requests.found.place.number request.lock.range.start bytes apart it)
           ]
       left-come broke change records (IsClaimedChange.by_size request granted set on is room recorded) left =
-          by_number (subst (λ (change : Change). MayLeave change m.asker.user m.asker.now v w) is left)
+          by_number (subst (λ (change : Change). ChangeMayLeave change m.asker.user m.asker.now v w) is left)
         where
-          by_number : MayLeave (Change.sizes granted.requests.found.place.number (long_of m.asker.caller.regs)) m.asker.user m.asker.now v w → Come volumes
+          by_number : ChangeMayLeave (Change.sizes granted.requests.found.place.number (long_of m.asker.caller.regs)) m.asker.user m.asker.now v w → Come volumes
           by_number (image, vol, it) =
               let (open_end, from) = room (request-covers m covered request granted.requests) in
               elim (cases_eq place.number granted.requests.found.place.number) [
@@ -233,15 +234,15 @@ module _ (m : Made) (kinds : AreKinds m.files) (covered : IsCovered m) (place : 
                 | inr apart ↦ then-come (other-size-ended v w place.number there-of.file was-there image granted.requests.found.place.number (long_of m.asker.caller.regs) m.asker.now apart it)
               ]
       left-come broke change records (IsClaimedChange.by_attributes k attributes is recorded) left =
-          then-come (attributes-ended v w place.number there-of.file was-there (subst (λ (change : Change). MayLeave change m.asker.user m.asker.now v w) is left))
+          then-come (attributes-ended v w place.number there-of.file was-there (subst (λ (change : Change). ChangeMayLeave change m.asker.user m.asker.now v w) is left))
       left-come broke change records (IsClaimedChange.by_file d name attributes is folder recorded) left =
-          then-come (new-file-ended v w place.number there-of.file was-there d name _ (subst (λ (change : Change). MayLeave change m.asker.user m.asker.now v w) is left))
+          then-come (new-file-ended v w place.number there-of.file was-there d name _ (subst (λ (change : Change). ChangeMayLeave change m.asker.user m.asker.now v w) is left))
       left-come broke change records (IsClaimedChange.by_directory d name attributes is folder recorded) left =
-          then-come (new-file-ended v w place.number there-of.file was-there d name _ (subst (λ (change : Change). MayLeave change m.asker.user m.asker.now v w) is left))
+          then-come (new-file-ended v w place.number there-of.file was-there d name _ (subst (λ (change : Change). ChangeMayLeave change m.asker.user m.asker.now v w) is left))
       left-come broke change records (IsClaimedChange.by_deletion d k name is folder closed recorded) left =
-          by_image (subst (λ (change : Change). MayLeave change m.asker.user m.asker.now v w) is left)
+          by_image (subst (λ (change : Change). ChangeMayLeave change m.asker.user m.asker.now v w) is left)
         where
-          by_image : MayLeave (Change.deletes d k name) m.asker.user m.asker.now v w → Come volumes
+          by_image : ChangeMayLeave (Change.deletes d k name) m.asker.user m.asker.now v w → Come volumes
           by_image (image, vol, it) =
               let (dir, at, is_dir) = folder-in d folder in
               then-come (deletion-ended v w place.number there-of.file was-there there-of.kind d dir at is_dir image k name (closed-apart k closed) it)
@@ -249,14 +250,14 @@ module _ (m : Made) (kinds : AreKinds m.files) (covered : IsCovered m) (place : 
 -- ---- an attempt
 
 module _ (it : Attempt) (place : FilePlace) (kinds : AreKinds it.files) (covered : IsCovered (made_in it)) (path : ℕ) (on : IsPathOn it.files.io.paths path place) where
-  abbrev m : Made
+  abbrev m : MadePathCall
   m = made_in it
 
   abbrev now : Records
   now = it.new.records
 
   abbrev OnVolumes : List (Option DiskVolume) → Type 0
-  OnVolumes volumes = Come m kinds covered place path on now (HasFault it) volumes
+  OnVolumes volumes = Come m kinds covered place path on now (ReportsDriveFault it) volumes
 
   abbrev Comes : FileEffect → Type 0
   Comes effect = OnVolumes effect.files.volumes
@@ -266,7 +267,7 @@ module _ (it : Attempt) (place : FilePlace) (kinds : AreKinds it.files) (covered
   IsBehind effect = now ≡ records_after effect.end effect.files.records it.process
 
   same-left : (effect : FileEffect) → effect.files.volumes ≡ it.files.volumes → Comes effect
-  same-left effect same = same-come m kinds covered place path on now (HasFault it) effect.files.volumes same
+  same-left effect same = same-come m kinds covered place path on now (ReportsDriveFault it) effect.files.volumes same
 
   left-same : (effect : FileEffect) → LeftSo it.call m.asker it.files m.terms effect → Comes effect
   left-same effect (LeftSo.still so) = same-left effect so.volumes
@@ -299,10 +300,10 @@ module _ (it : Attempt) (place : FilePlace) (kinds : AreKinds it.files) (covered
   deed-come reached (changes change) so effect before after behind (inl changed, same) =
       elim (cases_eq place.drive change.drive) [
         | inl here ↦
-            made-come m kinds covered place path on now (HasFault it) change.drive changed.old changed.new changed.is
+            made-come m kinds covered place path on now (ReportsDriveFault it) change.drive changed.old changed.new changed.is
             effect.files.volumes set here change.change (change.effect changed.number).files.records
             (so.claimed changed.number) changed-after changed.number changed.makes
-        | inr apart ↦ other-drive m kinds covered place path on now (HasFault it) change.drive changed.old changed.new changed.is effect.files.volumes set apart
+        | inr apart ↦ other-drive m kinds covered place path on now (ReportsDriveFault it) change.drive changed.old changed.new changed.is effect.files.volumes set apart
       ]
     where
       set : effect.files.volumes ≡ slice_set it.files.volumes change.drive (Some changed.new)
@@ -318,31 +319,31 @@ module _ (it : Attempt) (place : FilePlace) (kinds : AreKinds it.files) (covered
       same-left effect (ap (λ (it : FileEffect). it.files.volumes) long.effect_is)
 
   -- what a fault leaves
-  fault-come : HasFault it → (reached : Option ℕ) (deed : Deed) → Claimed it.call m.asker it.files m.terms reached
+  fault-come : ReportsDriveFault it → (reached : Option ℕ) (deed : Deed) → Claimed it.call m.asker it.files m.terms reached
       deed → (drive : ℕ) → reached ≡ Some drive → (v w : DiskVolume) → volume_at it.files drive ≡ Some v
       → MayBeLeft deed m.asker v w → (volumes : List (Option DiskVolume)) → volumes ≡ slice_set it.files.volumes drive
       (Some w) → OnVolumes volumes
   fault-come broke reached deed so drive reaches v w is left volumes set =
       elim (cases_eq place.drive drive) [
         | inl here ↦ by_deed deed so left here
-        | inr apart ↦ other-drive m kinds covered place path on now (HasFault it) drive v w is volumes set apart
+        | inr apart ↦ other-drive m kinds covered place path on now (ReportsDriveFault it) drive v w is volumes set apart
       ]
     where
       same : w ≡ v → place.drive ≡ drive → OnVolumes volumes
       same one here =
-          then-come m kinds covered place path on now (HasFault it) drive v w is volumes set here
-          (attributes-ended v w place.number _ (was-there m kinds covered place path on now (HasFault it) drive v w is volumes set here) one)
+          then-come m kinds covered place path on now (ReportsDriveFault it) drive v w is volumes set here
+          (attributes-ended v w place.number _ (was-there m kinds covered place path on now (ReportsDriveFault it) drive v w is volumes set here) one)
 
       by_deed : (deed : Deed) → Claimed it.call m.asker it.files m.terms reached deed → MayBeLeft deed m.asker v w → place.drive ≡ drive → OnVolumes volumes
       by_deed (leaves_so effect) so left here = same left here
       by_deed (as_io step) so left here = same left here
       by_deed (changes change) so left here =
           let one : change.drive ≡ drive = same_Some change.drive drive (sym so.reaches ∙ reaches) in
-          left-come m kinds covered place path on now (HasFault it) drive v w is volumes set here broke change.change (change.effect 0).files.records
+          left-come m kinds covered place path on now (ReportsDriveFault it) drive v w is volumes set here broke change.change (change.effect 0).files.records
           (subst (λ (drive : ℕ). IsClaimedChange it.call m.asker it.files m.terms drive change.change (change.effect 0).files.records) one (so.claimed 0)) left
 
   does-come : (step : FileStep) → StepClaimed it.call m.asker it.files m.terms step → (effect : FileEffect)
-      (before after : List TerminalState) → IsBehind effect → (IsBroken step m.asker it.files effect → HasFault it)
+      (before after : List TerminalState) → IsBehind effect → (IsBroken step m.asker it.files effect → ReportsDriveFault it)
       → FileDoes step m.asker it.files effect before after → Comes effect
   does-come step so effect before after behind broke (inl well) =
       subst Comes (sym well.effect_is)
@@ -353,13 +354,13 @@ module _ (it : Attempt) (place : FilePlace) (kinds : AreKinds it.files) (covered
       broken.left broken.is broken.may_be effect.files.volumes (ap (λ (it : FileEffect). it.files.volumes)
       broken.effect_is)
 
-  attempt-come : ContentsCome m place now (HasFault it) (contents_of it.files place) (contents_of it.new place)
+  attempt-come : ContentsCome m place now (ReportsDriveFault it) (contents_of it.files place) (contents_of it.new place)
   attempt-come =
-      subst (λ (new : Files). ContentsCome m place now (HasFault it) (contents_of it.files place) (contents_of new place)) (sym it.attempted.state)
+      subst (λ (new : Files). ContentsCome m place now (ReportsDriveFault it) (contents_of it.files place) (contents_of new place)) (sym it.attempted.state)
       (does-come (file_step it.call m.asker it.files m.terms) (claimed it.call m.asker it.files m.terms) it.attempted.effect it.before it.after
       (ap (λ (new : Files). new.records) it.attempted.state) (broken-fault it) it.attempted.does)
 
 pub contents-come : (it : Attempt) (place : FilePlace) → AreKinds it.files → HasPath it.files place
-    → IsCovered (made_in it) → ContentsCome (made_in it) place it.new.records (HasFault it)
+    → IsCovered (made_in it) → ContentsCome (made_in it) place it.new.records (ReportsDriveFault it)
     (contents_of it.files place) (contents_of it.new place)
 contents-come it place kinds (path, on) covered = attempt-come it place kinds covered path on

@@ -26,7 +26,7 @@ use Rattle.file_laws.proofs.Codes.{code-there}
 use Rattle.file_laws.proofs.Keeps.{file-slot}
 use Rattle.call_laws.specs.Running.{IsRunning}
 use Rattle.machine_model.specs.State.{State}
-use Rattle.file_laws.specs.Claims.{CoversCall, Made, Names, Requests}
+use Rattle.file_laws.specs.Claims.{CoversCall, MadePathCall, NamesOpenFile, Requests}
 use Rattle.lock_laws.specs.Contents.{IsCovered}
 use Rattle.lock_laws.specs.Locked.{AreOnFiles}
 
@@ -55,7 +55,7 @@ number-same call device asker is =
 
 module _ (s : State) (p code : ℕ) (running : IsRunning s) (on : AreOnFiles s) (next : act_of s.processes p ≡ attempts
     code) (now : TimePacket) (call : PathCall) (coded : path_call_of code ≡ Some call) (terms : ℕ) where
-  abbrev m : Made
+  abbrev m : MadePathCall
   m = record { call = call; asker = asker_of s.processes p now; files = s.files; terms = terms }
 
   module _ (request : Request) (is : request_of s.files.records.locks p ≡ Some request) where
@@ -71,14 +71,14 @@ module _ (s : State) (p code : ℕ) (running : IsRunning s) (on : AreOnFiles s) 
         (same_Some asked.call call (sym asked.code ∙ ap path_call_of (sym code-same) ∙ coded)) asked.covers
 
     -- the path of the request is the one that the number of the call names
-    path-same : (found : OpenFile) → Names m found → found.opened.path ≡ record { 0 = request.path }
+    path-same : (found : OpenFile) → NamesOpenFile m found → found.opened.path ≡ record { 0 = request.path }
     path-same found named =
         let kept = running.kept p _ (running.requested p request is).kept in
         let device : device_call call ≡ Some kept.call = sym (code-there code call coded) ∙ ap io_call_of code-same ∙ kept.again.code in
         same_Some found.opened.path (record { 0 = request.path })
         (sym (file-slot s.files p (number_in call m.asker) found named) ∙ ap (slot_of s.files.io.paths p) (number-same call kept.call m.asker device) ∙ kept.again.path)
 
-    file-same : (found : OpenFile) → Names m found → request.lock.file ≡ found.place
+    file-same : (found : OpenFile) → NamesOpenFile m found → request.lock.file ≡ found.place
     file-same found named =
         let asked = on.asked p request is in
         let there : desc_of s.files.io.paths request.path ≡ Some found.opened.desc = ap (λ (path : SysPath). desc_of

@@ -19,7 +19,7 @@ use Rattle.file_rules.specs.declared.path_call.PathCall.{PathCall}
 use Rattle.file_rules.specs.declared.path_call.PathCall.TheVariants as Call
 use Rattle.file_rules.specs.declared.status.TheConstants.{SS_LOCK, SS_SIZE}
 use Rattle.file_laws.proofs.Lengths.{user-length}
-use Rattle.file_laws.specs.Claims.{Claims, CoversCall, Made, Requests, read_call}
+use Rattle.file_laws.specs.Claims.{Claims, CoversCall, MadePathCall, Requests, read_call}
 use Rattle.lock_laws.specs.Contents.{IsCovered}
 
 -- a number of bytes from a position on are in their range
@@ -30,7 +30,7 @@ range-covers size at count last end = by_test (nat_lt size (at + count)) end
     by_test true is = absurd (none-some last is)
     by_test false is = let same : at + count ≡ last = same_Some (at + count) last is in omega (arith, same)
 
-module _ (m : Made) (found : OpenFile) where
+module _ (m : MadePathCall) (found : OpenFile) where
   abbrev first : Claim → Request
   first claim = first_request m.asker found claim
 
@@ -72,7 +72,7 @@ module _ (m : Made) (found : OpenFile) where
       differ : SS_LOCK ≡ SS_SIZE → ⊥
       differ same = omega (arith, same)
 
-module _ (m : Made) (covered : IsCovered m) (request : Request) (it : Requests m request) where
+module _ (m : MadePathCall) (covered : IsCovered m) (request : Request) (it : Requests m request) where
   pub request-covers : CoversCall m.call m.asker.caller.regs request
   request-covers = by_kept (pending_request m.asker m.files) refl it.is
     where

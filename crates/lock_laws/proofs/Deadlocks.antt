@@ -13,7 +13,7 @@ use Rattle.proc_model.specs.CallResult.{CallResult}
 use Rattle.proc_model.specs.Ready.{Act, act_of, attempts}
 use Rattle.lock_model.specs.declared.lock.Grant.TheVariants.{Deadlock, Locked}
 use Rattle.lock_model.specs.declared.lock.TheConstants.{LOCK_PROCESSES}
-use Rattle.io_model.specs.Attempts.{Does, IoAttempts, io_after, result_by}
+use Rattle.io_model.specs.Attempts.{IoDoes, IoAttempts, io_after, result_by}
 use Rattle.io_model.specs.Io.{Io, OpenPath, open_path}
 use Rattle.io_model.specs.Step.{Caller, IoEffect, IoEnd, IoStep, done as io_done, fails, needs}
 use Rattle.io_model.specs.declared.io_call.IoCall.{IoCall}
@@ -23,18 +23,18 @@ use Rattle.file_rules.specs.Seek.{seeks_nothing}
 use Rattle.file_rules.specs.Step.{Deed, DoesDeed, FileDoes, FileEffect, FileStep, as_io, deed_of, drive_of}
 use Rattle.file_rules.specs.declared.path_call.PathCall.{PathCall}
 use Rattle.time_rules.specs.Clock.{seconds_since}
-use Rattle.file_laws.specs.Attempt.{Attempt, HasFault, asker_in, made_in}
+use Rattle.file_laws.specs.Attempt.{Attempt, ReportsDriveFault, asker_in, made_in}
 use Rattle.file_laws.proofs.TouchAttempts.{ends-refused}
 use Rattle.file_laws.proofs.Splits.{IsDeviceStep, not-refused}
 use Rattle.machine_model.specs.declared.ends.EventEnd.{EventEnd}
 use Rattle.machine_model.specs.Event.{Acts, Event}
-use Rattle.machine_model.specs.Services.{Attempts, Serves, Service, on_paths, service_of}
+use Rattle.machine_model.specs.Services.{CallAttempted, Serves, Service, on_paths, service_of}
 use Rattle.machine_model.specs.State.{Rest, State, rest_of, with_rest}
 use Rattle.call_laws.specs.Causes.{StatedCause, bad_address, bad_mode, bad_path_name, bad_path_number, no_module, not_found, not_ready, path_table_full, unknown_service}
-use Rattle.call_laws.specs.RefusedEvents.{IsRefused}
+use Rattle.call_laws.specs.RefusedEvents.{IsAttemptRefused}
 use Rattle.call_laws.proofs.Refusing.{Comes, refusal}
 use Rattle.lock_laws.specs.Answered.{DoesAsDevice, IsAnsweredSo}
-use Rattle.file_laws.specs.Claims.{ClosesCycle, IsLockedOut, Made}
+use Rattle.file_laws.specs.Claims.{ClosesCycle, IsLockedOut, MadePathCall}
 use Rattle.lock_laws.proofs.Answers.{deadlock-only, deadlock-refuses, fault-number, lock-only}
 use Rattle.file_laws.proofs.Claimed.{claimed}
 use Rattle.lock_laws.proofs.Cycles.{answered-so, closes-so}
@@ -72,13 +72,13 @@ module _ (error : ℕ) (of_lock : is_of_lock error ≡ true) where
   comes-other call caller io drives number new before after (inr (inr (is, left))) = other E_WRITE refl number is
 
   -- I$Seek on a terminal or a pipe
-  seeks-other : (caller : Caller) (io : Io) (effect : IoEffect) (before after : List TerminalState) → Does (seeks_nothing caller io) caller io effect before after → effect.end ≡ fails error → ⊥
+  seeks-other : (caller : Caller) (io : Io) (effect : IoEffect) (before after : List TerminalState) → IoDoes (seeks_nothing caller io) caller io effect before after → effect.end ≡ fails error → ⊥
   seeks-other caller io effect before after = by_path (open_path io caller.process.0 caller.regs.a)
     where
       same-number : fails E_BPNUM ≡ fails error → error ≡ E_BPNUM
       same-number is = cc
 
-      by_path : (path : Option OpenPath) → Does (needs path E_BPNUM (λ opened. io_done caller.regs io)) caller io effect before after → effect.end ≡ fails error → ⊥
+      by_path : (path : Option OpenPath) → IoDoes (needs path E_BPNUM (λ opened. io_done caller.regs io)) caller io effect before after → effect.end ≡ fails error → ⊥
       by_path None (is, same) ends =
           other E_BPNUM refl error (same-number (sym (ap (λ (effect : IoEffect). effect.end) is) ∙ ends)) refl
       by_path (Some path) (is, same) ends =
@@ -99,7 +99,7 @@ module _ (error : ℕ) (of_lock : is_of_lock error ≡ true) where
 
     -- a call on a terminal or a pipe
     device-other : (io : IoStep) → IsDeviceStep it.call asker it.files (length it.before) io → (effect : IoEffect)
-        → Does io asker.caller it.files.io effect it.before it.after → effect.end ≡ fails error → ⊥
+        → IoDoes io asker.caller it.files.io effect it.before it.after → effect.end ≡ fails error → ⊥
     device-other io on effect does over =
         comes-other on.device asker.caller it.files.io (length it.files.drives) error (io_after it.process effect) it.before it.after
         (refusal on.device it.processes it.files.io (io_after it.process effect) (length it.files.drives) it.process error it.before it.after attempted) refl
@@ -107,7 +107,7 @@ module _ (error : ℕ) (of_lock : is_of_lock error ≡ true) where
         attempted : IoAttempts on.device it.processes it.files.io (length it.files.drives) it.process (CallResult.refused error) (io_after it.process effect) it.before it.after
         attempted = record {
           effect = effect;
-          does = subst (λ (io : IoStep). Does io asker.caller it.files.io effect it.before it.after) on.is does;
+          does = subst (λ (io : IoStep). IoDoes io asker.caller it.files.io effect it.before it.after) on.is does;
           result_is = sym (ap (λ (end : IoEnd). result_by end it.processes it.process effect) over);
           state = refl;
         }
@@ -119,12 +119,12 @@ module _ (error : ℕ) (of_lock : is_of_lock error ≡ true) where
         step-is =
             subst (Claimed it.call asker it.files (length it.before) (drive_of step)) deed (claimed it.call asker it.files (length it.before))
 
-        by_step : (effect : IoEffect) → Does io asker.caller it.files.io effect it.before it.after → effect.end ≡ fails
+        by_step : (effect : IoEffect) → IoDoes io asker.caller it.files.io effect it.before it.after → effect.end ≡ fails
             error → IsDeviceStep it.call asker it.files (length it.before) io ⊎ (io ≡ seeks_nothing asker.caller
             it.files.io) → ⊥
         by_step effect does over (inl on) = device-other io on effect does over
         by_step effect does over (inr seeks) =
-            seeks-other asker.caller it.files.io effect it.before it.after (subst (λ (io : IoStep). Does io asker.caller it.files.io effect it.before it.after) seeks does) over
+            seeks-other asker.caller it.files.io effect it.before it.after (subst (λ (io : IoStep). IoDoes io asker.caller it.files.io effect it.before it.after) seeks does) over
 
         by_deed : (well : FileEffect) → it.attempted.effect.end ≡ well.end → DoesDeed (as_io io) asker it.files well it.before it.after → ⊥
         by_deed well same (effect, does, is) =
@@ -160,11 +160,11 @@ is-out it refused = by_cause (lock-only it refused)
 -- ---- an event
 
 -- of each attempt in a state that is refused with this number something is so
-abbrev IsSoIfRefused : (Made → Type 0) → ℕ → State → Type 0
+abbrev IsSoIfRefused : (MadePathCall → Type 0) → ℕ → State → Type 0
 IsSoIfRefused IsSo number s =
     (it : Attempt) → it.files ≡ s.files → it.result ≡ CallResult.refused number → IsSo (made_in it)
 
-module _ (IsSo : Made → Type 0) (error : ℕ) (of_lock : is_of_lock error ≡ true) (s t : State) (only : IsSoIfRefused IsSo error s) (code : ℕ) (it : IsRefused s code error t) where
+module _ (IsSo : MadePathCall → Type 0) (error : ℕ) (of_lock : is_of_lock error ≡ true) (s t : State) (only : IsSoIfRefused IsSo error s) (code : ℕ) (it : IsAttemptRefused s code error t) where
   -- a call on paths and files
   path-alone : (call : PathCall) → service_of code ≡ on_paths call → AttemptsSo IsSo s
   path-alone call serves =
@@ -185,59 +185,59 @@ module _ (IsSo : Made → Type 0) (error : ℕ) (of_lock : is_of_lock error ≡ 
   refused-alone : AttemptsSo IsSo s
   refused-alone = (let (call, serves) = lock-on-paths error of_lock s t code it in path-alone call serves)
 
-pub alone : (s t : State) (code : ℕ) → IsAgreed s → IsRefused s code E_DEADLK t → ClosesCycleIn s
+pub alone : (s t : State) (code : ℕ) → IsAgreed s → IsAttemptRefused s code E_DEADLK t → ClosesCycleIn s
 alone s t code agreed it = refused-alone ClosesCycle E_DEADLK refl s t only code it
   where
     only : IsSoIfRefused ClosesCycle E_DEADLK s
     only attempt same refused =
         closes-cycle attempt (ap (λ (files : Files). length files.records.locks.requests) same ∙ agreed.agreed.records.locks.processes) refused
 
-pub alone-locked : (s t : State) (code : ℕ) → IsRefused s code E_LOCK t → IsLockedOutIn s
+pub alone-locked : (s t : State) (code : ℕ) → IsAttemptRefused s code E_LOCK t → IsLockedOutIn s
 alone-locked s t code it =
     refused-alone IsLockedOut E_LOCK refl s t (λ attempt same refused. is-out attempt refused) code it
 
 -- each attempt in a state of which something is so is refused with this number, or a drive fails in it
-abbrev IsRefusedSo : (Made → Type 0) → ℕ → State → Type 0
+abbrev IsRefusedSo : (MadePathCall → Type 0) → ℕ → State → Type 0
 IsRefusedSo IsSo number s =
-    (it : Attempt) → it.files ≡ s.files → IsSo (made_in it) → (it.result ≡ CallResult.refused number) ⊎ HasFault it
+    (it : Attempt) → it.files ≡ s.files → IsSo (made_in it) → (it.result ≡ CallResult.refused number) ⊎ ReportsDriveFault it
 
-module _ (IsSo : Made → Type 0) (error : ℕ) (s t : State) (end : EventEnd) (refuses : IsRefusedSo IsSo error s) (it : AttemptsSo IsSo s) where
+module _ (IsSo : MadePathCall → Type 0) (error : ℕ) (s t : State) (end : EventEnd) (refuses : IsRefusedSo IsSo error s) (it : AttemptsSo IsSo s) where
   -- the attempt of which it is so
   module _ (lives : IsLiving s.processes.records it.process) (result : CallResult) (rest : Rest)
-      (attempted : Attempts it.code s it.process result rest) (is : t ≡ with_rest s (after_attempt s.processes it.process
+      (attempted : CallAttempted it.code s it.process result rest) (is : t ≡ with_rest s (after_attempt s.processes it.process
       result) rest) where
     rest-is : rest_of t ≡ rest
     rest-is = ap rest_of is
 
-    refused-so : (number : ℕ) → result ≡ CallResult.refused number → IsRefused s it.code number t
+    refused-so : (number : ℕ) → result ≡ CallResult.refused number → IsAttemptRefused s it.code number t
     refused-so number same = record {
       process = it.process;
       chosen = it.chosen;
       lives = lives;
       attempted = it.attempted;
       attempt =
-          subst (λ (result : CallResult). Attempts it.code s it.process result (rest_of t)) same
-          (subst (λ (rest : Rest). Attempts it.code s it.process result rest) (sym rest-is) attempted);
+          subst (λ (result : CallResult). CallAttempted it.code s it.process result (rest_of t)) same
+          (subst (λ (rest : Rest). CallAttempted it.code s it.process result rest) (sym rest-is) attempted);
       now =
           is ∙ ap (λ (result : CallResult). with_rest s (after_attempt s.processes it.process result) rest) same
           ∙ ap (with_rest s (after_attempt s.processes it.process (CallResult.refused number))) (sym rest-is);
     }
 
-    attempt-refuses : IsRefused s it.code error t ⊎ IsFaulted s it.code t
+    attempt-refuses : IsAttemptRefused s it.code error t ⊎ IsFaulted s it.code t
     attempt-refuses =
         let (now, is_now, served) = attempted in
         let same : now ≡ it.now = same-packet s.clock.from (seconds_since s.clock s.processes.tick) now it.now is_now it.is_now in
         by_attempt (subst (λ (now : TimePacket). Serves (on_paths it.call) s now it.process result rest) same
         (subst (λ (service : Service). Serves service s now it.process result rest) it.serves served))
       where
-        by_attempt : Serves (on_paths it.call) s it.now it.process result rest → IsRefused s it.code error t ⊎ IsFaulted s it.code t
+        by_attempt : Serves (on_paths it.call) s it.now it.process result rest → IsAttemptRefused s it.code error t ⊎ IsFaulted s it.code t
         by_attempt (does, clock) =
             by_end (refuses attempt refl it.so)
           where
             attempt : Attempt
             attempt = attempt_by s it.process it.now it.call result rest does
 
-            by_end : (result ≡ CallResult.refused error) ⊎ HasFault attempt → IsRefused s it.code error t ⊎ IsFaulted s it.code t
+            by_end : (result ≡ CallResult.refused error) ⊎ ReportsDriveFault attempt → IsAttemptRefused s it.code error t ⊎ IsFaulted s it.code t
             by_end (inl same) = inl (refused-so error same)
             by_end (inr fault) =
                 inr (record {
@@ -248,16 +248,16 @@ module _ (IsSo : Made → Type 0) (error : ℕ) (s t : State) (end : EventEnd) (
                   refused = refused-so fault.number fault.answer;
                 })
 
-  event-refuses : Event s end t → IsRefused s it.code error t ⊎ IsFaulted s it.code t
+  event-refuses : Event s end t → IsAttemptRefused s it.code error t ⊎ IsFaulted s it.code t
   event-refuses (p, chosen, lives, acts) =
       let same : p ≡ it.process = same_Some p it.process (sym chosen ∙ it.chosen) in
       let here : Acts (act_of s.processes it.process) s it.process end t = subst (λ (p : ℕ). Acts (act_of s.processes p) s p end t) same acts in
       by_acts (subst (IsLiving s.processes.records) same lives) (subst (λ (act : Act). Acts act s it.process end t) it.attempted here)
     where
-      by_acts : IsLiving s.processes.records it.process → Acts (attempts it.code) s it.process end t → IsRefused s it.code error t ⊎ IsFaulted s it.code t
+      by_acts : IsLiving s.processes.records it.process → Acts (attempts it.code) s it.process end t → IsAttemptRefused s it.code error t ⊎ IsFaulted s it.code t
       by_acts lives (result, rest, attempted, over, is) = attempt-refuses lives result rest attempted is
 
-pub always : (s t : State) (end : EventEnd) → IsAgreed s → Event s end t → (it : ClosesCycleIn s) → IsRefused s it.code E_DEADLK t ⊎ IsFaulted s it.code t
+pub always : (s t : State) (end : EventEnd) → IsAgreed s → Event s end t → (it : ClosesCycleIn s) → IsAttemptRefused s it.code E_DEADLK t ⊎ IsFaulted s it.code t
 always s t end agreed event it = event-refuses ClosesCycle E_DEADLK s t end refuses it event
   where
     refuses : IsRefusedSo ClosesCycle E_DEADLK s
@@ -265,6 +265,6 @@ always s t end agreed event it = event-refuses ClosesCycle E_DEADLK s t end refu
         deadlock-refuses attempt
         (answered-so attempt (ap (λ (files : Files). length files.records.locks.requests) same ∙ agreed.agreed.records.locks.processes) closes)
 
-pub always-locked : (s t : State) (end : EventEnd) → Event s end t → (it : IsLockedOutIn s) → IsRefused s it.code E_LOCK t ⊎ IsFaulted s it.code t
+pub always-locked : (s t : State) (end : EventEnd) → Event s end t → (it : IsLockedOutIn s) → IsAttemptRefused s it.code E_LOCK t ⊎ IsFaulted s it.code t
 always-locked s t end event it =
     event-refuses IsLockedOut E_LOCK s t end (λ attempt same out. locked-refuses attempt out) it event

@@ -76,7 +76,7 @@ use Rattle.lock_laws.proofs.Covered.{number-same, request-path, state-covered}
 use Rattle.lock_laws.proofs.OnFiles.{event-leaves-locks, event-locked}
 use Rattle.lock_laws.proofs.VolumeEvents.{attempt_by}
 use Rattle.lock_laws.specs.Living.{AreOfLiving}
-use Rattle.lock_laws.specs.Touches.{HasEnded, NamesCause, Touches, WaitsFor}
+use Rattle.lock_laws.specs.Touches.{HasEnded, NamesCause, Touches, HasWaitCause}
 use Rattle.lock_laws.proofs.DeviceWaits.{Leaves, attempt-leaves, begin-holds, path-slot}
 use Rattle.lock_laws.proofs.WaitEnds.{ended-stays, interrupted-stays, started-stays}
 use Rattle.lock_laws.proofs.Locks.{SameLocks, cause_of, come-same, conflicts-same, ended-same, locks-same, same-place}
@@ -409,7 +409,7 @@ request-idle io q pending there place on =
     ∙ ap (λ (target : Target). may_go_by io q pending (Some target)) on.on
 
 module _ (s t : State) (end : EventEnd) (p q : ℕ) (cause : Cause) (it : IsRunLocked s) (living : AreOfLiving s) (event : Event s end t) (chosen : s.chosen ≡ Some p) (differ : q ≢ p)
-    (waits : WaitsFor s q cause) (untouched : Touches s p t cause → ⊥) where
+    (waits : HasWaitCause s q cause) (untouched : Touches s p t cause → ⊥) where
   event-stays : Stays s p it living cause t.files
   event-stays = by_event event
     where

@@ -20,13 +20,13 @@ use Rattle.file_rules.specs.Files.{OpenFile}
 use Rattle.file_rules.specs.Read.{lock_by, part_of}
 use Rattle.file_laws.proofs.Named.{is-named}
 use Rattle.file_laws.specs.Attempt.{Attempt, made_in}
-use Rattle.file_laws.specs.Claims.{Made}
+use Rattle.file_laws.specs.Claims.{MadePathCall}
 use Rattle.file_laws.specs.Devices.{number_in}
 use Rattle.file_laws.specs.Recorded.{IsGranted, IsTaken, RecordsCome, path_in, settled}
 use Rattle.file_laws.proofs.Claimed.{records-come}
 use Rattle.lock_laws.specs.Contents.{IsCovered, contents_of}
 use Rattle.lock_laws.proofs.Covering.{request-file}
-use Rattle.lock_laws.specs.Written.{HasBytes}
+use Rattle.lock_laws.specs.Written.{HasBytesAt}
 use Rattle.lock_laws.proofs.HeldAttempts.{lock-file}
 use Rattle.lock_laws.proofs.PutBytes.{one-entry, same-rest, take-front}
 
@@ -35,7 +35,7 @@ use Rattle.lock_laws.proofs.PutBytes.{one-entry, same-rest, take-front}
 front-has : (one two all : List ℕ) → all ≡ one ++ two → take (length one) all ≡ one
 front-has one two all is = ap (take (length one)) is ∙ take-front one two
 
-part-has : (kind : ReadKind) (contents : List ℕ) (at count : ℕ) → HasBytes contents at (part_of kind (bytes_from contents at count))
+part-has : (kind : ReadKind) (contents : List ℕ) (at count : ℕ) → HasBytesAt contents at (part_of kind (bytes_from contents at count))
 part-has Bytes contents at count =
     front-has (take count (drop at contents)) (drop count (drop at contents)) (drop at contents) (sym (take-append-drop count (drop at contents)))
 part-has WholeLine contents at count =
@@ -61,11 +61,12 @@ lock-start WholeLine lock bytes = by_return (has_return bytes)
     by_return false = refl
 
 -- what is taken is in the file
-taken-has : (m : Made) (found : OpenFile) (request : Request) (kind : ReadKind) (bytes : List ℕ) → IsTaken m found request kind bytes → HasBytes found.file.contents request.lock.range.start bytes
+taken-has : (m : MadePathCall) (found : OpenFile) (request : Request) (kind : ReadKind) (bytes : List ℕ)
+    → IsTaken m found request kind bytes → HasBytesAt found.file.contents request.lock.range.start bytes
 taken-has m found request kind bytes (IsTaken.by_read call is) =
-    subst (HasBytes found.file.contents request.lock.range.start) (sym is) (part-has kind found.file.contents request.lock.range.start m.asker.caller.regs.y)
+    subst (HasBytesAt found.file.contents request.lock.range.start) (sym is) (part-has kind found.file.contents request.lock.range.start m.asker.caller.regs.y)
 taken-has m found request kind bytes (IsTaken.by_lock call code one none) =
-    subst (HasBytes found.file.contents request.lock.range.start) (sym none) refl
+    subst (HasBytesAt found.file.contents request.lock.range.start) (sym none) refl
 
 -- ---- an attempt
 
@@ -76,7 +77,7 @@ pub drop-get : Drop ≡ Get → ⊥
 drop-get is = cc
 
 module _ (it : Attempt) (covered : IsCovered (made_in it)) (entry : Entry) (reads_it : entry.kind ≡ Get) where
-  abbrev m : Made
+  abbrev m : MadePathCall
   m = made_in it
 
   abbrev old : List Entry
@@ -87,7 +88,7 @@ module _ (it : Attempt) (covered : IsCovered (made_in it)) (entry : Entry) (read
   IsGained records = records.history ≡ old ++ entry ∷ []
 
   abbrev Had : Type 0
-  Had = HasBytes (contents_of it.files entry.file) entry.range.start entry.bytes
+  Had = HasBytesAt (contents_of it.files entry.file) entry.range.start entry.bytes
 
   not-same : (records : Records) → records.history ≡ old → IsGained records → Had
   not-same records same gained =
@@ -104,9 +105,9 @@ module _ (it : Attempt) (covered : IsCovered (made_in it)) (entry : Entry) (read
   held-had : (request : Request) (kind : ReadKind) (bytes : List ℕ) (granted : IsGranted m request)
       → IsTaken m granted.requests.found request kind bytes → got (path_in granted) (lock_by kind request.lock bytes) bytes ≡ entry → Had
   held-had request kind bytes granted taken same =
-      subst (λ (entry : Entry). HasBytes (contents_of it.files entry.file) entry.range.start entry.bytes) same
-      (subst (λ (contents : List ℕ). HasBytes contents (lock_by kind request.lock bytes).range.start bytes) (sym contents)
-      (subst (λ (at : ℕ). HasBytes found.file.contents at bytes) (sym (lock-start kind request.lock bytes)) (taken-has m found request kind bytes taken)))
+      subst (λ (entry : Entry). HasBytesAt (contents_of it.files entry.file) entry.range.start entry.bytes) same
+      (subst (λ (contents : List ℕ). HasBytesAt contents (lock_by kind request.lock bytes).range.start bytes) (sym contents)
+      (subst (λ (at : ℕ). HasBytesAt found.file.contents at bytes) (sym (lock-start kind request.lock bytes)) (taken-has m found request kind bytes taken)))
     where
       found : OpenFile
       found = granted.requests.found

@@ -10,7 +10,7 @@ use Rattle.io_model.specs.declared.path.Target.TheVariants.{File, Folder, Pipe, 
 use Rattle.io_model.specs.declared.terminal.ReadKind.{ReadKind}
 use Rattle.io_model.specs.declared.terminal.ReadKind.TheVariants.{Bytes, WholeLine}
 use Rattle.lock_model.specs.Locks.{lock_of, request_of}
-use Rattle.lock_model.specs.Records.{AreRecords, Records, holding, without_lock, written_by}
+use Rattle.lock_model.specs.Records.{AreLockRecords, Records, holding, without_lock, written_by}
 use Rattle.lock_model.specs.declared.lock.Held.{Held}
 use Rattle.lock_model.specs.declared.lock.Request.{Request}
 use Rattle.lock_model.specs.declared.lock.TheConstants.{PATH_PLACES}
@@ -30,7 +30,7 @@ use Rattle.file_rules.specs.declared.path_call.PathCall.TheVariants as Call
 use Rattle.file_laws.specs.Kinds.{AreKinds, IsOnTarget}
 use Rattle.file_laws.proofs.Named.{is-named, opened-desc}
 use Rattle.file_laws.specs.Attempt.{Attempt, OnDevice, TouchesNone, WaitsOnRecord, asker_in, made_in}
-use Rattle.file_laws.specs.Claims.{Claims, Made, Names, Requests}
+use Rattle.file_laws.specs.Claims.{Claims, MadePathCall, NamesOpenFile, Requests}
 use Rattle.file_laws.specs.Devices.{device_call, number_in}
 use Rattle.file_laws.specs.Recorded.{IsGranted, RecordsCome, path_in, settled}
 use Rattle.file_laws.proofs.Claimed.{records-come}
@@ -70,7 +70,7 @@ target-file files mode (Folder drive number) place at on writes = absurd (both_w
 target-file files mode (Term terminal) place at on writes = absurd (none-some place at)
 target-file files mode (Pipe pipe) place at on writes = absurd (none-some place at)
 
-module _ (m : Made) (kinds : AreKinds m.files) (covered : IsCovered m) (request : Request) (it : Requests m request) where
+module _ (m : MadePathCall) (kinds : AreKinds m.files) (covered : IsCovered m) (request : Request) (it : Requests m request) where
   abbrev found : OpenFile
   found = it.found
 
@@ -102,7 +102,7 @@ pub lock-file : (kind : ReadKind) (lock : Held) (bytes : List ℕ) → (lock_by 
 lock-file Bytes lock bytes = refl
 lock-file WholeLine lock bytes = refl
 
-module _ (m : Made) (kinds : AreKinds m.files) (agreed : AreRecords m.files.records) (places : length m.files.io.paths.descs ≡ PATH_PLACES)
+module _ (m : MadePathCall) (kinds : AreKinds m.files) (agreed : AreLockRecords m.files.records) (places : length m.files.io.paths.descs ≡ PATH_PLACES)
     (own : (request : Request) → request_of m.files.records.locks m.asker.caller.process.0 ≡ Some request
     → request.lock.owner.0 ≡ m.asker.caller.process.0) (covered : IsCovered m) (held_on : AreHeldOn m.files) (new : Files)
     (stay : OnStay m.files.io.paths new.io.paths) where
@@ -116,7 +116,7 @@ module _ (m : Made) (kinds : AreKinds m.files) (agreed : AreRecords m.files.reco
   old_held = m.files.records.locks.held
 
   -- the process has a number of the path of its call
-  found-holds : (found : OpenFile) → Names m found → (path : ℕ) → path ≡ found.opened.path.0 → holds_path m.files.io.paths p path ≡ true
+  found-holds : (found : OpenFile) → NamesOpenFile m found → (path : ℕ) → path ≡ found.opened.path.0 → holds_path m.files.io.paths p path ≡ true
   found-holds found names path same =
       number-holds m.files.io.paths p path (number_in m.call m.asker, found.opened.path, file-slot m.files p (number_in m.call m.asker) found names, sym same)
 
@@ -183,7 +183,7 @@ module _ (m : Made) (kinds : AreKinds m.files) (agreed : AreRecords m.files.reco
       by_path path lock there (inr differ) =
           inl (at path ∙ get_or-set_other old_held (path_in it) path None None differ ∙ there)
 
-  freed-leaves : (found : OpenFile) → Names m found → new.records ≡ without_lock (settled m) found.opened.path.0 → Left
+  freed-leaves : (found : OpenFile) → NamesOpenFile m found → new.records ≡ without_lock (settled m) found.opened.path.0 → Left
   freed-leaves found names is = record {
     requests = forgotten-requests (without_lock (settled m) freed) is (without-requests freed (settled m));
     held = λ path lock there. by_path path lock there (cases_eq path freed);
@@ -257,7 +257,7 @@ closes-alone Call.SetStt is = absurd cc
 closes-alone Call.Close is = refl
 closes-alone Call.PErr is = absurd cc
 
-module _ (it : Attempt) (kinds : AreKinds it.files) (agreed : AreRecords it.files.records) (places : length it.files.io.paths.descs ≡ PATH_PLACES)
+module _ (it : Attempt) (kinds : AreKinds it.files) (agreed : AreLockRecords it.files.records) (places : length it.files.io.paths.descs ≡ PATH_PLACES)
     (own : (request : Request) → request_of it.files.records.locks it.process ≡ Some request → request.lock.owner.0 ≡ it.process)
     (covered : IsCovered (made_in it)) (held_on : AreHeldOn it.files) where
   descs-stay : it.call ≢ Call.Close → DescsStay it.files.io.paths it.new.io.paths

@@ -25,7 +25,7 @@ use Rattle.file_rules.specs.Processes.{files_ended, files_started, io_left}
 use Rattle.file_rules.specs.Read.{lock_by}
 use Rattle.file_rules.specs.declared.path_call.PathCall.{PathCall}
 use Rattle.file_laws.specs.Attempt.{made_in}
-use Rattle.file_laws.specs.Claims.{Made}
+use Rattle.file_laws.specs.Claims.{MadePathCall}
 use Rattle.file_laws.proofs.Loads.{chain-leaves, fork-leaves, load-leaves}
 use Rattle.machine_model.specs.ProcessEvent.{next_instruction}
 use Rattle.machine_model.specs.declared.ends.EventEnd.{EventEnd}
@@ -36,7 +36,7 @@ use Rattle.file_laws.specs.Recorded.{IsGranted, RecordsCome, path_in, settled}
 use Rattle.file_laws.proofs.Claimed.{records-come}
 use Rattle.isolation_laws.proofs.Asked.{Asks, asks}
 use Rattle.lock_laws.specs.Locked.{IsAgreed, IsRunLocked}
-use Rattle.lock_laws.specs.Written.{GainsOwn, GainsPut, GainsRead, HasGained, IsEntryOf, IsPutIn, IsReadOf}
+use Rattle.lock_laws.specs.Written.{GainsOwn, GainsPut, GainsRead, HasGained, IsEntryOf, IsPutIn, IsGetIn}
 use Rattle.lock_laws.proofs.Changes.{owner-is}
 use Rattle.lock_laws.proofs.Covered.{state-covered}
 use Rattle.lock_laws.proofs.GetBytes.{drop-get, get-bytes}
@@ -86,12 +86,12 @@ module _ (Of : Entry → Type 0) (drops : (path : ℕ) (lock : Held) → Of (dro
       (below-gains test path old) (ends-gains test path (ends_locks_below test path old))
 
   -- what an attempt enters for a request that is granted
-  abbrev OfGranted : Made → Records → Type 0
+  abbrev OfGranted : MadePathCall → Records → Type 0
   OfGranted m now =
       (request : Request) → IsGranted m request → (entry : Entry) → entry.process ≡ request.lock.owner.0
       → now.history ≡ m.files.records.history ++ entry ∷ [] → Of entry
 
-  come-gains : (m : Made) (now : Records) → OfGranted m now → RecordsCome m now → Gains m.files.records now
+  come-gains : (m : MadePathCall) (now : Records) → OfGranted m now → RecordsCome m now → Gains m.files.records now
   come-gains m now granted (RecordsCome.stay is) =
       gains-none m.files.records now (ap (λ (records : Records). records.history) is)
   come-gains m now granted (RecordsCome.holds request kind bytes it taken is) =
@@ -203,10 +203,10 @@ event-gains-own s t end agreed (p, chosen, lives, acts) =
 -- the entry of a read has the bytes that its file had
 pub event-gains-read : (s t : State) (end : EventEnd) → IsRunLocked s → Event s end t → GainsRead s t
 event-gains-read s t end locked (p, chosen, lives, acts) =
-    let (entries, is, all) = acts-on s p (λ files. IsReadOf s.files) (λ files path lock kind. absurd (drop-get kind)) of_granted (act_of s.processes p) end t refl acts in
+    let (entries, is, all) = acts-on s p (λ files. IsGetIn s.files) (λ files path lock kind. absurd (drop-get kind)) of_granted (act_of s.processes p) end t refl acts in
     record { gained = record { entries = entries; is = is }; read = all }
   where
-    of_granted : GrantedBy s p (λ files. IsReadOf s.files)
+    of_granted : GrantedBy s p (λ files. IsGetIn s.files)
     of_granted code next call serves now result rest it request granted entry owner gained kind =
         get-bytes (attempt_by s p now call result rest it)
         (state-covered s p code locked.state.running locked.on next now call (subst (Asks code) serves (asks code)) (length s.terms))

@@ -27,7 +27,7 @@ use Rattle.file_rules.specs.declared.path_call.PathCall.{PathCall}
 use Rattle.file_rules.specs.declared.path_call.PathCall.TheVariants as Call
 use Rattle.file_rules.specs.declared.status.TheConstants.{SS_LOCK, SS_SIZE}
 use Rattle.file_laws.specs.Attempt.{Attempt, asker_in, made_in}
-use Rattle.file_laws.specs.Claims.{Names, read_call}
+use Rattle.file_laws.specs.Claims.{NamesOpenFile, read_call}
 use Rattle.file_laws.specs.Devices.{number_in}
 use Rattle.file_laws.specs.Recorded.{EndsLock, IsSent, IsTaken, settled}
 use Rattle.file_laws.proofs.Requests.{freed-settled}
@@ -67,7 +67,7 @@ gone-ends paths path records gone = by_lock (lock_of records.locks path) refl
         ap (λ (lock : Option Held). if option_map_or (lock_ends paths (λ owner. false) path) lock false then without_lock records path else records) there
         ∙ ap (λ (desc : Option Desc). if is_none desc || false then without_lock records path else records) gone
 
-module _ (it : Attempt) (found : OpenFile) (names : Names (made_in it) found) where
+module _ (it : Attempt) (found : OpenFile) (names : NamesOpenFile (made_in it) found) where
   abbrev asker : Asker
   asker = asker_in it
 

@@ -11,7 +11,7 @@ use Rattle.lock_model.specs.declared.lock.Range.{Range}
 use Rattle.lock_model.specs.declared.lock.Request.{Request}
 use Rattle.lock_model.proofs.Chains.{some-opposer}
 use Rattle.rbf_model.specs.Volume.{DiskVolume}
-use Rattle.file_laws.specs.Attempt.{Attempt, HasFault, made_in}
+use Rattle.file_laws.specs.Attempt.{Attempt, ReportsDriveFault, made_in}
 use Rattle.machine_model.specs.declared.ends.EventEnd.{EventEnd}
 use Rattle.machine_model.specs.Event.{Event}
 use Rattle.machine_model.specs.State.{State}
@@ -87,7 +87,7 @@ module _ (s : State) (p : ℕ) (it : IsRunLocked s) (path : ℕ) (lock : Held) (
       attempt : Attempt
       attempt = attempt_by s p now call result rest attempted
 
-      by_contents : ContentsCome (made_in attempt) lock.file rest.files.records (HasFault attempt) (contents_of s.files lock.file) (contents_of rest.files lock.file)
+      by_contents : ContentsCome (made_in attempt) lock.file rest.files.records (ReportsDriveFault attempt) (contents_of s.files lock.file) (contents_of rest.files lock.file)
           → KeepsLocked lock.range (contents_of s.files lock.file) (contents_of rest.files lock.file)
       by_contents (ContentsCome.stay same) =
           kept-locked lock.range (contents_of s.files lock.file) (contents_of rest.files lock.file) same

@@ -11,8 +11,8 @@ use Rattle.lock_model.specs.declared.lock.Grant.TheVariants.{Deadlock, Granted, 
 use Rattle.lock_model.specs.declared.lock.Request.{Request}
 use Rattle.lock_model.proofs.Chains.{some-opposer}
 use Rattle.file_rules.specs.Locking.{answer_to}
-use Rattle.file_laws.specs.Attempt.{Attempt, HasFault, made_in}
-use Rattle.file_laws.specs.Claims.{IsLockedOut, Made, WaitsNot}
+use Rattle.file_laws.specs.Attempt.{Attempt, ReportsDriveFault, made_in}
+use Rattle.file_laws.specs.Claims.{IsLockedOut, MadePathCall, WaitsNot}
 use Rattle.file_laws.proofs.LockCauses.{at-first}
 use Rattle.lock_laws.proofs.Answers.{lock-refuses}
 
@@ -34,7 +34,7 @@ both false two one is = absurd (false≢true one)
 
 -- ---- an attempt
 
-module _ (m : Made) (out : IsLockedOut m) where
+module _ (m : MadePathCall) (out : IsLockedOut m) where
   abbrev locks : Locks
   locks = m.files.records.locks
 
@@ -57,6 +57,6 @@ module _ (m : Made) (out : IsLockedOut m) where
           (both (nat_lt 1 request.ticks) (nat_le (request.since + request.ticks) m.asker.tick) (lt-ltb 1 request.ticks many)
           (le-leb (request.since + request.ticks) m.asker.tick over))
 
-pub locked-refuses : (it : Attempt) → IsLockedOut (made_in it) → (it.result ≡ CallResult.refused E_LOCK) ⊎ HasFault it
+pub locked-refuses : (it : Attempt) → IsLockedOut (made_in it) → (it.result ≡ CallResult.refused E_LOCK) ⊎ ReportsDriveFault it
 locked-refuses it out =
     lock-refuses it (record { request = out.request; requests = out.requests; answer = answers-locked (made_in it) out })

@@ -24,7 +24,7 @@ use Rattle.file_rules.specs.Locking.{lock_ends}
 use Rattle.file_rules.specs.Processes.{files_ended}
 use Rattle.file_rules.specs.Read.{lock_by}
 use Rattle.file_laws.specs.Kinds.{AreKinds}
-use Rattle.file_laws.specs.Claims.{Made, Names}
+use Rattle.file_laws.specs.Claims.{MadePathCall, NamesOpenFile}
 use Rattle.file_laws.specs.Devices.{number_in}
 use Rattle.file_laws.specs.Recorded.{IsGranted, RecordsCome, path_in, settled}
 use Rattle.file_laws.proofs.Keeps.{file-slot}
@@ -105,22 +105,23 @@ names-file files p n path place lock file named on = record {
 
 -- ---- an attempt
 
-module _ (m : Made) (kinds : AreKinds m.files) (covered : IsCovered m) (held_on : AreHeldOn m.files) (place : FilePlace)
+module _ (m : MadePathCall) (kinds : AreKinds m.files) (covered : IsCovered m) (held_on : AreHeldOn m.files) (place : FilePlace)
     (apart : NamesCause m.files.io m.asker.caller.process.0 (number_in m.call m.asker) (cause_of place) → ⊥) where
   abbrev p : ℕ
   p = m.asker.caller.process.0
 
   -- the path that the number of the call names is not on the file
-  found-apart : (found : OpenFile) → Names m found → (lock : Held) → is_same_file place lock.file ≡ true → IsPathOn m.files.io.paths found.opened.path.0 lock.file → ⊥
+  found-apart : (found : OpenFile) → NamesOpenFile m found → (lock : Held) → is_same_file place lock.file ≡ true → IsPathOn m.files.io.paths found.opened.path.0 lock.file → ⊥
   found-apart found names lock file on =
       apart (names-file m.files p (number_in m.call m.asker) found.opened.path.0 place lock file (file-slot m.files p (number_in m.call m.asker) found names) on)
 
-  old-apart : (found : OpenFile) → Names m found → (path : ℕ) (lock : Held) → is_same_file place lock.file ≡ true → lock_of m.files.records.locks path ≡ Some lock → path ≢ found.opened.path.0
+  old-apart : (found : OpenFile) → NamesOpenFile m found → (path : ℕ) (lock : Held) → is_same_file place lock.file ≡ true → lock_of m.files.records.locks path ≡ Some lock → path ≢ found.opened.path.0
   old-apart found names path lock file is same =
       found-apart found names lock file (subst (λ (path : ℕ). IsPathOn m.files.io.paths path lock.file) same (held_on path lock is))
 
   -- the lock of this path is taken, and no other one changes
-  taken-same : (found : OpenFile) → Names m found → (now : Records) → now.locks.held ≡ slice_set m.files.records.locks.held found.opened.path.0 None → SameLocks place m.files.records.locks now.locks
+  taken-same : (found : OpenFile) → NamesOpenFile m found → (now : Records) → now.locks.held ≡ slice_set
+      m.files.records.locks.held found.opened.path.0 None → SameLocks place m.files.records.locks now.locks
   taken-same found names now is = record {
     stays = λ path lock file there. at path
         ∙ get_or-set_other m.files.records.locks.held found.opened.path.0 path None None (old-apart found names path lock file there) ∙ there;
@@ -156,7 +157,7 @@ module _ (m : Made) (kinds : AreKinds m.files) (covered : IsCovered m) (held_on 
           (request-on m kinds covered request it.requests))
       by_path path lock file (inr was) = was
 
-  freed-same : (found : OpenFile) → Names m found → (now : Records) → now ≡ without_lock (settled m) found.opened.path.0 → SameLocks place m.files.records.locks now.locks
+  freed-same : (found : OpenFile) → NamesOpenFile m found → (now : Records) → now ≡ without_lock (settled m) found.opened.path.0 → SameLocks place m.files.records.locks now.locks
   freed-same found names now is = record {
     stays = λ path lock file there. at path ∙ without-other (settled m) found.opened.path.0 path (old-apart found names path lock file there) ∙ there;
     was = λ path lock file there. without-was (settled m) found.opened.path.0 path lock (sym (at path) ∙ there);

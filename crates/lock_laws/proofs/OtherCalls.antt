@@ -10,7 +10,7 @@ use Rattle.os9_outer.specs.declared.drive.DriveFault.TheVariants.{NotReady, Read
 use Rattle.proc_model.specs.CallResult.{refused}
 use Rattle.proc_model.specs.Processes.{Processes}
 use Rattle.proc_model.specs.declared.proc_call.ProcCall.{ProcCall}
-use Rattle.file_rules.specs.Files.{Asker, Files, NoneFailed, OpenFile, drive_at}
+use Rattle.file_rules.specs.Files.{Asker, Files, KeepsDriveFaults, OpenFile, drive_at}
 use Rattle.file_rules.specs.declared.claim.Claim.{Claim}
 use Rattle.file_rules.specs.Load.{Loaded}
 use Rattle.file_rules.specs.ProgramFile.{ProgramFile}
@@ -28,14 +28,14 @@ use Rattle.proc_model.specs.Loading.{EntersModules, entry_refusal, module_error}
 use Rattle.proc_model.specs.ModuleList.{ModuleEntry, is_known, module_room}
 use Rattle.time_rules.specs.declared.time_call.TimeCall.{TimeCall}
 use Rattle.file_laws.specs.Causes.{FileCause, LeadsNowhere}
-use Rattle.file_laws.specs.Claims.{Claims, Made}
+use Rattle.file_laws.specs.Claims.{Claims, MadePathCall}
 use Rattle.file_laws.specs.LoadCauses.{CauseOfLoad, GroupCause, LinkCause, ReadCause, StartCause, TestCause, looking}
 use Rattle.file_laws.specs.Touch.{FaultAnswers}
 use Rattle.file_laws.proofs.ClaimSteps.{is_of_lock}
 use Rattle.machine_model.specs.Services.{on_paths, service_of}
 use Rattle.machine_model.specs.State.{State}
 use Rattle.call_laws.specs.CallCauses.{ProcCause, TimeCause}
-use Rattle.call_laws.specs.RefusedEvents.{IsRefused, LeavesRest, RefusedLoad}
+use Rattle.call_laws.specs.RefusedEvents.{IsAttemptRefused, LeavesRest, RefusedLoad}
 use Rattle.call_laws.proofs.RefusedEvents.{leaves-machine}
 
 module _ (error : ℕ) (of_lock : is_of_lock error ≡ true) where
@@ -103,7 +103,7 @@ module _ (error : ℕ) (of_lock : is_of_lock error ≡ true) where
 
   -- ---- the file
 
-  nowhere-other : (m : Made) (list : PathList) → LeadsNowhere m list error → ⊥
+  nowhere-other : (m : MadePathCall) (list : PathList) → LeadsNowhere m list error → ⊥
   nowhere-other m list (LeadsNowhere.dots is makes ends) = apart E_BPNAM refl is
   nowhere-other m list (LeadsNowhere.root is makes root) = apart E_BPNAM refl is
   nowhere-other m list (LeadsNowhere.slash device is there none behind) = apart E_BPNAM refl is
@@ -207,14 +207,14 @@ module _ (error : ℕ) (of_lock : is_of_lock error ≡ true) where
           let same : fault.number ≡ error = cc fault.answer in
           false≢true (sym (drive-number (drive_at t.files.drives fault.drive).last fault.number fault.failed.last) ∙ ap is_of_lock same ∙ of_lock)
 
-      by_why : {reached : Option ℕ} → FaultAnswers reached s.files (refused error) t.files ⊎ NoneFailed s.files.drives t.files.drives × Cause → ⊥
+      by_why : {reached : Option ℕ} → FaultAnswers reached s.files (refused error) t.files ⊎ KeepsDriveFaults s.files.drives t.files.drives × Cause → ⊥
       by_why (inl fault) = by_fault fault
       by_why (inr (failed, cause)) = none cause
 
   -- ---- a call on paths and files
 
   -- only a call on paths and files is answered so
-  pub lock-on-paths : (s t : State) (code : ℕ) → IsRefused s code error t → (call : PathCall) × (service_of code ≡ on_paths call)
+  pub lock-on-paths : (s t : State) (code : ℕ) → IsAttemptRefused s code error t → (call : PathCall) × (service_of code ≡ on_paths call)
   lock-on-paths s t code it = by_rest (leaves-machine s t code error it).now (leaves-machine s t code error it).rest
     where
       by_rest : (now : TimePacket) → LeavesRest s it.process now code error t → (call : PathCall) × (service_of code ≡ on_paths call)

@@ -15,27 +15,27 @@ use Rattle.lock_model.specs.declared.lock.EntryKind.TheVariants.{Drop, Get, Put}
 use Rattle.lock_model.specs.declared.lock.Held.{Held}
 use Rattle.lock_model.specs.declared.lock.Request.{Request}
 use Rattle.lock_model.specs.declared.place.FilePlace.{FilePlace}
-use Rattle.rbf_change.specs.Calls.{Writes}
+use Rattle.rbf_change.specs.Calls.{WritesFileAt}
 use Rattle.rbf_change.specs.Contents.{extended, written}
 use Rattle.rbf_model.specs.File.{DiskFile}
 use Rattle.rbf_model.specs.Volume.{DiskVolume}
 use Rattle.rbf_model.specs.Writes.{put_at}
 use Rattle.io_model.specs.Step.{IoEnd, answers, fails, keeps}
 use Rattle.file_rules.specs.Attempts.{file_step}
-use Rattle.file_rules.specs.Change.{Change, Makes}
+use Rattle.file_rules.specs.Change.{Change, AppliesChange}
 use Rattle.file_rules.specs.Files.{Files, volume_at}
 use Rattle.file_rules.specs.Locking.{records_after}
 use Rattle.file_rules.specs.Read.{lock_by}
 use Rattle.file_rules.specs.Seek.{long_of}
 use Rattle.file_rules.specs.Step.{Deed, DoesDeed, FileDoes, FileEffect, FileStep, as_io, changes, deed_of, drive_of, leaves_so}
 use Rattle.file_laws.specs.Attempt.{Attempt, made_in}
-use Rattle.file_laws.specs.Claims.{Made}
+use Rattle.file_laws.specs.Claims.{MadePathCall}
 use Rattle.file_laws.specs.Recorded.{IsGranted, path_in}
 use Rattle.file_laws.proofs.Claimed.{claimed}
 use Rattle.file_laws.proofs.ClaimSteps.{Claimed, IsClaimedChange, LeftSo, StepClaimed}
 use Rattle.lock_laws.specs.Contents.{IsCovered, contents_of}
 use Rattle.lock_laws.proofs.Covering.{request-file}
-use Rattle.lock_laws.specs.Written.{HasBytes}
+use Rattle.lock_laws.specs.Written.{HasBytesAt}
 
 -- ---- bytes that were written
 
@@ -49,14 +49,14 @@ pub take-front : (one two : List ℕ) → take (length one) (one ++ two) ≡ one
 take-front [] two = refl
 take-front (byte ∷ one) two = ap (λ (bytes : List ℕ). byte ∷ bytes) (take-front one two)
 
-put-back : (old bytes : List ℕ) (at : ℕ) → at ≤ length old → HasBytes (put_at old at bytes) at bytes
+put-back : (old bytes : List ℕ) (at : ℕ) → at ≤ length old → HasBytesAt (put_at old at bytes) at bytes
 put-back old bytes at low =
     let rest : List ℕ = drop (at + length bytes) old in
     ap (λ (all : List ℕ). take (length bytes) (drop at all)) (append_assoc (take at old) bytes rest)
     ∙ ap (take (length bytes)) (drop-front (take at old) (bytes ++ rest) at (length-take-le at old low))
     ∙ take-front bytes rest
 
-written-back : (old bytes : List ℕ) (at : ℕ) → HasBytes (written old at bytes) at bytes
+written-back : (old bytes : List ℕ) (at : ℕ) → HasBytesAt (written old at bytes) at bytes
 written-back old [] at = refl
 written-back old (byte ∷ rest) at = put-back (extended old at) (byte ∷ rest) at low
   where
@@ -93,7 +93,7 @@ contents_in volumes place =
     option_map_or (λ (file : DiskFile). file.contents) (option_and_then (λ (v : DiskVolume). v.files place.number) (slice_index_or volumes place.drive None)) []
 
 module _ (it : Attempt) (covered : IsCovered (made_in it)) (place : FilePlace) (entry : Entry) (writes_it : entry.kind ≡ Put) (file : entry.file ≡ place) where
-  abbrev m : Made
+  abbrev m : MadePathCall
   m = made_in it
 
   abbrev old : List Entry
@@ -104,7 +104,7 @@ module _ (it : Attempt) (covered : IsCovered (made_in it)) (place : FilePlace) (
   Gained records = records.history ≡ old ++ entry ∷ []
 
   abbrev Has : List (Option DiskVolume) → Type 0
-  Has volumes = HasBytes (contents_in volumes place) entry.range.start entry.bytes
+  Has volumes = HasBytesAt (contents_in volumes place) entry.range.start entry.bytes
 
   none-gained : (records : Records) → records.history ≡ old → Gained records → ⊥
   none-gained records same gained =
@@ -159,9 +159,10 @@ module _ (it : Attempt) (covered : IsCovered (made_in it)) (place : FilePlace) (
         ∙ ap (λ (n : ℕ). slice_index_or (slice_set it.files.volumes drive (Some w)) n None) here
         ∙ get_or-set_same it.files.volumes drive (Some w) None drive-low
 
-    written-has : place.drive ≡ drive → (number at : ℕ) (bytes : List ℕ) (now : TimePacket) → place.number ≡ number → Writes v w number at bytes now → HasBytes (contents_in volumes place) at bytes
+    written-has : place.drive ≡ drive → (number at : ℕ) (bytes : List ℕ) (now : TimePacket) → place.number ≡ number
+        → WritesFileAt v w number at bytes now → HasBytesAt (contents_in volumes place) at bytes
     written-has here number at bytes now same makes =
-        subst (λ (contents : List ℕ). HasBytes contents at bytes) (sym contents) (written-back makes.old.contents bytes at)
+        subst (λ (contents : List ℕ). HasBytesAt contents at bytes) (sym contents) (written-back makes.old.contents bytes at)
       where
         there : w.files place.number ≡ Some makes.new
         there =
@@ -176,10 +177,10 @@ module _ (it : Attempt) (covered : IsCovered (made_in it)) (place : FilePlace) (
 
     -- the entry is one of this write
     entry-has : (request : Request) (bytes : List ℕ) (granted : IsGranted m request) → drive ≡ granted.requests.found.place.drive
-        → Makes (Change.writes granted.requests.found.place.number request.lock.range.start bytes) m.asker.user m.asker.now v w 0
+        → AppliesChange (Change.writes granted.requests.found.place.number request.lock.range.start bytes) m.asker.user m.asker.now v w 0
         → put (path_in granted) request.lock bytes ≡ entry → Has volumes
     entry-has request bytes granted on makes is =
-        subst (λ (entry : Entry). HasBytes (contents_in volumes place) entry.range.start entry.bytes) is
+        subst (λ (entry : Entry). HasBytesAt (contents_in volumes place) entry.range.start entry.bytes) is
         (written-has (ap (λ (place : FilePlace). place.drive) where-is ∙ sym on) granted.requests.found.place.number request.lock.range.start bytes m.asker.now
         (ap (λ (place : FilePlace). place.number) where-is) makes)
       where
@@ -188,9 +189,9 @@ module _ (it : Attempt) (covered : IsCovered (made_in it)) (place : FilePlace) (
             sym file ∙ sym (ap (λ (entry : Entry). entry.file) is) ∙ request-file m covered request granted.requests
 
     made-has : (change : Change) (records : Records) → IsClaimedChange it.call m.asker it.files m.terms drive change records
-        → Gained records → (n : ℕ) → Makes change m.asker.user m.asker.now v w n → Has volumes
+        → Gained records → (n : ℕ) → AppliesChange change m.asker.user m.asker.now v w n → Has volumes
     made-has change records (IsClaimedChange.by_write request bytes granted sent on is covers recorded) gained n makes =
-        entry-has request bytes granted on (subst (λ (change : Change). Makes change m.asker.user m.asker.now v w n) is makes)
+        entry-has request bytes granted on (subst (λ (change : Change). AppliesChange change m.asker.user m.asker.now v w n) is makes)
         (gained-is records (put (path_in granted) request.lock bytes) (ap (λ (records : Records). records.history) recorded) gained)
     made-has change records (IsClaimedChange.by_size request granted set on is covers recorded) gained n makes =
         by_size (length granted.requests.found.file.contents == long_of m.asker.caller.regs) recorded
@@ -199,7 +200,7 @@ module _ (it : Attempt) (covered : IsCovered (made_in it)) (place : FilePlace) (
             written_by it.files.records (path_in granted) request.lock []) → Has volumes
         by_size true is = absurd (no-drop (path_in granted) records is gained)
         by_size false is =
-            subst (λ (entry : Entry). HasBytes (contents_in volumes place) entry.range.start entry.bytes)
+            subst (λ (entry : Entry). HasBytesAt (contents_in volumes place) entry.range.start entry.bytes)
             (gained-is records (put (path_in granted) request.lock []) (ap (λ (records : Records). records.history) is) gained) refl
     made-has change records (IsClaimedChange.by_attributes k attributes is recorded) gained n makes =
         absurd (same-records records recorded gained)
@@ -241,9 +242,9 @@ module _ (it : Attempt) (covered : IsCovered (made_in it)) (place : FilePlace) (
   does-has step so effect before after gained (inr (broken, same)) =
       absurd (none-gained effect.files.records (ap (λ (it : FileEffect). it.files.records.history) broken.effect_is) gained)
 
-  pub put-bytes : Gained it.new.records → HasBytes (contents_of it.new place) entry.range.start entry.bytes
+  pub put-bytes : Gained it.new.records → HasBytesAt (contents_of it.new place) entry.range.start entry.bytes
   put-bytes gained =
-      subst (λ (new : Files). HasBytes (contents_of new place) entry.range.start entry.bytes) (sym it.attempted.state)
+      subst (λ (new : Files). HasBytesAt (contents_of new place) entry.range.start entry.bytes) (sym it.attempted.state)
       (does-has (file_step it.call m.asker it.files m.terms) (claimed it.call m.asker it.files m.terms) it.attempted.effect it.before it.after
       (sym (after-history it.attempted.effect.end it.attempted.effect.files.records it.process)
       ∙ sym (ap (λ (new : Files). new.records.history) it.attempted.state) ∙ gained) it.attempted.does)

@@ -20,7 +20,7 @@ use Rattle.machine_model.specs.State.{State}
 use Rattle.call_laws.proofs.RunningLaws.{arrivals-left}
 use Rattle.lock_laws.specs.Locked.{IsRunLocked}
 use Rattle.lock_laws.proofs.OnFiles.{tick-locked}
-use Rattle.lock_laws.specs.Touches.{KeysArrive, MayGo, TicksAreOver, WaitsFor}
+use Rattle.lock_laws.specs.Touches.{TerminalGainsKeys, MayGo, TicksAreOver, HasWaitCause}
 use Rattle.lock_laws.proofs.Events.{request-idle, waits-device}
 use Rattle.lock_laws.proofs.Looked.{StaysFor, WaitsOn, io-same, waits-on}
 
@@ -47,7 +47,7 @@ or-comm false false is = is
 same-terminal : (n m : ℕ) → Cause.Term n ≡ Cause.Term m → n ≡ m
 same-terminal n m is = cc
 
-module _ (s t : State) (q : ℕ) (cause : Cause) (it : IsRunLocked s) (ticks : Tick s t) (waits : WaitsFor s q cause) (goes : MayGo t q)
+module _ (s t : State) (q : ℕ) (cause : Cause) (it : IsRunLocked s) (ticks : Tick s t) (waits : HasWaitCause s q cause) (goes : MayGo t q)
     (stood : files_may_go s.files s.processes.tick q ≡ false) where
   records : t.files.records ≡ s.files.records
   records = by_tick ticks
@@ -135,11 +135,11 @@ module _ (s t : State) (q : ℕ) (cause : Cause) (it : IsRunLocked s) (ticks : T
           (sym (ap (request_may_go t.files.records.locks t.processes.tick) then_is) ∙ left-true (io_may_go t.files.io q) (lock_may_go t.files.records.locks t.processes.tick q) goes idle)
           (ap (λ (records : Records). not (conflicts records.locks request.lock)) records ∙ opposed)
 
-tick-goes : (s t : State) (q : ℕ) (cause : Cause) → IsRunLocked s → Tick s t → WaitsFor s q cause → MayGo t q → files_may_go s.files s.processes.tick q ≡ false → KeysArrive s t cause
+tick-goes : (s t : State) (q : ℕ) (cause : Cause) → IsRunLocked s → Tick s t → HasWaitCause s q cause → MayGo t q → files_may_go s.files s.processes.tick q ≡ false → TerminalGainsKeys s t cause
     ⊎ TicksAreOver t q
 tick-goes s t q cause it ticks waits goes stood = by_request (request_of s.files.records.locks q) refl
   where
-    by_cause : (cause : Cause) → WaitsFor s q cause → request_of s.files.records.locks q ≡ None → KeysArrive s t cause ⊎ TicksAreOver t q
+    by_cause : (cause : Cause) → HasWaitCause s q cause → request_of s.files.records.locks q ≡ None → TerminalGainsKeys s t cause ⊎ TicksAreOver t q
     by_cause (Cause.Term n) waits none =
         inl (
           n,
@@ -154,13 +154,13 @@ tick-goes s t q cause it ticks waits goes stood = by_request (request_of s.files
     by_cause (Cause.Lock drive number) waits none =
         absurd (device-stood s t q (Cause.Lock drive number) it ticks waits goes stood none (λ m is. absurd cc))
 
-    by_request : (place : Option Request) → request_of s.files.records.locks q ≡ place → KeysArrive s t cause ⊎ TicksAreOver t q
+    by_request : (place : Option Request) → request_of s.files.records.locks q ≡ place → TerminalGainsKeys s t cause ⊎ TicksAreOver t q
     by_request None none = by_cause cause waits none
     by_request (Some request) is = inr (record-late s t q cause it ticks waits goes stood request is)
 
-pub tick-lets : (s t : State) (q : ℕ) (cause : Cause) → IsRunLocked s → Tick s t → WaitsFor s q cause → MayGo t q → MayGo s q ⊎ (KeysArrive s t cause ⊎ TicksAreOver t q)
+pub tick-lets : (s t : State) (q : ℕ) (cause : Cause) → IsRunLocked s → Tick s t → HasWaitCause s q cause → MayGo t q → MayGo s q ⊎ (TerminalGainsKeys s t cause ⊎ TicksAreOver t q)
 tick-lets s t q cause it ticks waits goes = by_goes (files_may_go s.files s.processes.tick q) refl
   where
-    by_goes : (went : Bool) → files_may_go s.files s.processes.tick q ≡ went → MayGo s q ⊎ (KeysArrive s t cause ⊎ TicksAreOver t q)
+    by_goes : (went : Bool) → files_may_go s.files s.processes.tick q ≡ went → MayGo s q ⊎ (TerminalGainsKeys s t cause ⊎ TicksAreOver t q)
     by_goes true is = inl is
     by_goes false is = inr (tick-goes s t q cause it ticks waits goes is)

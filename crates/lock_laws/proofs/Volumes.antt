@@ -10,10 +10,10 @@ use Rattle.rbf_model.specs.Fields.{directory_entry}
 use Rattle.rbf_model.specs.File.{DiskFile, is_directory}
 use Rattle.rbf_model.specs.Laws.{with_directory_entry}
 use Rattle.rbf_model.specs.Volume.{DiskVolume}
-use Rattle.rbf_change.specs.Calls.{SetsAttributes, SetsSize, SizesFile, Writes, cluster_size, cuts, is_free_in, lengthens, replaced, stays}
+use Rattle.rbf_change.specs.Calls.{SetsAttributes, SetsSize, SizesFile, WritesFileAt, cluster_size, cuts, is_free_in, lengthens, replaced, stays}
 use Rattle.rbf_change.specs.Faults.{DeletionEnds, MayLose, NewFileEnds, SizeEnds, WriteEnds, before, cut, gone, longer, taken, with_front}
 use Rattle.rbf_change.specs.Names.{freed_entry}
-use Rattle.rbf_change.specs.NewFiles.{Deletes, Enters, Plan}
+use Rattle.rbf_change.specs.NewFiles.{Deletes, EntersNewFile, Plan}
 use Rattle.file_laws.proofs.Volumes.{fresh}
 use Rattle.lock_laws.specs.Contents.{ChangesWithin}
 use Rattle.lock_laws.proofs.Bytes.{cut-within, front-within, resized-within, same-within, written-within}
@@ -75,7 +75,7 @@ module _ (v w : DiskVolume) (n : ℕ) (file : DiskFile) (there : v.files n ≡ S
   abbrev Within : List ℕ → List ℕ → List ℕ → Type 0
   Within bytes = ChangesWithin range bytes
 
-  pub write-then : (bytes : List ℕ) (now : TimePacket) → Covers range (length bytes) → Writes v w n range.start bytes now → IsThen (Within bytes) v w n file
+  pub write-then : (bytes : List ℕ) (now : TimePacket) → Covers range (length bytes) → WritesFileAt v w n range.start bytes now → IsThen (Within bytes) v w n file
   write-then bytes now covers it =
       subst (λ (w : DiskVolume). IsThen (Within bytes) v w n file) (sym it.volume)
       (replaced-then (Within bytes) v n n it.old it.new file it.is there refl
@@ -121,7 +121,7 @@ module _ (v w : DiskVolume) (n : ℕ) (file : DiskFile) (there : v.files n ≡ S
   unchanged same = same-file v w n file (ap (λ (u : DiskVolume). u.files n) same ∙ there)
 
   -- another file of the volume is changed
-  pub other-written : (k at : ℕ) (bytes : List ℕ) (now : TimePacket) → n ≢ k → Writes v w k at bytes now → IsThen Same v w n file
+  pub other-written : (k at : ℕ) (bytes : List ℕ) (now : TimePacket) → n ≢ k → WritesFileAt v w k at bytes now → IsThen Same v w n file
   other-written k at bytes now apart it = subst (λ (w : DiskVolume). IsThen Same v w n file) (sym it.volume) (replaced-same v k n it.new file there apart)
 
   pub other-sized : (k size : ℕ) (now : TimePacket) → n ≢ k → SetsSize v w k size now → IsThen Same v w n file
@@ -169,7 +169,7 @@ module _ (v w : DiskVolume) (n : ℕ) (file : DiskFile) (there : v.files n ≡ S
         let one : file ≡ folder = same_Some file folder (sym there ∙ ap v.files same ∙ at) in
         false≢true (sym plain ∙ ap (λ (file : DiskFile). is_directory file) one ∙ is)
 
-    pub entered-then : (k : ℕ) (name : List ℕ) (plan : Plan) → 0 < cluster_size v → Enters v w d k name plan → IsThen Same v w n file
+    pub entered-then : (k : ℕ) (name : List ℕ) (plan : Plan) → 0 < cluster_size v → EntersNewFile v w d k name plan → IsThen Same v w n file
     entered-then k name plan some it =
         same-file v w n file
         (ap (λ (u : DiskVolume). u.files n) it.volume

@@ -14,7 +14,7 @@ use Rattle.rbf_model.specs.Volume.{DiskVolume}
 use Rattle.file_rules.specs.Attempts.{FileAttempts}
 use Rattle.file_rules.specs.declared.path_call.PathCall.{PathCall}
 use Rattle.time_rules.specs.Clock.{IsNow}
-use Rattle.file_laws.specs.Attempt.{Attempt, HasFault, made_in}
+use Rattle.file_laws.specs.Attempt.{Attempt, ReportsDriveFault, made_in}
 use Rattle.machine_model.specs.declared.ends.EventEnd.{EventEnd}
 use Rattle.machine_model.specs.Event.{Event}
 use Rattle.machine_model.specs.Services.{Serves, Service, on_paths, service_of}
@@ -25,7 +25,7 @@ use Rattle.file_laws.specs.Recorded.{IsGranted, path_in, settled}
 use Rattle.lock_laws.proofs.Contents.{contents-come}
 use Rattle.lock_laws.specs.Cycles.{EndsInFault}
 use Rattle.lock_laws.specs.Locked.{IsRunLocked}
-use Rattle.lock_laws.specs.Written.{IsCutShort, IsWritten, WritesWithin}
+use Rattle.lock_laws.specs.Written.{IsFileWriteCutShort, IsFileWritten, WritesWithin}
 use Rattle.lock_laws.proofs.Changes.{owner-is}
 use Rattle.lock_laws.proofs.Covered.{state-covered}
 use Rattle.lock_laws.proofs.PutBytes.{put-bytes}
@@ -33,7 +33,7 @@ use Rattle.lock_laws.proofs.VolumeEvents.{acts-so, attempt_by}
 
 module _ (s : State) (p : ℕ) (chosen : s.chosen ≡ Some p) (lives : IsLiving s.processes.records p) (it : IsRunLocked s) (place : FilePlace) (path : HasPath s.files place) where
   abbrev Fact : State → Type 0
-  Fact t = (contents_of t.files place ≡ contents_of s.files place) ⊎ (IsWritten s t place ⊎ IsCutShort s t place)
+  Fact t = (contents_of t.files place ≡ contents_of s.files place) ⊎ (IsFileWritten s t place ⊎ IsFileWriteCutShort s t place)
 
   stays : (t : State) → t.files.volumes ≡ s.files.volumes → Fact t
   stays t same =
@@ -59,7 +59,7 @@ module _ (s : State) (p : ℕ) (chosen : s.chosen ≡ Some p) (lives : IsLiving 
     written-so : (request : Request) (bytes : List ℕ) (granted : IsGranted (made_in attempt) request) → request.lock.file ≡ place
         → ChangesWithin request.lock.range bytes (contents_of s.files place) (contents_of rest.files place)
         → rest.files.records ≡ written_by (settled (made_in attempt)) (path_in granted) request.lock bytes
-        → IsWritten s then place
+        → IsFileWritten s then place
     written-so request bytes granted file changes is = record {
       entry = put (path_in granted) request.lock bytes;
       last = ap (λ (records : Records). records.history) is;
@@ -72,7 +72,7 @@ module _ (s : State) (p : ℕ) (chosen : s.chosen ≡ Some p) (lives : IsLiving 
     }
 
     -- a call that is answered the fault of a drive
-    faulted-so : HasFault attempt → EndsInFault s then
+    faulted-so : ReportsDriveFault attempt → EndsInFault s then
     faulted-so fault = (
       code,
       record {
@@ -96,7 +96,7 @@ module _ (s : State) (p : ℕ) (chosen : s.chosen ≡ Some p) (lives : IsLiving 
     )
 
     -- what it has changed then
-    cut-short : HasFault attempt → WritesWithin (made_in attempt) place (contents_of s.files place) (contents_of rest.files place) → IsCutShort s then place
+    cut-short : ReportsDriveFault attempt → WritesWithin (made_in attempt) place (contents_of s.files place) (contents_of rest.files place) → IsFileWriteCutShort s then place
     cut-short fault changes = record {
       fault = faulted-so fault;
       within = record {
@@ -112,7 +112,7 @@ module _ (s : State) (p : ℕ) (chosen : s.chosen ≡ Some p) (lives : IsLiving 
       };
     }
 
-    contents-so : ContentsCome (made_in attempt) place rest.files.records (HasFault attempt) (contents_of s.files place) (contents_of rest.files place) → Fact then
+    contents-so : ContentsCome (made_in attempt) place rest.files.records (ReportsDriveFault attempt) (contents_of s.files place) (contents_of rest.files place) → Fact then
     contents-so (ContentsCome.stay same) = inl same
     contents-so (ContentsCome.within request bytes granted file writes changes (inl is)) =
         inr (inl (written-so request bytes granted file changes is))
@@ -125,6 +125,6 @@ module _ (s : State) (p : ℕ) (chosen : s.chosen ≡ Some p) (lives : IsLiving 
 
 pub event-written : (s t : State) (end : EventEnd) (place : FilePlace) → IsRunLocked s → Event s end t
     → HasPath s.files place → (contents_of t.files place ≡ contents_of s.files place) ⊎
-    (IsWritten s t place ⊎ IsCutShort s t place)
+    (IsFileWritten s t place ⊎ IsFileWriteCutShort s t place)
 event-written s t end place it (p, chosen, lives, acts) path =
     acts-so s p (Fact s p chosen lives it place path) (stays s p chosen lives it place path) (attempt-so s p chosen lives it place path) (act_of s.processes p) end t refl acts

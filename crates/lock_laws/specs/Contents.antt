@@ -14,7 +14,7 @@ use Rattle.lock_model.specs.declared.place.FilePlace.{FilePlace}
 use Rattle.file_rules.specs.Files.{Files, OpenFile, file_in}
 use Rattle.file_rules.specs.declared.path_call.PathCall.TheVariants as Call
 use Rattle.file_rules.specs.declared.status.TheConstants.{SS_SIZE}
-use Rattle.file_laws.specs.Claims.{CoversCall, Made, Names}
+use Rattle.file_laws.specs.Claims.{CoversCall, MadePathCall, NamesOpenFile}
 use Rattle.file_laws.specs.Recorded.{IsGranted, IsSent, path_in, settled}
 
 -- the bytes of a file
@@ -58,20 +58,21 @@ pub record ChangesWithin (range : Range) (bytes old new : List ℕ) : Type 0 whe
   pub cuts : length new < length old → bytes ≡ []
 
 -- if the process waits in a request, that is for the file of its call and covers what the call changes
-abbrev pub IsCovered : Made → Type 0
+abbrev pub IsCovered : MadePathCall → Type 0
 IsCovered m =
     (request : Request) → request_of m.files.records.locks m.asker.caller.process.0 ≡ Some request
     → CoversCall m.call m.asker.caller.regs request
-    × ((found : OpenFile) → Names m found → request.lock.file ≡ found.place)
+    × ((found : OpenFile) → NamesOpenFile m found → request.lock.file ≡ found.place)
 
 -- a call writes these bytes, also if it ends with the fault of a drive: those that it sends, or none if it is SS.Size
-abbrev pub WritesBytes : Made → OpenFile → List ℕ → Type 0
+abbrev pub WritesBytes : MadePathCall → OpenFile → List ℕ → Type 0
 WritesBytes m found bytes =
     IsSent m found bytes ⊎ (m.call ≡ Call.SetStt) × (m.asker.caller.regs.b ≡ SS_SIZE) × (bytes ≡ [])
 
 -- the bytes of a file stay, or change within the range of a request for bytes of it that is granted, by a write of the
 -- bytes that the call writes; and these records have that write, or this is so
-pub data ContentsCome (m : Made) (place : FilePlace) (now : Records) (faulted : Type 0) (old new : List ℕ) : Type 0
+pub data ContentsCome (m : MadePathCall) (place : FilePlace) (now : Records) (faulted : Type 0) (old new : List ℕ) :
+    Type 0
   where
     stay : new ≡ old → ContentsCome m place now faulted old new
     within : (request : Request) (bytes : List ℕ) (it : IsGranted m request) → request.lock.file ≡ place

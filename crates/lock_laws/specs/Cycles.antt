@@ -5,13 +5,13 @@ use Rattle.proc_model.specs.Ready.{attempts, act_of}
 use Rattle.file_rules.specs.Files.{OneFailed}
 use Rattle.file_rules.specs.declared.path_call.PathCall.{PathCall}
 use Rattle.time_rules.specs.Clock.{IsNow}
-use Rattle.file_laws.specs.Claims.{ClosesCycle, IsLockedOut, Made}
+use Rattle.file_laws.specs.Claims.{ClosesCycle, IsLockedOut, MadePathCall}
 use Rattle.machine_model.specs.Services.{on_paths, service_of}
 use Rattle.machine_model.specs.State.{State}
-use Rattle.call_laws.specs.RefusedEvents.{IsRefused, made_by}
+use Rattle.call_laws.specs.RefusedEvents.{IsAttemptRefused, made_by}
 
 -- the chosen process attempts a call on paths, and this is so of the attempt
-pub record AttemptsSo (IsSo : Made → Type 0) (s : State) : Type 0 where
+pub record AttemptsSo (IsSo : MadePathCall → Type 0) (s : State) : Type 0 where
   pub process : ℕ
   pub chosen : s.chosen ≡ Some process
   pub code : ℕ
@@ -35,7 +35,7 @@ pub record IsFaulted (s : State) (code : ℕ) (t : State) : Type 0 where
   pub drive : ℕ
   pub number : ℕ
   pub failed : OneFailed drive number s.files.drives t.files.drives
-  pub refused : IsRefused s code number t
+  pub refused : IsAttemptRefused s code number t
 
 -- a call is attempted and answered so
 abbrev pub EndsInFault : State → State → Type 0

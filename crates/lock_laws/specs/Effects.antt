@@ -8,12 +8,12 @@ use Rattle.file_rules.specs.Read.{lock_by}
 use Rattle.file_rules.specs.Seek.{long_of}
 use Rattle.file_rules.specs.declared.path_call.PathCall.TheVariants as Call
 use Rattle.file_rules.specs.declared.status.TheConstants.{SS_SIZE}
-use Rattle.file_laws.specs.Claims.{Made}
+use Rattle.file_laws.specs.Claims.{MadePathCall}
 use Rattle.file_laws.specs.Recorded.{IsSent, IsTaken, settled}
 
 -- a granted request has taken effect: its path holds what was requested, or the line in it that was read; or it has
 -- written and holds no lock, as after SS.Size of the present size
-pub data TakesEffect (m : Made) (found : OpenFile) (request : Request) (now : Records) : Type 0 where
+pub data TakesEffect (m : MadePathCall) (found : OpenFile) (request : Request) (now : Records) : Type 0 where
   holds : (kind : ReadKind) (bytes : List ℕ) → IsTaken m found request kind bytes
       → now ≡ holding (settled m) found.opened.path.0 (lock_by kind request.lock bytes) bytes
       → TakesEffect m found request now

@@ -5,7 +5,7 @@ use Rattle.proc_model.specs.Records.{IsLiving}
 use Rattle.proc_model.specs.Processes.{regs_at}
 use Rattle.io_model.specs.Path.{holds_path}
 use Rattle.lock_model.specs.Locks.{lock_of, request_of}
-use Rattle.lock_model.specs.Records.{AreRecords}
+use Rattle.lock_model.specs.Records.{AreLockRecords}
 use Rattle.lock_model.specs.declared.lock.Held.{Held}
 use Rattle.lock_model.specs.declared.lock.Request.{Request}
 use Rattle.lock_model.specs.declared.lock.TheConstants.{PATH_PLACES}
@@ -28,7 +28,7 @@ pub record IsAskedFor (s : State) (p : ℕ) (request : Request) : Type 0 where
 -- locks of different processes have no byte in common, waits form no cycle, and the history agrees with the locks;
 -- there is a place for each system path
 pub record AreAgreed (files : Files) : Type 0 where
-  pub records : AreRecords files.records
+  pub records : AreLockRecords files.records
   pub places : length files.io.paths.descs ≡ PATH_PLACES
 
 -- the owner of each lock lives

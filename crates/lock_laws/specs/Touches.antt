@@ -63,16 +63,16 @@ abbrev pub cause_of : State → ℕ → Option Cause
 cause_of s q = wait_cause s.files.io s.files.records.locks q
 
 -- a process waits for this in a call on a path
-abbrev pub WaitsFor : State → ℕ → Cause → Type 0
-WaitsFor s q cause = cause_of s q ≡ Some cause
+abbrev pub HasWaitCause : State → ℕ → Cause → Type 0
+HasWaitCause s q cause = cause_of s q ≡ Some cause
 
 -- its call may go on in the present tick
 abbrev pub MayGo : State → ℕ → Type 0
 MayGo s q = files_may_go s.files s.processes.tick q ≡ true
 
 -- in a tick keys arrive at a terminal
-abbrev pub KeysArrive : State → State → Cause → Type 0
-KeysArrive s t cause =
+abbrev pub TerminalGainsKeys : State → State → Cause → Type 0
+TerminalGainsKeys s t cause =
     (n : ℕ) × (cause ≡ Cause.Term n) × (terminal_at t.files.io n ≢ terminal_at s.files.io n)
 
 -- and the ticks are over that a process waits for a record

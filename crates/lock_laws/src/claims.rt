@@ -7,14 +7,14 @@ ghost use Rattle.lock_model.specs.declared.lock.Grant.TheVariants.{Deadlock, Loc
 ghost use Rattle.lock_model.specs.declared.lock.TheConstants.{LOCK_PROCESSES};
 ghost use Rattle.lock_model.specs.declared.place.FilePlace.{FilePlace};
 ghost use Rattle.file_laws.specs.Kinds.{AreKinds};
-ghost use Rattle.file_rules.specs.Files.{NoneFailed, OpenFile};
+ghost use Rattle.file_rules.specs.Files.{KeepsDriveFaults, OpenFile};
 ghost use Rattle.lock_model.specs.Records.{without_lock};
-ghost use Rattle.file_laws.specs.Attempt.{Attempt, HasFault, asker_in, made_in};
+ghost use Rattle.file_laws.specs.Attempt.{Attempt, ReportsDriveFault, asker_in, made_in};
 ghost use Rattle.lock_laws.specs.Answered.{DoesAsDevice, IsAnsweredSo};
 ghost use Rattle.lock_laws.specs.Effects.{TakesEffect};
 ghost use Rattle.lock_model.specs.declared.lock.Request.{Request};
 ghost use Rattle.file_laws.specs.Recorded.{EndsLock, IsGranted, settled};
-ghost use Rattle.file_laws.specs.Claims.{ClosesCycle, IsFirst, Made, Names, Requests};
+ghost use Rattle.file_laws.specs.Claims.{ClosesCycle, IsFirstAttempt, MadePathCall, NamesOpenFile, Requests};
 ghost use Rattle.lock_laws.specs.Contents.{ContentsCome, HasPath, IsCovered, contents_of};
 
 /// If the request of an attempt may not wait, or no longer, the attempt is refused, with E$Lock or
@@ -22,9 +22,9 @@ ghost use Rattle.lock_laws.specs.Contents.{ContentsCome, HasPath, IsCovered, con
 /// numbers for no other cause (Level Two manual, RBF record locking).
 pub fn locks_refuse_as_requests_are_answered()
     ensures locked { (it : Attempt) → IsAnsweredSo Locked it
-        → (it.result ≡ refused E_LOCK) ⊎ HasFault it }
+        → (it.result ≡ refused E_LOCK) ⊎ ReportsDriveFault it }
     ensures deadlock { (it : Attempt) → IsAnsweredSo Deadlock it
-        → (it.result ≡ refused E_DEADLK) ⊎ HasFault it }
+        → (it.result ≡ refused E_DEADLK) ⊎ ReportsDriveFault it }
     ensures locked_alone { (it : Attempt) → it.result ≡ refused E_LOCK
         → DoesAsDevice it ⊎ IsAnsweredSo Locked it }
     ensures deadlock_alone { (it : Attempt) → it.result ≡ refused E_DEADLK
@@ -39,7 +39,7 @@ pub fn granted_requests_take_effect()
     ensures granted { (it : Attempt) (request : Request) (granted : IsGranted (made_in it) request)
         → ((number : ℕ) × (it.result ≡ refused number))
         ⊎ TakesEffect (made_in it) granted.requests.found request it.new.records }
-    ensures ended { (it : Attempt) (found : OpenFile) → Names (made_in it) found
+    ensures ended { (it : Attempt) (found : OpenFile) → NamesOpenFile (made_in it) found
         → EndsLock (made_in it) found → ((number : ℕ) × (it.result ≡ refused number))
         ⊎ (it.new.records ≡ without_lock (settled (made_in it)) found.opened.path.0) }
 {}
@@ -59,7 +59,6 @@ pub fn a_deadlock_is_a_cycle_at_a_first_attempt()
 /// the call changes.
 pub fn contents_change_in_the_range_of_a_granted_request()
     ensures { (it : Attempt) (place : FilePlace) → AreKinds it.files → HasPath it.files place
-        → IsCovered (made_in it)
-        → ContentsCome (made_in it) place it.new.records (HasFault it) (contents_of it.files place)
-        (contents_of it.new place) }
+        → IsCovered (made_in it) → ContentsCome (made_in it) place it.new.records
+        (ReportsDriveFault it) (contents_of it.files place) (contents_of it.new place) }
 {}

@@ -16,11 +16,11 @@ ghost use Rattle.machine_model.specs.Event.{Event};
 ghost use Rattle.machine_model.specs.Run.{Choose, Run, Slice, Tick};
 ghost use Rattle.machine_model.specs.Start.{Boot, Starts};
 ghost use Rattle.machine_model.specs.State.{State};
-ghost use Rattle.call_laws.specs.RefusedEvents.{IsRefused};
+ghost use Rattle.call_laws.specs.RefusedEvents.{IsAttemptRefused};
 ghost use Rattle.lock_laws.specs.Changed.{ChangesLocks};
 ghost use Rattle.lock_laws.specs.Cycles.{ClosesCycleIn, IsFaulted, IsLockedOutIn};
 ghost use Rattle.lock_laws.specs.Locked.{AllAgreed, AllRunLocked, AreOnFiles, IsAgreed, IsRunLocked, LeavesLocks};
-ghost use Rattle.lock_laws.specs.Written.{GainsOwn, GainsPut, GainsRead, HasGained, IsCutShort, IsWritten, KeepsLocked};
+ghost use Rattle.lock_laws.specs.Written.{GainsOwn, GainsPut, GainsRead, HasGained, IsFileWriteCutShort, IsFileWritten, KeepsLocked};
 
 /// Locks, requests and their history agree: at the start of a machine with one to four terminals,
 /// and after each event, each tick and each choice. So they do in every state of a run (Level Two
@@ -85,10 +85,10 @@ pub fn an_event_changes_locks_by_its_call()
 /// request would wait and that would close a cycle of waits; unless a drive fails in the attempt,
 /// whose fault it answers.
 pub fn a_deadlock_is_refused_exactly_for_a_cycle()
-    ensures alone { (s t : State) (code : ℕ) → IsAgreed s → IsRefused s code E_DEADLK t
+    ensures alone { (s t : State) (code : ℕ) → IsAgreed s → IsAttemptRefused s code E_DEADLK t
         → ClosesCycleIn s }
     ensures always { (s t : State) (end : EventEnd) → IsAgreed s → Event s end t
-        → (it : ClosesCycleIn s) → IsRefused s it.code E_DEADLK t
+        → (it : ClosesCycleIn s) → IsAttemptRefused s it.code E_DEADLK t
         ⊎ IsFaulted s it.code t }
 {}
 
@@ -96,9 +96,9 @@ pub fn a_deadlock_is_refused_exactly_for_a_cycle()
 /// of another process and does not wait, or no longer; unless a drive fails in the attempt, whose
 /// fault it answers.
 pub fn a_lock_refuses_exactly_what_does_not_wait()
-    ensures alone { (s t : State) (code : ℕ) → IsRefused s code E_LOCK t → IsLockedOutIn s }
+    ensures alone { (s t : State) (code : ℕ) → IsAttemptRefused s code E_LOCK t → IsLockedOutIn s }
     ensures always { (s t : State) (end : EventEnd) → Event s end t → (it : IsLockedOutIn s)
-        → IsRefused s it.code E_LOCK t ⊎ IsFaulted s it.code t }
+        → IsAttemptRefused s it.code E_LOCK t ⊎ IsFaulted s it.code t }
 {}
 
 /// The history only gains entries: those of locks that end without a read or a write, and those of
@@ -119,7 +119,7 @@ pub fn what_is_written_is_in_the_history()
     ensures written { (s t : State) (end : EventEnd) (place : FilePlace) → IsRunLocked s
         → Event s end t → HasPath s.files place
         → (contents_of t.files place ≡ contents_of s.files place)
-        ⊎ (IsWritten s t place ⊎ IsCutShort s t place) }
+        ⊎ (IsFileWritten s t place ⊎ IsFileWriteCutShort s t place) }
 {}
 
 /// An event of another process, whether a drive fails in it or not, leaves each byte that a file

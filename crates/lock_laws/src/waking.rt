@@ -14,7 +14,7 @@ ghost use Rattle.machine_model.specs.Run.{Choose, Run, Slice, Tick};
 ghost use Rattle.machine_model.specs.Start.{Boot, Starts};
 ghost use Rattle.machine_model.specs.State.{State};
 ghost use Rattle.lock_laws.specs.Living.{AllRunOpen, AreOfLiving, IsRunOpen};
-ghost use Rattle.lock_laws.specs.Touches.{cause_of, KeysArrive, MayGo, TicksAreOver, Touches, WaitsFor};
+ghost use Rattle.lock_laws.specs.Touches.{cause_of, TerminalGainsKeys, MayGo, TicksAreOver, Touches, HasWaitCause};
 
 /// A process has at most sixteen path numbers, and one that does not live has no path: at the
 /// start, and after each event, each tick and each choice. So it is in every state of a run (Level
@@ -38,15 +38,15 @@ pub fn only_living_processes_have_paths()
 /// processes alone (Level Two manual, process scheduling).
 pub fn calls_go_on_by_what_they_wait_for()
     ensures cause { (s : State) (q : ℕ) (pending : PendingCall) → IsRunOpen s
-        → pending_at s.files.io q ≡ Some pending → (cause : Cause) × WaitsFor s q cause }
+        → pending_at s.files.io q ≡ Some pending → (cause : Cause) × HasWaitCause s q cause }
     ensures waits { (s t : State) (end : EventEnd) (p q : ℕ) → IsRunOpen s
         → ArePaths s.files.io.paths → Event s end t → s.chosen ≡ Some p → q ≢ p
         → cause_of t q ≡ cause_of s q }
     ensures event { (s t : State) (end : EventEnd) (p q tick : ℕ) (cause : Cause) → IsRunOpen s
-        → Event s end t → s.chosen ≡ Some p → q ≢ p → WaitsFor s q cause
+        → Event s end t → s.chosen ≡ Some p → q ≢ p → HasWaitCause s q cause
         → (Touches s p t cause → ⊥)
         → files_may_go t.files tick q ≡ files_may_go s.files tick q }
     ensures tick { (s t : State) (q : ℕ) (cause : Cause) → IsRunOpen s → Tick s t
-        → WaitsFor s q cause → MayGo t q
-        → MayGo s q ⊎ (KeysArrive s t cause ⊎ TicksAreOver t q) }
+        → HasWaitCause s q cause → MayGo t q
+        → MayGo s q ⊎ (TerminalGainsKeys s t cause ⊎ TicksAreOver t q) }
 {}

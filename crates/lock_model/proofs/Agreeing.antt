@@ -9,13 +9,13 @@ use Rattle.lock_model.specs.Conflict.{conflicts}
 use Rattle.lock_model.specs.History.{dropped}
 use Rattle.lock_model.specs.Laws.{AreLocks, MayHold}
 use Rattle.lock_model.specs.Locks.{Locks, lock_of, request_of, with_request}
-use Rattle.lock_model.specs.Records.{AreRecords, Records, entered, ends_lock, ends_locks_below, holding, no_records, with_waiting, without_lock, written_by}
+use Rattle.lock_model.specs.Records.{AreLockRecords, Records, entered, ends_lock, ends_locks_below, holding, no_records, with_waiting, without_lock, written_by}
 use Rattle.lock_model.specs.Waits.{closes}
 use Rattle.lock_model.proofs.Histories.{recorded-got, recorded-put, recorded-dropped, too-short, undisturbed-got, undisturbed-put, undisturbed-dropped}
 use Rattle.lock_model.proofs.Keeping.{are-first, are-forgotten, are-granted, are-released, are-waiting, first-free}
 use Rattle.lock_model.proofs.Ranks.{none-some}
 
-pub records-first : AreRecords no_records
+pub records-first : AreLockRecords no_records
 records-first = record {
   locks = are-first;
   recorded = record {
@@ -25,7 +25,7 @@ records-first = record {
   undisturbed = λ before between after get entry is is_get none disturbs. too-short (before ++ (get ∷ between)) entry after is;
 }
 
-pub records-held : (records : Records) (path : ℕ) (lock : Held) (bytes : List ℕ) → path < 65 → MayHold records.locks lock → AreRecords records → AreRecords (holding records path lock bytes)
+pub records-held : (records : Records) (path : ℕ) (lock : Held) (bytes : List ℕ) → path < 65 → MayHold records.locks lock → AreLockRecords records → AreLockRecords (holding records path lock bytes)
 records-held records path lock bytes low may was = record {
   locks = are-granted records.locks path lock may was.locks;
   recorded = recorded-got records.locks records.history path lock bytes (omega (arith, low, was.locks.paths)) was.recorded;
@@ -33,7 +33,7 @@ records-held records path lock bytes low may was = record {
 }
 
 pub records-written : (records : Records) (path : ℕ) (lock : Held) (bytes : List ℕ) → path < 65
-    → conflicts records.locks lock ≡ false → AreRecords records → AreRecords (written_by records path lock bytes)
+    → conflicts records.locks lock ≡ false → AreLockRecords records → AreLockRecords (written_by records path lock bytes)
 records-written records path lock bytes low free was = record {
   locks = are-released records.locks path was.locks;
   recorded = recorded-put records.locks records.history path lock bytes (omega (arith, low, was.locks.paths)) was.recorded;
@@ -47,34 +47,34 @@ has-place locks path lock is = elim (cases_lt path (length locks.held)) [
   | inr past ↦ absurd (none-some lock (sym (get_or_past locks.held path None past) ∙ is))
 ]
 
-pub records-dropped : (records : Records) (path : ℕ) (lock : Held) → lock_of records.locks path ≡ Some lock → AreRecords records → AreRecords (entered records path None (dropped path lock))
+pub records-dropped : (records : Records) (path : ℕ) (lock : Held) → lock_of records.locks path ≡ Some lock → AreLockRecords records → AreLockRecords (entered records path None (dropped path lock))
 records-dropped records path lock is was = record {
   locks = are-released records.locks path was.locks;
   recorded = recorded-dropped records.locks records.history path lock (has-place records.locks path lock is) was.recorded;
   undisturbed = undisturbed-dropped records.history path lock was.undisturbed;
 }
 
-pub records-without : (records : Records) (path : ℕ) → AreRecords records → AreRecords (without_lock records path)
+pub records-without : (records : Records) (path : ℕ) → AreLockRecords records → AreLockRecords (without_lock records path)
 records-without records path was = by (lock_of records.locks path) refl
   where
-    by : (place : Option Held) → lock_of records.locks path ≡ place → AreRecords (option_map_or (λ lock. entered records path None (dropped path lock)) place records)
+    by : (place : Option Held) → lock_of records.locks path ≡ place → AreLockRecords (option_map_or (λ lock. entered records path None (dropped path lock)) place records)
     by None is = was
     by (Some lock) is = records-dropped records path lock is was
 
-records-ended : (ends : ℕ → Held → Bool) (path : ℕ) (records : Records) → AreRecords records → AreRecords (ends_lock ends path records)
+records-ended : (ends : ℕ → Held → Bool) (path : ℕ) (records : Records) → AreLockRecords records → AreLockRecords (ends_lock ends path records)
 records-ended ends path records was = by (option_map_or (ends path) (lock_of records.locks path) false)
   where
-    by : (b : Bool) → AreRecords (cond b (without_lock records path) records)
+    by : (b : Bool) → AreLockRecords (cond b (without_lock records path) records)
     by true = records-without records path was
     by false = was
 
-pub records-ended-below : (ends : ℕ → Held → Bool) (count : ℕ) (records : Records) → AreRecords records → AreRecords (ends_locks_below ends count records)
+pub records-ended-below : (ends : ℕ → Held → Bool) (count : ℕ) (records : Records) → AreLockRecords records → AreLockRecords (ends_locks_below ends count records)
 records-ended-below ends zero records was = was
 records-ended-below ends (suc path) records was =
     records-ended ends path (ends_locks_below ends path records) (records-ended-below ends path records was)
 
 -- other requests, and the same locks
-pub records-asked : (records : Records) (locks : Locks) → locks.held ≡ records.locks.held → AreLocks locks → AreRecords records → AreRecords (record records { locks = locks })
+pub records-asked : (records : Records) (locks : Locks) → locks.held ≡ records.locks.held → AreLocks locks → AreLockRecords records → AreLockRecords (record records { locks = locks })
 records-asked records locks same are was = record {
   locks = are;
   recorded = record {
@@ -86,11 +86,11 @@ records-asked records locks same are was = record {
 }
 
 pub records-waiting : (records : Records) (request : Request) → request_of records.locks request.lock.owner.0 ≡ None
-    → closes records.locks request.lock ≡ false → AreRecords records
-    → AreRecords (with_waiting records request.lock.owner.0 (Some request))
+    → closes records.locks request.lock ≡ false → AreLockRecords records
+    → AreLockRecords (with_waiting records request.lock.owner.0 (Some request))
 records-waiting records request quiet unclosed was =
     records-asked records (with_request records.locks request.lock.owner.0 (Some request)) refl (are-waiting records.locks request quiet unclosed was.locks) was
 
-pub records-forgotten : (records : Records) (p : ℕ) → AreRecords records → AreRecords (with_waiting records p None)
+pub records-forgotten : (records : Records) (p : ℕ) → AreLockRecords records → AreLockRecords (with_waiting records p None)
 records-forgotten records p was =
     records-asked records (with_request records.locks p None) refl (are-forgotten records.locks p was.locks) was

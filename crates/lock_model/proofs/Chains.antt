@@ -6,7 +6,7 @@ use Rattle.lock_model.specs.declared.lock.Held.{Held}
 use Rattle.lock_model.specs.declared.lock.Request.{Request}
 use Rattle.lock_model.specs.Locks.{Locks, lock_of, request_of}
 use Rattle.lock_model.specs.Conflict.{is_against, is_opposed_by, some_opposes}
-use Rattle.lock_model.specs.Waits.{Opposes, Waits, Leads, waits_by, waits_for_one, leads_within}
+use Rattle.lock_model.specs.Waits.{Opposes, WaitsForProcess, IsChainOfWaits, waits_by, waits_for_one, leads_within}
 
 abbrev nothing : {X : Type 0} → Option X
 nothing = None
@@ -62,7 +62,7 @@ some-opposer locks asked test q it passes =
 
 pub record WaitsFor (locks : Locks) (p : ℕ) (test : ℕ → Bool) : Type 0 where
   pub other : ℕ
-  pub waits : Waits locks p other
+  pub waits : WaitsForProcess locks p other
   pub passes : test other ≡ true
 
 pub waits-of : (locks : Locks) (p : ℕ) (test : ℕ → Bool) → waits_for_one locks p test ≡ true → WaitsFor locks p test
@@ -74,22 +74,22 @@ waits-of locks p test e = by (request_of locks p) refl e
         let it = opposer-of locks request.lock test e in
         record { other = it.owner; waits = record { request = request; is = is; opposes = it.opposes }; passes = it.passes }
 
-pub waits-one : (locks : Locks) (p : ℕ) (test : ℕ → Bool) (q : ℕ) → Waits locks p q → test q ≡ true → waits_for_one locks p test ≡ true
+pub waits-one : (locks : Locks) (p : ℕ) (test : ℕ → Bool) (q : ℕ) → WaitsForProcess locks p q → test q ≡ true → waits_for_one locks p test ≡ true
 waits-one locks p test q it passes =
     subst (λ (r : Option Request). waits_by locks test r ≡ true) (sym it.is) (some-opposer locks it.request.lock test q it.opposes passes)
 
 -- ---- chains
 
-pub chain-of : (locks : Locks) (n q p : ℕ) → leads_within locks n q p ≡ true → (chain : List ℕ) × Leads locks q chain p
+pub chain-of : (locks : Locks) (n q p : ℕ) → leads_within locks n q p ≡ true → (chain : List ℕ) × IsChainOfWaits locks q chain p
 chain-of locks zero q p e = absurd (false≢true e)
 chain-of locks (suc n) q p e =
     let it = waits-of locks q (λ next. eqb next p || leads_within locks n next p) e in
     elim (or_cases (eqb it.other p) (leads_within locks n it.other p) it.passes) [
-      | inl same ↦ ([], subst (λ (k : ℕ). Waits locks q k) (eqb-true it.other p same) it.waits)
+      | inl same ↦ ([], subst (λ (k : ℕ). WaitsForProcess locks q k) (eqb-true it.other p same) it.waits)
       | inr later ↦ (let rest = chain-of locks n it.other p later in (it.other ∷ rest.0, (it.waits, rest.1)))
     ]
 
-pub leads-of : (locks : Locks) (q : ℕ) (chain : List ℕ) (p : ℕ) → Leads locks q chain p → leads_within locks (suc (length chain)) q p ≡ true
+pub leads-of : (locks : Locks) (q : ℕ) (chain : List ℕ) (p : ℕ) → IsChainOfWaits locks q chain p → leads_within locks (suc (length chain)) q p ≡ true
 leads-of locks q [] p waits =
     waits-one locks q (λ next. eqb next p || leads_within locks zero next p) p waits (or_left (eqb p p) (leads_within locks zero p p) (eq-eqb p p refl))
 leads-of locks q (next ∷ rest) p (waits, more) =

@@ -4,7 +4,7 @@ use Rattle.std.proofs.lemmas.Bool.{cases_eq, false≢true}
 use Rattle.lock_model.specs.declared.lock.EntryKind.TheVariants.{Get, Put, Drop}
 use Rattle.lock_model.specs.declared.lock.Held.{Held}
 use Rattle.lock_model.specs.Conflict.{conflicts, is_against, is_same_file, overlaps}
-use Rattle.lock_model.specs.History.{got, put, dropped, NoneOf, IsLast, AreRecorded, AreUndisturbed, AtomicPairs, Disturbs}
+use Rattle.lock_model.specs.History.{got, put, dropped, NoneOf, IsLastEntry, AreRecorded, AreUndisturbed, AtomicPairs, Disturbs}
 use Rattle.lock_model.specs.declared.history.Entry.{Entry}
 use Rattle.lock_model.specs.Locks.{Locks, lock_of, with_lock}
 use Rattle.lock_model.proofs.Chains.{some-opposer}
@@ -62,10 +62,10 @@ none-more path xs new differ none a c entry is = by (place-of xs a c new entry i
 
 -- ---- an entry more
 
-last-new : (h : List Entry) (new : Entry) → IsLast (h ++ new ∷ []) new
+last-new : (h : List Entry) (new : Entry) → IsLastEntry (h ++ new ∷ []) new
 last-new h new = record { before = h; after = []; is = refl; none = none-empty new.path }
 
-last-kept : (h : List Entry) (new it : Entry) → new.path ≢ it.path → IsLast h it → IsLast (h ++ new ∷ []) it
+last-kept : (h : List Entry) (new it : Entry) → new.path ≢ it.path → IsLastEntry h it → IsLastEntry (h ++ new ∷ []) it
 last-kept h new it differ last = record {
   before = last.before;
   after = last.after ++ new ∷ [];
@@ -75,9 +75,9 @@ last-kept h new it differ last = record {
 
 pub data LastOf (h : List Entry) (new it : Entry) : Type 0 where
   is_new : it ≡ new → LastOf h new it
-  is_old : new.path ≢ it.path → IsLast h it → LastOf h new it
+  is_old : new.path ≢ it.path → IsLastEntry h it → LastOf h new it
 
-last-of : (h : List Entry) (new it : Entry) → IsLast (h ++ new ∷ []) it → LastOf h new it
+last-of : (h : List Entry) (new it : Entry) → IsLastEntry (h ++ new ∷ []) it → LastOf h new it
 last-of h new it last = by (place-of h last.before last.after new it last.is)
   where
     by : Place h last.before last.after new it → LastOf h new it
@@ -99,11 +99,11 @@ recorded locks now h new enters held_new gotten_new was = record {
   gotten = λ entry last get. gotten entry get (last-of h new entry last);
 }
   where
-    held : (path : ℕ) (lock : Held) → lock_of now path ≡ Some lock → (path ≡ new.path) ⊎ (path ≢ new.path) → (bytes : List ℕ) × IsLast (h ++ new ∷ []) (got path lock bytes)
+    held : (path : ℕ) (lock : Held) → lock_of now path ≡ Some lock → (path ≡ new.path) ⊎ (path ≢ new.path) → (bytes : List ℕ) × IsLastEntry (h ++ new ∷ []) (got path lock bytes)
     held path lock is (inl same) =
         let it = held_new lock (ap (lock_of now) (sym same) ∙ is) in
         let is_got : new ≡ got path lock it.0 = it.1 ∙ ap (λ (s : ℕ). got s lock it.0) (sym same) in
-        (it.0, subst (λ (entry : Entry). IsLast (h ++ new ∷ []) entry) is_got (last-new h new))
+        (it.0, subst (λ (entry : Entry). IsLastEntry (h ++ new ∷ []) entry) is_got (last-new h new))
     held path lock is (inr differ) =
         let it = was.held path lock (sym (enters.others path differ) ∙ is) in
         (it.0, last-kept h new (got path lock it.0) (λ e. differ (sym e)) it.1)
@@ -156,7 +156,7 @@ recorded-dropped locks h path lock low was =
 
 -- ---- nothing comes between
 
-undisturbed : (h : List Entry) (new : Entry) → ((get : Entry) → IsLast h get → get.kind ≡ Get → Disturbs get new → ⊥) → AreUndisturbed h → AreUndisturbed (h ++ new ∷ [])
+undisturbed : (h : List Entry) (new : Entry) → ((get : Entry) → IsLastEntry h get → get.kind ≡ Get → Disturbs get new → ⊥) → AreUndisturbed h → AreUndisturbed (h ++ new ∷ [])
 undisturbed h new fair was before between after get entry is is_get none disturbs =
     by (place-of h (before ++ (get ∷ between)) after new entry is)
   where
@@ -185,7 +185,7 @@ pub undisturbed-put : (locks : Locks) (h : List Entry) (path : ℕ) (lock : Held
     → AreUndisturbed (h ++ put path lock bytes ∷ [])
 undisturbed-put locks h path lock bytes free recorded_there was = undisturbed h (put path lock bytes) fair was
   where
-    fair : (get : Entry) → IsLast h get → get.kind ≡ Get → Disturbs get (put path lock bytes) → ⊥
+    fair : (get : Entry) → IsLastEntry h get → get.kind ≡ Get → Disturbs get (put path lock bytes) → ⊥
     fair get last is_get disturbs =
         let it = recorded_there.gotten get last is_get in
         let at : Disturbs (got get.path it.0 get.bytes) (put path lock bytes) = subst (λ (entry : Entry). Disturbs entry (put path lock bytes)) it.2 disturbs in

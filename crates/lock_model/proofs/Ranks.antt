@@ -7,7 +7,7 @@ use Rattle.lock_model.specs.declared.lock.Held.{Held}
 use Rattle.lock_model.specs.declared.lock.Request.{Request}
 use Rattle.lock_model.specs.Locks.{Locks, no_locks, lock_of, request_of, with_lock, with_request}
 use Rattle.lock_model.specs.Conflict.{is_against}
-use Rattle.lock_model.specs.Waits.{Opposes, Waits, Leads, NoCycle, leads_within, closes}
+use Rattle.lock_model.specs.Waits.{Opposes, WaitsForProcess, IsChainOfWaits, NoCycle, leads_within, closes}
 use Rattle.lock_model.specs.Laws.{HasRanks}
 use Rattle.lock_model.proofs.Chains.{some-opposer, waits-one}
 use Rattle.lock_model.proofs.Longest.{enough}
@@ -20,7 +20,7 @@ none-some x e = cc
 
 -- ---- no cycle
 
-leads-down : (locks : Locks) (ranks : HasRanks locks) (q : ℕ) (chain : List ℕ) (p : ℕ) → Leads locks q chain p → ranks.rank p < ranks.rank q
+leads-down : (locks : Locks) (ranks : HasRanks locks) (q : ℕ) (chain : List ℕ) (p : ℕ) → IsChainOfWaits locks q chain p → ranks.rank p < ranks.rank q
 leads-down locks ranks q [] p waits = ranks.falls q p waits
 leads-down locks ranks q (next ∷ rest) p (waits, more) =
     omega (arith, ranks.falls q next waits, leads-down locks ranks next rest p more)
@@ -31,7 +31,7 @@ no-cycle locks ranks p chain leads = let down = leads-down locks ranks p chain p
 -- ---- fewer waits
 
 pub record FewerWaits (before after : Locks) : Type 0 where
-  pub old : (a b : ℕ) → Waits after a b → Waits before a b
+  pub old : (a b : ℕ) → WaitsForProcess after a b → WaitsForProcess before a b
 
 pub ranks-fewer : (before after : Locks) → FewerWaits before after → HasRanks before → HasRanks after
 ranks-fewer before after fewer ranks =
@@ -115,11 +115,11 @@ ranks-granted locks s lock quiet ranks = record {
   ]);
 }
   where
-    falls-there : (a b : ℕ) → Waits (with_lock locks s (Some lock)) a b → a ≢ lock.owner.0 → below-all ranks.rank lock.owner.0 b < below-all ranks.rank lock.owner.0 a
+    falls-there : (a b : ℕ) → WaitsForProcess (with_lock locks s (Some lock)) a b → a ≢ lock.owner.0 → below-all ranks.rank lock.owner.0 b < below-all ranks.rank lock.owner.0 a
     falls-there a b waits differ = elim (cases_eq b lock.owner.0) [
       | inl same ↦ rw (below-self ranks.rank lock.owner.0 b same, below-other ranks.rank lock.owner.0 a differ) (omega arith)
       | inr other ↦ (
-          let was : Waits locks a b = record {
+          let was : WaitsForProcess locks a b = record {
             request = waits.request;
             is = waits.is;
             opposes = old-opposes waits.request.lock b waits.opposes other;
@@ -177,7 +177,7 @@ ranks-waiting locks request places quiet unclosed ranks = record {
   ];
 }
   where
-    falls-old : (a b : ℕ) → Waits locks a b → lifted locks ranks.rank ranks.most request.lock.owner.0 b < lifted locks ranks.rank ranks.most request.lock.owner.0 a
+    falls-old : (a b : ℕ) → WaitsForProcess locks a b → lifted locks ranks.rank ranks.most request.lock.owner.0 b < lifted locks ranks.rank ranks.most request.lock.owner.0 a
     falls-old a b waits = let p = request.lock.owner.0 in elim (cases_Bool (eqb b p || leads_within locks 33 b p)) [
       | inl up ↦ (
           let more : leads_within locks 34 a p ≡ true = waits-one locks a (λ next. eqb next p || leads_within locks 33 next p) b waits up in

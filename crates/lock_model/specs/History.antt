@@ -77,7 +77,7 @@ abbrev pub NoneOf : ℕ → List Entry → Type 0
 NoneOf path entries = (a c : List Entry) (entry : Entry) → entries ≡ a ++ entry ∷ c → entry.path ≢ path
 
 -- an entry of a history is the last one of its path
-pub record IsLast (history : List Entry) (entry : Entry) : Type 0 where
+pub record IsLastEntry (history : List Entry) (entry : Entry) : Type 0 where
   pub before : List Entry
   pub after : List Entry
   pub is : history ≡ before ++ entry ∷ after
@@ -86,8 +86,8 @@ pub record IsLast (history : List Entry) (entry : Entry) : Type 0 where
 -- a path holds a lock if and only if its last entry is a Get, with the lock's owner, file and range
 pub record AreRecorded (locks : Locks) (history : List Entry) : Type 0 where
   pub held : (path : ℕ) (lock : Held) → lock_of locks path ≡ Some lock
-      → (bytes : List ℕ) × IsLast history (got path lock bytes)
-  pub gotten : (entry : Entry) → IsLast history entry → entry.kind ≡ Get
+      → (bytes : List ℕ) × IsLastEntry history (got path lock bytes)
+  pub gotten : (entry : Entry) → IsLastEntry history entry → entry.kind ≡ Get
       → (lock : Held) × (lock_of locks entry.path ≡ Some lock) × (entry ≡ got entry.path lock entry.bytes)
 
 -- after a Get that is the last entry of its path, no other process has written a byte of its range

@@ -6,7 +6,7 @@ use Rattle.lock_model.specs.declared.lock.Request.{Request}
 use Rattle.lock_model.specs.declared.lock.TheConstants.{LOCK_PROCESSES, PATH_PLACES}
 use Rattle.lock_model.specs.Conflict.{is_against}
 use Rattle.lock_model.specs.Locks.{Locks, lock_of, request_of}
-use Rattle.lock_model.specs.Waits.{Waits}
+use Rattle.lock_model.specs.Waits.{WaitsForProcess}
 
 -- a byte is in a range
 pub record IsIn (byte : ℕ) (range : Range) : Type 0 where
@@ -22,7 +22,7 @@ pub record HasRanks (locks : Locks) : Type 0 where
   pub rank : ℕ → ℕ
   pub most : ℕ
   pub within : (p : ℕ) → rank p ≤ most
-  pub falls : (p q : ℕ) → Waits locks p q → rank q < rank p
+  pub falls : (p q : ℕ) → WaitsForProcess locks p q → rank q < rank p
 
 -- locks of different processes on a file have no byte in common, each request is for a lock of its own process, and
 -- waits form no cycle

@@ -49,7 +49,7 @@ abbrev pub with_waiting : Records → ℕ → Option Request → Records
 with_waiting records p request = record records { locks = with_request records.locks p request }
 
 -- locks, requests and history agree at all times: the history has each lock's Get, and nothing disturbed it
-pub record AreRecords (records : Records) : Type 0 where
+pub record AreLockRecords (records : Records) : Type 0 where
   pub locks : AreLocks records.locks
   pub recorded : AreRecorded records.locks records.history
   pub undisturbed : AreUndisturbed records.history

@@ -1,4 +1,4 @@
--- Waits, cycles of waits, and answers to requests (Level Two manual, RBF record locking).
+-- WaitsForProcess, cycles of waits, and answers to requests (Level Two manual, RBF record locking).
 use Rattle.std.specs.Prelude.{◌≡◌, ℕ, zero, suc, ◌+◌, ◌==◌, ◌&&◌, ◌||◌, not, nat_le, nat_lt, Bool, true, false, Option, Some, None, List, [], ◌∷◌, if◌then◌else◌}
 use Rattle.lock_model.specs.declared.lock.Held.{Held}
 use Rattle.lock_model.specs.declared.lock.Request.{Request}
@@ -19,26 +19,26 @@ pub record Opposes (locks : Locks) (asked : Held) (q : ℕ) : Type 0 where
   pub against : is_against asked lock ≡ true
 
 -- p waits for q: p waits in a request that conflicts with a lock of q
-pub record Waits (locks : Locks) (p q : ℕ) : Type 0 where
+pub record WaitsForProcess (locks : Locks) (p q : ℕ) : Type 0 where
   pub request : Request
   pub is : request_of locks p ≡ Some request
   pub opposes : Opposes locks request.lock q
 
 -- q waits for the first process of a list, each of the list waits for the next, and the last one waits for p
-abbrev pub Leads : Locks → ℕ → List ℕ → ℕ → Type 0
-Leads locks q [] p = Waits locks q p
-Leads locks q (next ∷ rest) p = Waits locks q next × Leads locks next rest p
+abbrev pub IsChainOfWaits : Locks → ℕ → List ℕ → ℕ → Type 0
+IsChainOfWaits locks q [] p = WaitsForProcess locks q p
+IsChainOfWaits locks q (next ∷ rest) p = WaitsForProcess locks q next × IsChainOfWaits locks next rest p
 
 -- waiting for this lock would close a cycle of waits
 pub record Closes (locks : Locks) (asked : Held) : Type 0 where
   pub first : ℕ
   pub chain : List ℕ
   pub opposes : Opposes locks asked first
-  pub leads : Leads locks first chain asked.owner.0
+  pub leads : IsChainOfWaits locks first chain asked.owner.0
 
 -- no process waits for itself, directly or through others
 abbrev pub NoCycle : Locks → Type 0
-NoCycle locks = (p : ℕ) (chain : List ℕ) → Leads locks p chain p → ⊥
+NoCycle locks = (p : ℕ) (chain : List ℕ) → IsChainOfWaits locks p chain p → ⊥
 
 -- ---- as tests
 

@@ -5,7 +5,7 @@ ghost use Rattle.lock_model.specs.Changes.{ChangesByRule};
 ghost use Rattle.lock_model.specs.Conflict.{conflicts, overlaps};
 ghost use Rattle.lock_model.specs.Laws.{AreLocks, HasRanks, IsIn, MayHold, cut_at};
 ghost use Rattle.lock_model.specs.Locks.{Locks, no_locks, request_of, with_lock, with_request};
-ghost use Rattle.lock_model.specs.Records.{AreRecords, Records, no_records};
+ghost use Rattle.lock_model.specs.Records.{AreLockRecords, Records, no_records};
 ghost use Rattle.lock_model.specs.Waits.{Closes, NoCycle, Opposes, closes, first_answer, later_answer, lock_may_go};
 ghost use Rattle.lock_model.specs.History.{AtomicPairs};
 ghost use Rattle.lock_model.specs.declared.lock.Grant.TheVariants.{Granted, Deadlock, Wait};
@@ -85,10 +85,10 @@ pub fn a_deadlock_is_refused()
 /// A read for update and its write are one step of the file's history, since the history agrees with
 /// the locks: at the start, and after each change by the rules.
 pub fn the_history_is_atomic()
-    ensures pairs { (records : Records) → AreRecords records → AtomicPairs records.history }
-    ensures first { AreRecords no_records }
-    ensures changed { (records now : Records) → ChangesByRule records now → AreRecords records
-        → AreRecords now }
+    ensures pairs { (records : Records) → AreLockRecords records → AtomicPairs records.history }
+    ensures first { AreLockRecords no_records }
+    ensures changed { (records now : Records) → ChangesByRule records now → AreLockRecords records
+        → AreLockRecords now }
 {}
 
 /// A part of a lock may be held if the lock may be held: a line may end before the bytes requested.

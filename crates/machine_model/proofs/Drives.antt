@@ -2,7 +2,7 @@
 use Rattle.std.proofs.Common.{◌≡◌, ◌⊎◌, ℕ, ◌≤◌, Option, List, refl, sym, ap, ◌∙◌, inl, inr, subst, arith}
 use Rattle.std.proofs.lemmas.Bool.{cases_eq}
 use Rattle.proc_model.specs.CallResult.{CallResult}
-use Rattle.file_rules.specs.Files.{DriveState, Files, NoneFailed, OneFailed, drive_at}
+use Rattle.file_rules.specs.Files.{DriveState, Files, KeepsDriveFaults, OneFailed, drive_at}
 use Rattle.file_laws.specs.Touch.{FaultAnswers, NoVolumeChanges, OneDriveFails, OneVolumeChanges}
 use Rattle.machine_model.specs.Devices.{DrivesOnlyGain}
 
@@ -17,7 +17,7 @@ drives-then a b c first next = record {
 
 -- ---- where none failed
 
-pub none-gains : (before now : List DriveState) → NoneFailed before now → DrivesOnlyGain before now
+pub none-gains : (before now : List DriveState) → KeepsDriveFaults before now → DrivesOnlyGain before now
 none-gains before now none = subst (DrivesOnlyGain before) (sym none) (drives-same before)
 
 -- ---- where one failed
@@ -36,7 +36,8 @@ one-gains drive number before now failed =
 -- ---- what calls leave
 
 -- after a load, or the start of a program in a file
-pub loads-gain : {reached : Option ℕ} (old : Files) (result : CallResult) (new : Files) → NoneFailed old.drives new.drives ⊎ FaultAnswers reached old result new → DrivesOnlyGain old.drives new.drives
+pub loads-gain : {reached : Option ℕ} (old : Files) (result : CallResult) (new : Files) → KeepsDriveFaults old.drives
+    new.drives ⊎ FaultAnswers reached old result new → DrivesOnlyGain old.drives new.drives
 loads-gain old result new (inl none) = none-gains old.drives new.drives none
 loads-gain old result new (inr fault) = one-gains fault.drive fault.number old.drives new.drives fault.failed
 

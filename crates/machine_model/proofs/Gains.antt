@@ -13,8 +13,8 @@ use Rattle.proc_model.specs.Ready.{Act, attempts, delivers, executes, act_of}
 use Rattle.file_rules.specs.declared.path_call.PathCall.{PathCall}
 use Rattle.file_rules.specs.Attempts.{asker_of}
 use Rattle.file_rules.specs.Files.{Files}
-use Rattle.file_laws.specs.Devices.{IsOnDevice}
-use Rattle.file_laws.specs.Touch.{LeavesDevices, LeavesFiles, WaitsForRecord}
+use Rattle.file_laws.specs.Devices.{DeviceAttempted}
+use Rattle.file_laws.specs.Touch.{TouchesNoDevice, LeavesFiles, WaitsForRecord}
 use Rattle.file_laws.proofs.TouchAttempts.{attempt-comes}
 use Rattle.file_laws.proofs.Loads.{chain-leaves, fork-leaves, load-leaves}
 use Rattle.machine_model.specs.declared.ends.EventEnd.{EventEnd}
@@ -85,8 +85,8 @@ module _ (s : State) (now : TimePacket) (p : ℕ) (result : CallResult) (rest : 
   loaded-gain files after left same is =
       others-gain after (subst (DrivesOnlyGain s.files.drives) (sym same) (loads-gain s.files result files left.drives)) is
 
-  path-gains : (call : PathCall) → IsOnDevice call s.processes s.files p result rest.files s.terms rest.terms ⊎
-      LeavesDevices call s.processes s.files now p result rest.files s.terms rest.terms ⊎ WaitsForRecord call s.processes
+  path-gains : (call : PathCall) → DeviceAttempted call s.processes s.files p result rest.files s.terms rest.terms ⊎
+      TouchesNoDevice call s.processes s.files now p result rest.files s.terms rest.terms ⊎ WaitsForRecord call s.processes
       s.files now p result rest.files s.terms rest.terms → RestGains s rest
   path-gains call (inl on) = record {
     terminals =

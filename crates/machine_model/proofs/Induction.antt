@@ -6,7 +6,7 @@ use Rattle.machine_model.specs.declared.ends.EventEnd.TheVariants as End
 use Rattle.machine_model.specs.declared.ends.SliceEnd.{SliceEnd}
 use Rattle.machine_model.specs.declared.ends.SliceEnd.TheVariants.{Idle, Ran}
 use Rattle.machine_model.specs.Event.{cost, Event}
-use Rattle.machine_model.specs.Run.{BeginsSlice, Choose, FirstSteps, Run, Slice, Steps, Tick, is_going}
+use Rattle.machine_model.specs.Run.{BeginsSlice, Choose, FirstSteps, Run, Slice, SliceEvents, Tick, is_going}
 use Rattle.machine_model.specs.State.{State, has_living}
 use Rattle.machine_model.specs.declared.ends.EventEnd.{EventEnd}
 
@@ -28,17 +28,17 @@ pub record IsCarriedByMoves (P : State → List State → State → Type 0) : Ty
 -- ---- events
 
 module _ (P : State → List State → State → Type 0) (it : IsCarriedByEvents P) where
-  pub before-steps : (left : ℕ) (s : State) (states : List State) (m : State) (later : List State) (t : State) → Steps left s states m → P m later t → P s (states ++ later) t
+  pub before-steps : (left : ℕ) (s : State) (states : List State) (m : State) (later : List State) (t : State) → SliceEvents left s states m → P m later t → P s (states ++ later) t
   before-steps left s [] m later t (over, is) rest = subst (λ (m : State). P m later t) is rest
   before-steps left s (u ∷ us) m later t (some, end, event, steps) rest =
       it.event s u t end (us ++ later) event (by_going (is_going end) (λ steps. before-steps (left - cost s) u us m later t steps rest) steps)
     where
-      by_going : (going : Bool) → (Steps (left - cost s) u us m → P u (us ++ later) t) → MatchBool going (Steps (left - cost s) u us m) ((us ≡ []) × (m ≡ u)) → P u (us ++ later) t
+      by_going : (going : Bool) → (SliceEvents (left - cost s) u us m → P u (us ++ later) t) → MatchBool going (SliceEvents (left - cost s) u us m) ((us ≡ []) × (m ≡ u)) → P u (us ++ later) t
       by_going true others steps = others steps
       by_going false others (none, is) =
           subst (λ (us : List State). P u (us ++ later) t) (sym none) (subst (λ (m : State). P m later t) is rest)
 
-  pub along-steps : (left : ℕ) (s t : State) (states : List State) → Steps left s states t → P s states t
+  pub along-steps : (left : ℕ) (s t : State) (states : List State) → SliceEvents left s states t → P s states t
   along-steps left s t states steps =
       subst (λ (states : List State). P s states t) (append-nil states) (before-steps left s states t [] t steps (it.none t))
 
@@ -57,7 +57,7 @@ module _ (P : State → List State → State → Type 0) (it : IsCarriedByMoves 
 
   before-chosen : (n : ℕ) (s : State) (states : List State) (end : SliceEnd) (m : State) (later : List State)
       (t : State) (who : Option ℕ) → MatchOption who ((end ≡ Idle) × (states ≡ []) × (m ≡ s))
-      (λ p. (end ≡ Ran) × Steps n s states m) → P m later t → P s (states ++ later) t
+      (λ p. (end ≡ Ran) × SliceEvents n s states m) → P m later t → P s (states ++ later) t
   before-chosen n s states end m later t None (idle, none, is) rest =
       subst (λ (states : List State). P s (states ++ later) t) (sym none) (subst (λ (m : State). P m later t) is rest)
   before-chosen n s states end m later t (Some p) (ran, steps) rest = before-steps P it.events n s states m later t steps rest

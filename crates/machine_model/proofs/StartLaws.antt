@@ -11,7 +11,7 @@ use Rattle.machine_model.specs.declared.ends.BootFault.{BootFault}
 use Rattle.machine_model.specs.declared.ends.BootFault.TheVariants.{OutOfMemory, BadModule, NoFirst, TooLarge}
 use Rattle.proc_model.specs.declared.memory.MemoryFault.{MemoryFault}
 use Rattle.proc_model.specs.Memory.{MemoryState}
-use Rattle.machine_model.specs.ProcessStart.{EntersBoot, HasFirst, StartsProcesses, Refuses, boot_group, first_program, first_start, first_started, only_process, longest_file}
+use Rattle.machine_model.specs.ProcessStart.{EntersBoot, HasFirstProgram, StartsProcesses, RefusesBoot, boot_group, first_program, first_start, first_started, only_process, longest_file}
 
 -- a file enters one list of entries
 entries-one : (file : List ℕ) (entries others : List (Option ModuleEntry)) → EntersBoot file (Ok entries) → EntersBoot file (Ok others) → entries ≡ others
@@ -28,7 +28,7 @@ record SameFirst (entries others : List (Option ModuleEntry)) (number other : �
   pub one_program : program ≡ second
 
 first-one : (file : List ℕ) (entries others : List (Option ModuleEntry)) (number other : ℕ)
-    (program second : ModuleEntry) → HasFirst file entries number program → HasFirst file others other second
+    (program second : ModuleEntry) → HasFirstProgram file entries number program → HasFirstProgram file others other second
     → SameFirst entries others number other program second
 first-one file entries others number other program second one two =
     let lists : entries ≡ others = entries-one file entries others one.entered two.entered in
@@ -39,7 +39,7 @@ first-one file entries others number other program second one two =
 
 -- a file with a first program is not one without
 never-without : (file : List ℕ) (entries others : List (Option ModuleEntry)) (number : ℕ) (program : ModuleEntry)
-    → HasFirst file entries number program → EntersBoot file (Ok others) → first_program others ≡ None → ⊥
+    → HasFirstProgram file entries number program → EntersBoot file (Ok others) → first_program others ≡ None → ⊥
 never-without file entries others number program has ending without =
     let lists : entries ≡ others = entries-one file entries others has.entered ending in
     let programs : first_program entries ≡ first_program others = ap first_program lists in
@@ -47,7 +47,7 @@ never-without file entries others number program has ending without =
 
 -- what a file starts with comes to one end
 started-one : (file : List ℕ) (blocks : ℕ) (entries others : List (Option ModuleEntry)) (number other : ℕ)
-    (entry second : ModuleEntry) → HasFirst file entries number entry → HasFirst file others other second
+    (entry second : ModuleEntry) → HasFirstProgram file entries number entry → HasFirstProgram file others other second
     → first_started file blocks entries number entry ≡ first_started file blocks others other second
 started-one file blocks entries others number other entry second one two =
     let same = first-one file entries others number other entry second one two in
@@ -64,14 +64,14 @@ Starts-one file blocks m n one other =
 
 -- a program that begins is not one that does not
 begins-once : (file : List ℕ) (blocks : ℕ) (entries others : List (Option ModuleEntry)) (number other : ℕ)
-    (entry second : ModuleEntry) (memory : MemoryState) → HasFirst file entries number entry → HasFirst file others
+    (entry second : ModuleEntry) (memory : MemoryState) → HasFirstProgram file entries number entry → HasFirstProgram file others
     other second → first_started file blocks entries number entry ≡ Ok memory
     → IsErr (first_started file blocks others other second) → ⊥
 begins-once file blocks entries others number other entry second memory one two begins fails =
     let ends : first_started file blocks entries number entry ≡ first_started file blocks others other second = started-one file blocks entries others number other entry second one two in
     let ok : first_started file blocks others other second ≡ Ok memory = sym ends ∙ begins in cc (ok, fails)
 
-pub never-both : (file : List ℕ) (blocks : ℕ) (m : Processes) (fault : BootFault) → StartsProcesses file blocks m → Refuses file blocks fault → ⊥
+pub never-both : (file : List ℕ) (blocks : ℕ) (m : Processes) (fault : BootFault) → StartsProcesses file blocks m → RefusesBoot file blocks fault → ⊥
 never-both file blocks m TooLarge starts (inl long) = let short : length file ≤ longest_file = starts.has.short in absurd (omega arith)
 never-both file blocks m TooLarge starts (inr (entries, number, program, has, wants)) = begins-once file blocks
     starts.entries entries starts.number number starts.entry program starts.memory starts.has has starts.begins wants
@@ -87,7 +87,7 @@ same-fault {at} {error} {place} {number} same =
     let errors : error ≡ number = ap (λ (pair : ℕ × ℕ). pair.1) pairs in
     cc
 
-pub Refuses-one : (file : List ℕ) (blocks : ℕ) (fault other : BootFault) → Refuses file blocks fault → Refuses file blocks other → fault ≡ other
+pub Refuses-one : (file : List ℕ) (blocks : ℕ) (fault other : BootFault) → RefusesBoot file blocks fault → RefusesBoot file blocks other → fault ≡ other
 Refuses-one file blocks OutOfMemory other one two = absurd one
 Refuses-one file blocks fault OutOfMemory one two = absurd two
 Refuses-one file blocks TooLarge TooLarge one two = refl
@@ -110,18 +110,18 @@ first_entry entries number found_it = found_entry (answers_to entries (codes "Sy
 
 -- a machine starts a file, or refuses it
 abbrev Ends : List ℕ → ℕ → Type 0
-Ends file blocks = ((m : Processes) × StartsProcesses file blocks m) ⊎ ((fault : BootFault) × Refuses file blocks fault)
+Ends file blocks = ((m : Processes) × StartsProcesses file blocks m) ⊎ ((fault : BootFault) × RefusesBoot file blocks fault)
 
 -- a file with a first program starts where that can begin
 by_start : (file : List ℕ) (blocks : ℕ) (entries : List (Option ModuleEntry)) (number : ℕ) (entry : ModuleEntry)
     (began : Result MemoryState MemoryFault) → first_started file blocks entries number entry ≡ began
-    → HasFirst file entries number entry → Ends file blocks
+    → HasFirstProgram file entries number entry → Ends file blocks
 by_start file blocks entries number entry (Err fault) is has =
     inr (TooLarge, inr (entries, number, entry, has, rw is refl))
 by_start file blocks entries number entry (Ok memory) is has =
     inl (only_process memory (first_start number entry), record { entries = entries; number = number; entry = entry; memory = memory; has = has; begins = is; is = refl })
 
-by_room : (file : List ℕ) (blocks : ℕ) (entries : List (Option ModuleEntry)) (number : ℕ) (entry : ModuleEntry) → HasFirst file entries number entry → Ends file blocks
+by_room : (file : List ℕ) (blocks : ℕ) (entries : List (Option ModuleEntry)) (number : ℕ) (entry : ModuleEntry) → HasFirstProgram file entries number entry → Ends file blocks
 by_room file blocks entries number entry has =
     by_start file blocks entries number entry (first_started file blocks entries number entry) refl has
 
@@ -136,7 +136,7 @@ by_outcome : (file : List ℕ) (blocks : ℕ) (outcome : Result (List (Option Mo
 by_outcome file blocks (Err (at, error)) short entering = inr (BadModule at error, (short, entering))
 by_outcome file blocks (Ok entries) short entering = by_first file blocks entries (first_program entries) short entering refl
 
-pub some-end : (file : List ℕ) (blocks : ℕ) → ((m : Processes) × StartsProcesses file blocks m) ⊎ ((fault : BootFault) × Refuses file blocks fault)
+pub some-end : (file : List ℕ) (blocks : ℕ) → ((m : Processes) × StartsProcesses file blocks m) ⊎ ((fault : BootFault) × RefusesBoot file blocks fault)
 some-end file blocks =
     elim (cases_lt longest_file (length file)) [
       | inl long ↦ inr (TooLarge, inl long)

@@ -5,9 +5,9 @@ use Rattle.rbf_model.specs.Volume.{DiskVolume, Vol}
 use Rattle.rbf_model.proofs.Unique.{vol_is_unique}
 use Rattle.proc_model.specs.Processes.{Processes}
 use Rattle.file_rules.specs.Files.{DriveState, Files}
-use Rattle.file_rules.specs.Processes.{StartsOn, first_files}
+use Rattle.file_rules.specs.Processes.{StartsWithImages, first_files}
 use Rattle.machine_model.specs.declared.ends.BootFault.{BootFault}
-use Rattle.machine_model.specs.ProcessStart.{Refuses, StartsProcesses, first_start, only_process}
+use Rattle.machine_model.specs.ProcessStart.{RefusesBoot, StartsProcesses, first_start, only_process}
 use Rattle.machine_model.proofs.StartLaws.{Starts-one, never-both as never-both-processes, some-end as some-end-processes}
 use Rattle.time_rules.specs.Clock.{first_clock}
 use Rattle.machine_model.specs.Start.{Boot, Starts}
@@ -26,7 +26,7 @@ volumes-one (image ∷ images) (v ∷ vs) (w ∷ ws) mounted again =
     let rest : vs ≡ ws = volumes-one images vs ws mounted.1 again.1 in
     cc
 
-files-one : (images : List (List ℕ)) (drives : List DriveState) (one other : Files) → StartsOn images drives one → StartsOn images drives other → one ≡ other
+files-one : (images : List (List ℕ)) (drives : List DriveState) (one other : Files) → StartsWithImages images drives one → StartsWithImages images drives other → one ≡ other
 files-one images drives one other mounted again =
     mounted.is ∙ ap (λ (volumes : List DiskVolume). first_files volumes drives) (volumes-one images mounted.volumes again.volumes mounted.mounted again.mounted) ∙ sym again.is
 
@@ -61,13 +61,13 @@ starts-one boot s t one other =
     let files : one.files ≡ other.files = files-one boot.images boot.drives one.files other.files one.mounted other.mounted in
     one.is ∙ states-one boot (first_processes boot s one) (first_processes boot t other) one.files other.files same_processes files ∙ sym other.is
 
-pub never-both : (boot : Boot) (s : State) (fault : BootFault) → Starts boot s → Refuses boot.file boot.blocks fault → ⊥
+pub never-both : (boot : Boot) (s : State) (fault : BootFault) → Starts boot s → RefusesBoot boot.file boot.blocks fault → ⊥
 never-both boot s fault starts refusal =
     never-both-processes boot.file boot.blocks (first_processes boot s starts) fault (starts-so boot s starts) refusal
 
 by_file : (boot : Boot) (volumes : List DiskVolume) → AllZip Vol boot.images volumes
-    → ((m : Processes) × StartsProcesses boot.file boot.blocks m) ⊎ ((fault : BootFault) × Refuses boot.file boot.blocks
-    fault) → ((s : State) × Starts boot s) ⊎ ((fault : BootFault) × Refuses boot.file boot.blocks fault)
+    → ((m : Processes) × StartsProcesses boot.file boot.blocks m) ⊎ ((fault : BootFault) × RefusesBoot boot.file boot.blocks
+    fault) → ((s : State) × Starts boot s) ⊎ ((fault : BootFault) × RefusesBoot boot.file boot.blocks fault)
 by_file boot volumes mounted (inr refusal) = inr refusal
 by_file boot volumes mounted (inl (m, starts)) =
     inl (
@@ -85,6 +85,6 @@ by_file boot volumes mounted (inl (m, starts)) =
       },
     )
 
-pub some-end : (boot : Boot) (volumes : List DiskVolume) → AllZip Vol boot.images volumes → ((s : State) × Starts boot s) ⊎ ((fault : BootFault) × Refuses boot.file boot.blocks fault)
+pub some-end : (boot : Boot) (volumes : List DiskVolume) → AllZip Vol boot.images volumes → ((s : State) × Starts boot s) ⊎ ((fault : BootFault) × RefusesBoot boot.file boot.blocks fault)
 some-end boot volumes mounted =
     by_file boot volumes mounted (some-end-processes boot.file boot.blocks)

@@ -14,7 +14,7 @@ use Rattle.file_rules.specs.Locking.{files_interrupted}
 use Rattle.file_rules.specs.Processes.{files_ended}
 use Rattle.machine_model.specs.ProcessEvent.{after_instruction, broken_off, call_event_end, cost_of, delivery_end, instruction_end, next_instruction}
 use Rattle.machine_model.specs.declared.ends.EventEnd.{EventEnd}
-use Rattle.machine_model.specs.Services.{Attempts}
+use Rattle.machine_model.specs.Services.{CallAttempted}
 use Rattle.machine_model.specs.State.{State, Rest, with_rest}
 
 -- files after an instruction of a process: what it had is closed if it ends
@@ -42,7 +42,7 @@ Acts executes s p end t =
       files = files_after_instruction s.files p (next_instruction s.processes p);
     })
 Acts (attempts code) s p end t =
-    (result : CallResult) × (rest : Rest) × Attempts code s p result rest × (end ≡ call_event_end result)
+    (result : CallResult) × (rest : Rest) × CallAttempted code s p result rest × (end ≡ call_event_end result)
     × (t ≡ with_rest s (after_attempt s.processes p result) rest)
 Acts (delivers signal) s p end t =
     (end ≡ delivery_end (delivered (before_delivery s p) p signal))

@@ -42,7 +42,7 @@ abbrev pub first_program : List (Option ModuleEntry) → Option ℕ
 first_program entries = found_module entries (codes "SysGo") program_kind
 
 -- the modules of the file are entered, and one of them is the first program, which has this entry and this number
-pub record HasFirst (file : List ℕ) (entries : List (Option ModuleEntry)) (number : ℕ) (entry : ModuleEntry)
+pub record HasFirstProgram (file : List ℕ) (entries : List (Option ModuleEntry)) (number : ℕ) (entry : ModuleEntry)
     : Type 0 where
   pub short : length file ≤ longest_file
   pub entered : EntersBoot file (Ok entries)
@@ -91,20 +91,20 @@ only_process memory program = record {
 -- ---- the start
 
 -- Why a boot file does not start a machine with this number of blocks: the first cause of those below.
-abbrev pub Refuses : List ℕ → ℕ → BootFault → Type 0
+abbrev pub RefusesBoot : List ℕ → ℕ → BootFault → Type 0
 -- it has more bytes than a group; or there are too few blocks or slots for it and the first program's data area
-Refuses file blocks TooLarge =
+RefusesBoot file blocks TooLarge =
     (longest_file < length file)
     ⊎ ((entries : List (Option ModuleEntry)) × (number : ℕ) × (entry : ModuleEntry)
-    × HasFirst file entries number entry × IsErr (first_started file blocks entries number entry))
+    × HasFirstProgram file entries number entry × IsErr (first_started file blocks entries number entry))
 -- one of its modules is refused: where it begins, and the error
-Refuses file blocks (BadModule at error) =
+RefusesBoot file blocks (BadModule at error) =
     (length file ≤ longest_file) × EntersBoot file (Err (at, error))
 -- it has no first program
-Refuses file blocks NoFirst =
+RefusesBoot file blocks NoFirst =
     (length file ≤ longest_file)
     × ((entries : List (Option ModuleEntry)) × EntersBoot file (Ok entries) × (first_program entries ≡ None))
-Refuses file blocks OutOfMemory = ⊥
+RefusesBoot file blocks OutOfMemory = ⊥
 
 -- the processes with which a machine with this number of blocks starts a boot file
 pub record StartsProcesses (file : List ℕ) (blocks : ℕ) (processes : Processes) : Type 0 where
@@ -112,6 +112,6 @@ pub record StartsProcesses (file : List ℕ) (blocks : ℕ) (processes : Process
   pub number : ℕ
   pub entry : ModuleEntry
   pub memory : MemoryState
-  pub has : HasFirst file entries number entry
+  pub has : HasFirstProgram file entries number entry
   pub begins : first_started file blocks entries number entry ≡ Ok memory
   pub is : processes ≡ only_process memory (first_start number entry)

@@ -59,11 +59,11 @@ is_going EventEnd.NoMemory = false
 
 -- The events of a slice with a number of instructions left: from a state through these states. It is over when those
 -- are executed, or after an event with which it does not go on.
-abbrev pub Steps : ℕ → State → List State → State → Type 0
-Steps left s [] t = (left ≡ 0) × (t ≡ s)
-Steps left s (m ∷ ms) t =
+abbrev pub SliceEvents : ℕ → State → List State → State → Type 0
+SliceEvents left s [] t = (left ≡ 0) × (t ≡ s)
+SliceEvents left s (m ∷ ms) t =
     (0 < left) × (end : EventEnd) × Event s end m
-    × MatchBool (is_going end) (Steps (left - cost s) m ms t) ((ms ≡ []) × (t ≡ m))
+    × MatchBool (is_going end) (SliceEvents (left - cost s) m ms t) ((ms ≡ []) × (t ≡ m))
 
 -- one slice of a number of instructions: the states after its events, how it ends, and the state then; no process is
 -- Ready if none was chosen
@@ -71,7 +71,7 @@ abbrev pub Slice : ℕ → State → List State → SliceEnd → State → Type 
 Slice n s states end t =
     (ticked : State) × (chosen : State) × Tick s ticked × Choose ticked chosen
     × MatchOption chosen.chosen ((end ≡ Idle) × (states ≡ []) × (t ≡ chosen))
-    (λ p. (end ≡ Ran) × Steps n chosen states t)
+    (λ p. (end ≡ Ran) × SliceEvents n chosen states t)
 
 -- the first events of a slice that is not over after them
 abbrev pub FirstSteps : ℕ → State → List State → State → Type 0

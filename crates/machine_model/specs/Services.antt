@@ -81,6 +81,6 @@ Serves (on_paths call) s now p result rest =
 Serves no_call s now p result rest = (result ≡ refused E_UNKSVC) × (rest ≡ rest_of s)
 
 -- an attempt of a call by its code, at the current time
-abbrev pub Attempts : ℕ → State → ℕ → CallResult → Rest → Type 0
-Attempts code s p result rest =
+abbrev pub CallAttempted : ℕ → State → ℕ → CallResult → Rest → Type 0
+CallAttempted code s p result rest =
     (now : TimePacket) × IsNow s.clock s.processes.tick now × Serves (service_of code) s now p result rest

@@ -6,8 +6,8 @@ use Rattle.os9_outer.specs.TerminalState.{TerminalState}
 use Rattle.proc_model.specs.Memory.{MemoryState}
 use Rattle.proc_model.specs.ModuleList.{ModuleEntry}
 use Rattle.file_rules.specs.Files.{Files, DriveState}
-use Rattle.file_rules.specs.Processes.{StartsOn}
-use Rattle.machine_model.specs.ProcessStart.{HasFirst, first_start, first_started, only_process}
+use Rattle.file_rules.specs.Processes.{StartsWithImages}
+use Rattle.machine_model.specs.ProcessStart.{HasFirstProgram, first_start, first_started, only_process}
 use Rattle.time_rules.specs.Clock.{first_clock}
 use Rattle.machine_model.specs.State.{State}
 
@@ -26,10 +26,10 @@ pub record Starts (boot : Boot) (s : State) : Type 0 where
   pub number : ℕ
   pub entry : ModuleEntry
   pub memory : MemoryState
-  pub has : HasFirst boot.file entries number entry
+  pub has : HasFirstProgram boot.file entries number entry
   pub begins : first_started boot.file boot.blocks entries number entry ≡ Ok memory
   pub files : Files
-  pub mounted : StartsOn boot.images boot.drives files
+  pub mounted : StartsWithImages boot.images boot.drives files
   pub is : s
       ≡ record {
         processes = only_process memory (first_start number entry);

@@ -7,20 +7,20 @@ use Rattle.rbf_walk.specs.Walk.{directory_fault}
 use Rattle.rbf_walk.specs.declared.error.DirError.{DirError}
 use Rattle.file_rules.specs.Files.{Files, file_in, volume_at, with_drives, with_volume}
 use Rattle.lock_model.specs.declared.place.FilePlace.{FilePlace}
-use Rattle.file_drives.specs.Changed.{Asked, ChangesVolume, IsRefused, is_refused}
+use Rattle.file_drives.specs.Changed.{Asked, ChangesVolume, IsRefusedChange, is_refused}
 use Rattle.file_drives.specs.Drives.{DriveView, drive_states}
 use Rattle.file_drives.specs.Mounted.{HasFileAt, OnDisks, ReadsFile}
 use Rattle.file_state.proofs.CountLemmas.{called-more, called-one, called-read}
 use Rattle.file_state.proofs.ReachedLemmas as reached
 use Rattle.file_state.specs.Counted.{CalledAtMost}
-use Rattle.file_state.specs.Reached.{HasRead}
+use Rattle.file_state.specs.Reached.{HasReadDrive}
 use Rattle.file_state.proofs.ReachedLemmas.{HasChanged}
-use Rattle.file_state.specs.Tie.{StandsFor}
+use Rattle.file_state.specs.Tie.{RepresentsFiles}
 use Rattle.file_state.specs.declared.state.FileState.{FileState}
 
 module _ (files : Files) (place : FilePlace) (v : DiskVolume) (file : DiskFile) (volume_is : volume_at files
     place.drive ≡ Some v) (file_is : v.files place.number ≡ Some file) (mid new : FileState)
-    (before views now : List DriveView) (was : HasRead None place.drive files mid before views) where
+    (before views now : List DriveView) (was : HasReadDrive None place.drive files mid before views) where
   file-there : file_in (with_drives files (drive_states views)) place ≡ Some file
   file-there = ap (option_and_then (λ (v : DiskVolume). v.files place.number)) volume_is ∙ file_is
 
@@ -30,7 +30,7 @@ module _ (files : Files) (place : FilePlace) (v : DiskVolume) (file : DiskFile) 
 
   pub read-again : (fault : Option ℕ) (most : DiskVolume → DiskFile → ℕ) → new.io ≡ mid.io → new.directories ≡
       mid.directories → new.records ≡ mid.records → ReadsFile place fault most mid.disks views new.disks now
-      → HasRead fault place.drive files new before now
+      → HasReadDrive fault place.drive files new before now
   read-again fault most io directories records reads =
       reached.has-read-then fault place.drive files mid new before views now was
       (reached.has-read mid new views now (with_drives files (drive_states views)) place file fault most was.stands file-there io directories records reads)
@@ -69,11 +69,13 @@ still-there place fault most disks new views now has reads = record {
 -- where the change is refused, or was to be when the drive failed, the drive was only read
 pub unchanged : (asked : Asked) (answer : Result ℕ DirError) (drive : ℕ) (v : DiskVolume) (file : DiskFile)
     (files : Files) (new : FileState) (before now : List DriveView) → volume_at files drive ≡ Some v
-    → (it : HasChanged asked answer drive v file files new before now) → IsRefused answer ⊎
-    (is_refused asked v file ≡ true) → it.left ≡ v → HasRead (directory_fault answer) drive files new before now
+    → (it : HasChanged asked answer drive v file files new before now) → IsRefusedChange answer ⊎
+    (is_refused asked v file ≡ true) → it.left ≡ v → HasReadDrive (directory_fault answer) drive files new before now
 unchanged asked answer drive v file files new before now is it quiet same = record {
   moved = it.moved;
-  stands = subst (λ (f : Files). StandsFor new now (with_drives f (drive_states now))) (ap (λ (left : DiskVolume). with_volume files drive left) same ∙ reached.same-volume files drive v is) it.stands;
+  stands = subst (λ (f : Files). RepresentsFiles new now (with_drives f (drive_states now)))
+      (ap (λ (left : DiskVolume). with_volume files drive left) same ∙ reached.same-volume files drive v is)
+      it.stands;
   media_kept = it.refused quiet;
   others = it.others;
 }

@@ -14,14 +14,14 @@ use Rattle.io_model.specs.Io.{Io, new_desc, with_call, with_paths}
 use Rattle.io_model.specs.Open.{opened_regs}
 use Rattle.io_model.specs.PathList.{PathList}
 use Rattle.io_model.specs.Step.{answers}
-use Rattle.proc_state.specs.Tie.{Represents}
+use Rattle.proc_state.specs.Tie.{RepresentsProcesses}
 use Rattle.proc_state.specs.declared.state.ProcState.{ProcState}
 use Rattle.file_rules.specs.Attempts.{asker_of}
 use Rattle.file_rules.specs.Files.{Asker, Files, with_path_table}
 use Rattle.file_rules.specs.Step.{deed_of, done, leaves, leaves_so, needs, refuses_so}
 use Rattle.file_drives.specs.Drives.{DriveView}
 use Rattle.file_state.proofs.StateLemmas.{stands-with_io}
-use Rattle.file_state.specs.Tie.{StandsFor}
+use Rattle.file_state.specs.Tie.{RepresentsFiles}
 use Rattle.file_state.specs.declared.state.FileState.{FileState}
 use Rattle.name_calls.proofs.OpenEndLemmas.{done-quietly, refused-quietly}
 use Rattle.name_calls.specs.Ends.{EndsQuietly}
@@ -55,9 +55,9 @@ paths-full paths p desc none = by (free_number paths p) (free_path paths) none
 -- ---- as it was answered
 
 module _ (m : Processes) (was : Files) (now : TimePacket) (p : ℕ) (list : PathList) (target : Target) (state : FileState)
-    (views : List DriveView) (stands : StandsFor state views was) (end : CallEnd) (processes : ProcState)
+    (views : List DriveView) (stands : RepresentsFiles state views was) (end : CallEnd) (processes : ProcState)
     (mid io : Io) (io_is : io ≡ with_call mid p None) where
-  pub full-quietly : mid ≡ state.io → None ≡ new_number state.io.paths p → end ≡ Error E_PTHFUL → Represents processes
+  pub full-quietly : mid ≡ state.io → None ≡ new_number state.io.paths p → end ≡ Error E_PTHFUL → RepresentsProcesses processes
       m → EndsQuietly (begins (asker_of m p now) was list target) m was p end processes (record state { io = io })
       views
   full-quietly same none end_is tied =
@@ -66,7 +66,7 @@ module _ (m : Processes) (was : Files) (now : TimePacket) (p : ℕ) (list : Path
 
   module _ (a next : ℕ) (numbered : Some a ≡ new_number state.io.paths p) (next_is : list.next ≡ next) (end_is : end ≡ Done) where
     begun : mid ≡ with_paths state.io (paths_after_begin state.io.paths p (new_desc target (regs_at m p).a))
-        → Represents processes (with_regs_of m p (opened_regs (regs_at m p) list a))
+        → RepresentsProcesses processes (with_regs_of m p (opened_regs (regs_at m p) list a))
         → EndsQuietly (begins (asker_of m p now) was list target) m was p end processes (record state { io = io })
         views
     begun mid_is tied =
@@ -79,10 +79,10 @@ module _ (m : Processes) (was : Files) (now : TimePacket) (p : ℕ) (list : Path
 
     -- by the registers that were read
     pub begun-quietly : (r : Regs) → r ≡ regs_at m p → mid ≡ with_paths state.io (paths_after_begin state.io.paths p
-        (new_desc target r.a)) → Represents processes (with_regs_of m p (record r { a = a; x = next % 65536 }))
+        (new_desc target r.a)) → RepresentsProcesses processes (with_regs_of m p (record r { a = a; x = next % 65536 }))
         → EndsQuietly (begins (asker_of m p now) was list target) m was p end processes (record state { io = io })
         views
     begun-quietly r same mid_is tied =
         begun (subst (λ (r : Regs). mid ≡ with_paths state.io (paths_after_begin state.io.paths p (new_desc target r.a))) same mid_is)
-        (subst (λ (r : Regs). Represents processes (with_regs_of m p (opened_regs r list a))) same
-        (subst (λ (n : ℕ). Represents processes (with_regs_of m p (record r { a = a; x = n % 65536 }))) (sym next_is) tied))
+        (subst (λ (r : Regs). RepresentsProcesses processes (with_regs_of m p (opened_regs r list a))) same
+        (subst (λ (n : ℕ). RepresentsProcesses processes (with_regs_of m p (record r { a = a; x = n % 65536 }))) (sym next_is) tied))

@@ -10,13 +10,13 @@ use Rattle.file_rules.specs.ChgDir.{goes_on_route, goes_to, i_chgdir, may_go_to}
 use Rattle.proc_model.specs.Processes.{Processes, regs_at, with_regs_of}
 use Rattle.io_model.specs.Io.{Io, with_call}
 use Rattle.io_model.specs.Step.{answers}
-use Rattle.proc_state.specs.Tie.{Represents}
+use Rattle.proc_state.specs.Tie.{RepresentsProcesses}
 use Rattle.proc_state.specs.declared.state.ProcState.{ProcState}
 use Rattle.file_rules.specs.Attempts.{files_kept}
 use Rattle.file_rules.specs.Files.{Asker, Files, directories_at, with_directories_of, with_directory, with_drives, with_io}
 use Rattle.file_drives.specs.Drives.{DriveView, drive_states}
 use Rattle.file_state.proofs.StateLemmas.{stands-with_io}
-use Rattle.file_state.specs.Tie.{StandsFor}
+use Rattle.file_state.specs.Tie.{RepresentsFiles}
 use Rattle.file_state.specs.declared.state.FileState.{FileState}
 use Rattle.file_rules.specs.Open.{is_for_execution, tests_mode}
 use Rattle.file_rules.specs.Step.{FileStep, Step, refused, comes, leaves, reaches, refuses, with_drives_after}
@@ -101,18 +101,18 @@ module _ (asker : Asker) (files : Files) (terms : ℕ) (execute : Bool) (same : 
 -- the call of a process is done, and its directory is another one
 pub gone-there : (mid final : FileState) (views : List DriveView) (was : Files) (p : ℕ) (regs : Regs) (io : Io)
     (execute searched : Bool) (place found : FilePlace) → io ≡ with_call mid.io p None → execute ≡ searched
-    → found ≡ place → StandsFor mid views (with_drives was (drive_states views))
-    → ((views : List DriveView) (files : Files) → StandsFor (record mid { io = io }) views files
-    → StandsFor final views (with_directories_of files p (with_directory (directories_at files p) execute place)))
-    → StandsFor final views (files_kept p
+    → found ≡ place → RepresentsFiles mid views (with_drives was (drive_states views))
+    → ((views : List DriveView) (files : Files) → RepresentsFiles (record mid { io = io }) views files
+    → RepresentsFiles final views (with_directories_of files p (with_directory (directories_at files p) execute place)))
+    → RepresentsFiles final views (files_kept p
     (with_drives_after (leaves (answers regs) (with_directories_of was p (with_directory (directories_at was p)
     searched found))) (drive_states views)))
 gone-there mid final views was p regs io execute searched place found io_is searches place_is stands goes =
-    subst (λ (place : FilePlace). StandsFor final views
+    subst (λ (place : FilePlace). RepresentsFiles final views
     (files_kept p (with_drives_after
     (leaves (answers regs) (with_directories_of was p (with_directory (directories_at was p) searched place)))
     (drive_states views)))) (sym place_is)
-    (subst (λ (execute : Bool). StandsFor final views
+    (subst (λ (execute : Bool). RepresentsFiles final views
     (files_kept p (with_drives_after
     (leaves (answers regs) (with_directories_of was p (with_directory (directories_at was p) execute place)))
     (drive_states views)))) searches
@@ -121,8 +121,8 @@ gone-there mid final views was p regs io execute searched place found io_is sear
 
 -- and its process has X past the list
 pub told-past : (processes : ProcState) (m : Processes) (p next end : ℕ) (regs : Regs) → regs ≡ regs_at m p → next ≡ end
-    → Represents processes (with_regs_of m p (record regs { x = next % 65536 })) → Represents processes
+    → RepresentsProcesses processes (with_regs_of m p (record regs { x = next % 65536 })) → RepresentsProcesses processes
     (with_regs_of m p (record (regs_at m p) { x = end % 65536 }))
 told-past processes m p next end regs same next_is tied =
-    subst (λ (n : ℕ). Represents processes (with_regs_of m p (record (regs_at m p) { x = n % 65536 }))) next_is
-    (subst (λ (regs : Regs). Represents processes (with_regs_of m p (record regs { x = next % 65536 }))) same tied)
+    subst (λ (n : ℕ). RepresentsProcesses processes (with_regs_of m p (record (regs_at m p) { x = n % 65536 }))) next_is
+    (subst (λ (regs : Regs). RepresentsProcesses processes (with_regs_of m p (record regs { x = next % 65536 }))) same tied)

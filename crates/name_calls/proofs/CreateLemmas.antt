@@ -18,10 +18,10 @@ use Rattle.rbf_model.specs.Walk.{look_up}
 use Rattle.rbf_change.specs.Calls.{free_total}
 use Rattle.rbf_change.specs.Faults as ends
 use Rattle.rbf_change.specs.Names.{is_dots, may_change}
-use Rattle.rbf_change.specs.NewFiles.{Refusal, bad_path, exists, no_cluster, not_allowed, too_many_runs}
-use Rattle.rbf_entries.specs.Places.{IsRefused}
+use Rattle.rbf_change.specs.NewFiles.{NewEntryRefusal, bad_path, exists, no_cluster, not_allowed, too_many_runs}
+use Rattle.rbf_entries.specs.Places.{IsEntryRefused}
 use Rattle.file_rules.specs.Attempts.{asker_of}
-use Rattle.file_rules.specs.Change.{MayLeave, creates}
+use Rattle.file_rules.specs.Change.{ChangeMayLeave, creates}
 use Rattle.file_rules.specs.Create.{clusters_for, creates_in, creates_on_route, creates_with_path, has_room_for, i_create, opens_new}
 use Rattle.file_rules.specs.Files.{Asker, Files, volume_at}
 use Rattle.file_rules.specs.Open.{is_for_execution, says_directory}
@@ -30,7 +30,7 @@ use Rattle.file_rules.specs.Route.{Found, along, before_last, is_root, last_of, 
 use Rattle.lock_model.specs.declared.place.FilePlace.{FilePlace}
 use Rattle.file_drives.specs.Changed.{has_no_segment, is_full_for}
 use Rattle.file_drives.specs.Drives.{DriveView}
-use Rattle.file_state.specs.Ends.{Ends}
+use Rattle.file_state.specs.Ends.{EndsFileAttempt}
 use Rattle.file_state.specs.declared.state.FileState.{FileState}
 use Rattle.file_routes.proofs.RouteLemmas.{leads-on, mode-tested}
 use Rattle.file_routes.specs.Routes.{IsRoute, Led, led_by, leads, mode_refusal, next_step, refuses_by, route_for, route_on}
@@ -93,7 +93,7 @@ module _ (asker : Asker) (files : Files) (list : PathList) (name : List ℕ) (di
 -- ---- why the entry is refused
 
 module _ (asker : Asker) (dir : Found) (name : List ℕ) (user : ℕ) (execute : Bool) (proper : is_dots name ≡ false) where
-  abbrev reason : Bool → Bool → Bool → Bool → Bool → Option Refusal
+  abbrev reason : Bool → Bool → Bool → Bool → Bool → Option NewEntryRefusal
   reason dots may there full list =
       if dots then Some bad_path
       else (if not may then Some not_allowed
@@ -109,7 +109,7 @@ module _ (asker : Asker) (dir : Found) (name : List ℕ) (user : ℕ) (execute :
   forbidden-by false true false false true proper is = cc
   forbidden-by false true false false false proper is = cc
 
-  pub is-forbidden : IsRefused dir.file name user execute not_allowed → may_change dir.file user execute ≡ false
+  pub is-forbidden : IsEntryRefused dir.file name user execute not_allowed → may_change dir.file user execute ≡ false
   is-forbidden refusal = forbidden-by _ _ _ _ _ proper (refusal 0 0 0)
 
   exists-by : (dots may there full list : Bool) → dots ≡ false → reason dots may there full list ≡ Some exists → (may ≡ true) × (there ≡ true)
@@ -120,7 +120,7 @@ module _ (asker : Asker) (dir : Found) (name : List ℕ) (user : ℕ) (execute :
   exists-by false true false false true proper is = cc
   exists-by false true false false false proper is = cc
 
-  pub is-there : IsRefused dir.file name user execute exists → (may_change dir.file user execute ≡ true) × (is_some (look_up dir.file.contents name) ≡ true)
+  pub is-there : IsEntryRefused dir.file name user execute exists → (may_change dir.file user execute ≡ true) × (is_some (look_up dir.file.contents name) ≡ true)
   is-there refusal = exists-by _ _ _ _ _ proper (refusal 0 0 0)
 
   no-dots-by : (dots may there full list : Bool) → dots ≡ false → reason dots may there full list ≡ Some bad_path → ⊥
@@ -131,7 +131,7 @@ module _ (asker : Asker) (dir : Found) (name : List ℕ) (user : ℕ) (execute :
   no-dots-by false true false false true proper is = cc
   no-dots-by false true false false false proper is = cc
 
-  pub is-proper : IsRefused dir.file name user execute bad_path → ⊥
+  pub is-proper : IsEntryRefused dir.file name user execute bad_path → ⊥
   is-proper refusal = no-dots-by _ _ _ _ _ proper (refusal 0 0 0)
 
 -- ---- a fault before the change leaves the volume as it was
@@ -195,7 +195,7 @@ module _ (asker : Asker) (files : Files) (list : PathList) (name : List ℕ) (di
       ap (λ (full : Bool). deed_of (with-room full none) files) enough ∙ ap (λ (none : Bool). deed_of (with-room false none) files) is
 
   -- what a fault in it leaves
-  pub room-broken : (full none : Bool) (v left : DiskVolume) → MayLeave it.change asker.user asker.now v left
+  pub room-broken : (full none : Bool) (v left : DiskVolume) → ChangeMayLeave it.change asker.user asker.now v left
       → ((full || none) ≡ true → left ≡ v) → MayBeLeft (deed_of (with-room full none) files) asker v left
   room-broken true none v left may_be same = same refl
   room-broken false true v left may_be same = same refl
@@ -271,14 +271,14 @@ module _ (m : Processes) (was : Files) (now : TimePacket) (p : ℕ) (list : Path
   for_it = is_for_execution asked.caller.regs.a
 
   pub along-named : (end : CallEnd) (processes : ProcState) (new : FileState) (before after : List DriveView)
-      (terms : List TerminalState) → Ends (walks asked was for_it from (before_last list.names)
+      (terms : List TerminalState) → EndsFileAttempt (walks asked was for_it from (before_last list.names)
       (creates_in asked was list name)) (walk_and asked.user for_it from.number (before_last list.names)
       (new_file_calls asked name) (volume_at was from.drive)) m was now p end processes new before after terms
-      → Ends (creates_along asked was list from) (creating_calls asked was (along from list.names)) m was now p end
+      → EndsFileAttempt (creates_along asked was list from) (creating_calls asked was (along from list.names)) m was now p end
       processes new before after terms
   along-named end processes new before after terms it =
       subst
-      (λ (o : Option (List ℕ)). Ends (needs o E_BPNAM (λ name. walks asked was for_it from (before_last list.names) (creates_in asked was list name)))
+      (λ (o : Option (List ℕ)). EndsFileAttempt (needs o E_BPNAM (λ name. walks asked was for_it from (before_last list.names) (creates_in asked was list name)))
       (option_map_or (λ name. walk_and asked.user for_it from.number (before_last list.names) (new_file_calls asked name) (volume_at was from.drive)) o 0)
       m was now p end processes new before after terms)
       (sym last) it

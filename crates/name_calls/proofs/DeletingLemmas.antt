@@ -32,9 +32,9 @@ use Rattle.file_drives.specs.Mounted.{OnDisks, ReadsFile}
 use Rattle.file_state.proofs.EndLemmas.{WritesNothing, asked_of}
 use Rattle.file_state.proofs.CountLemmas.{called-more, called-then}
 use Rattle.file_state.specs.Counted.{CalledAtMost}
-use Rattle.file_state.specs.Reached.{HasRead}
+use Rattle.file_state.specs.Reached.{HasReadDrive}
 use Rattle.file_state.proofs.ReachedLemmas.{HasChanged}
-use Rattle.file_state.specs.Tie.{StandsFor}
+use Rattle.file_state.specs.Tie.{RepresentsFiles}
 use Rattle.file_state.specs.declared.state.FileState.{FileState}
 use Rattle.file_routes.specs.Routes.{next_step}
 use Rattle.file_routes.specs.declared.route.Purpose.TheVariants.{Existing}
@@ -42,9 +42,9 @@ use Rattle.name_calls.proofs.AgainLemmas as again
 use Rattle.name_calls.proofs.LookLemmas.{found-calls, found-read}
 use Rattle.name_calls.proofs.TryLemmas.{refuses-quiet, tries-broken, tries-broken-change, tries-changed, tries-refused}
 use Rattle.name_calls.specs.Delete.{deletes_it, deletes_it_calls}
-use Rattle.name_calls.specs.Looks.{HasFound}
-use Rattle.name_calls.specs.Naming.{IsNamed, NamedBy}
-use Rattle.name_calls.specs.Tries.{Tries}
+use Rattle.name_calls.specs.Looks.{HasFoundInSearch}
+use Rattle.name_calls.specs.Naming.{IsNameLocated, NamedBy}
+use Rattle.name_calls.specs.Tries.{TriesNameCall}
 use Rattle.name_calls.specs.declared.naming.LastLocated.{LastLocated}
 
 -- ---- in the order of the call
@@ -140,7 +140,7 @@ module _ (asker : Asker) (files : Files) (execute : Bool) (it : NamedBy) where
 
 module _ (user : ℕ) (execute : Bool) (located : LastLocated) (look : Step NamedBy) (seen : ℕ) (asker : Asker)
     (files : Files) (old new : FileState) (before between now : List DriveView) (who : asker.user ≡ user)
-    (loc : HasFound (IsNamed Existing look files) look seen located files old before between)
+    (loc : HasFoundInSearch (IsNameLocated Existing look files) look seen located files old before between)
     (called : CalledAtMost (deletes_it_calls seen asker execute loc.it) before now) where
   abbrev it : NamedBy
   it = loc.it
@@ -172,9 +172,9 @@ module _ (user : ℕ) (execute : Bool) (located : LastLocated) (look : Step Name
   abbrev most : ℕ
   most = deletes_it_calls seen asker execute it
 
-  refused-by : (number : ℕ) → HasRead None located.last.directory.drive files new before now
+  refused-by : (number : ℕ) → HasReadDrive None located.last.directory.drive files new before now
       → deed_of (deletes_it asker files execute it) files ≡ leaves_so (refuses_so number files)
-      → Tries step most asker files (Err number) new before now
+      → TriesNameCall step most asker files (Err number) new before now
   refused-by number read deed = tries-refused look (deletes_it asker files execute) most asker files it loc.answer new before now called located.last.directory.drive at number read deed
 
   -- the name is looked for
@@ -185,8 +185,8 @@ module _ (user : ℕ) (execute : Bool) (located : LastLocated) (look : Step Name
       (subst (λ (name : List ℕ). AnswersWalk (deletion_end v.files dir name user execute) result) (sym loc.is.name_is) fact)
 
   pub no-entry : (error : DirError) → AnswersWalk (deletion_end v.files dir it.name asker.user execute) (Err error)
-      → HasRead (directory_fault {A = Deletable} (Err error)) located.last.directory.drive files new before now
-      → Tries step most asker files (Err (directory_error error)) new before now
+      → HasReadDrive (directory_fault {A = Deletable} (Err error)) located.last.directory.drive files new before now
+      → TriesNameCall step most asker files (Err (directory_error error)) new before now
   no-entry NotAllowed fact read =
       refused-by E_FNA read (forbidden-deed (is_wanted asker files execute it) (deleted asker files execute it) files may named (by-end asker files execute it not_allowed fact))
   no-entry BadPath fact read = absurd fact
@@ -212,7 +212,7 @@ module _ (user : ℕ) (execute : Bool) (located : LastLocated) (look : Step Name
         (ap (λ (at : FilePlace). is_open files (record { drive = at.drive; number = n })) loc.is.place_is ∙ sym shared_is)
 
     -- a path is on it
-    pub is-shared : shared ≡ true → HasRead None located.last.directory.drive files new before now → Tries step most asker files (Err E_SHARE) new before now
+    pub is-shared : shared ≡ true → HasReadDrive None located.last.directory.drive files new before now → TriesNameCall step most asker files (Err E_SHARE) new before now
     is-shared is read = refused-by E_SHARE read (deed ∙ ap (λ (b : Bool). deed_of (refuses b E_SHARE (comes (changes (deletion asker files execute it n)))) files) is)
 
     -- no path is
@@ -234,7 +234,7 @@ module _ (user : ℕ) (execute : Bool) (located : LastLocated) (look : Step Name
       as-asked : (answer : Result ℕ DirError) → HasChanged asked answer located.last.directory.drive v dir files new before now → HasChanged asked answer change.drive v dir files new before now
       as-asked answer changed = subst (λ (drive : ℕ). HasChanged asked answer drive v dir files new before now) (ap (λ (at : FilePlace). at.drive) (sym loc.is.place_is)) changed
 
-      pub is-deleted : HasChanged asked (Ok 0) located.last.directory.drive v dir files new before now → Tries step most asker files (Ok located.next) new before now
+      pub is-deleted : HasChanged asked (Ok 0) located.last.directory.drive v dir files new before now → TriesNameCall step most asker files (Ok located.next) new before now
       is-deleted changed =
           tries-changed look (deletes_it asker files execute) most asker files it loc.answer new before now called
           change v dir loc.is.reached loc.is.there.volume_is loc.is.there.file_is changing 0 located.next
@@ -242,7 +242,7 @@ module _ (user : ℕ) (execute : Bool) (located : LastLocated) (look : Step Name
           (as-asked (Ok 0) changed)
 
       pub not-deleted : (fault : FileFault) → HasChanged asked (file_answer (Err fault)) located.last.directory.drive v dir
-          files new before now → Tries step most asker files (Err (file_error fault)) new before now
+          files new before now → TriesNameCall step most asker files (Err (file_error fault)) new before now
       not-deleted (Device number) changed =
           tries-broken-change look (deletes_it asker files execute) most asker files it loc.answer new before now
           called change v dir loc.is.reached loc.is.there.volume_is loc.is.there.file_is changing number
@@ -261,7 +261,7 @@ module _ (user : ℕ) (execute : Bool) (located : LastLocated) (look : Step Name
 
 module _ (user : ℕ) (execute : Bool) (located : LastLocated) (look : Step NamedBy) (seen : ℕ) (asker : Asker)
     (files : Files) (old mid : FileState) (before between views : List DriveView) (who : asker.user ≡ user)
-    (loc : HasFound (IsNamed Existing look files) look seen located files old before between)
+    (loc : HasFoundInSearch (IsNameLocated Existing look files) look seen located files old before between)
     (found : Result Deletable DirError) (io : mid.io ≡ old.io) (directories : mid.directories ≡ old.directories)
     (records : mid.records ≡ old.records) (answer : OnDisks old.disks between located.last.directory
     (λ v file. AnswersWalk (deletion_end v.files file located.last.name user execute) (descriptor_found found)))
@@ -285,9 +285,9 @@ module _ (user : ℕ) (execute : Bool) (located : LastLocated) (look : Step Name
   file-there : volume.files located.last.directory.number ≡ Some folder
   file-there = ap (λ (at : FilePlace). volume.files at.number) (sym loc.is.place_is) ∙ loc.is.there.file_is
 
-  searched : HasRead None located.last.directory.drive files old before between
+  searched : HasReadDrive None located.last.directory.drive files old before between
   searched =
-      found-read (IsNamed Existing look files) look seen files located old before between loc located.last.directory.drive
+      found-read (IsNameLocated Existing look files) look seen files located old before between loc located.last.directory.drive
       (loc.is.reached ∙ ap (λ (place : FilePlace). Some place.drive) loc.is.place_is)
 
   -- the calls for the search and for the entry
@@ -299,7 +299,7 @@ module _ (user : ℕ) (execute : Bool) (located : LastLocated) (look : Step Name
   entry-calls : CalledAtMost (seen + deletion_calls folder located.last.name user execute) before views
   entry-calls =
       called-then seen (deletion_calls folder located.last.name user execute) before between views
-      (found-calls (IsNamed Existing look files) look seen files located old before between loc)
+      (found-calls (IsNameLocated Existing look files) look seen files located old before between loc)
       (again.read-calls files located.last.directory volume folder volume-there file-there old mid before between views
       searched (directory_fault found) (λ v file. deletion_calls file located.last.name user execute) reads)
 
@@ -311,22 +311,22 @@ module _ (user : ℕ) (execute : Bool) (located : LastLocated) (look : Step Name
       searched (λ v file. AnswersWalk (deletion_end v.files file located.last.name user execute) (descriptor_found found))
       answer
 
-  was-read : HasRead (directory_fault found) located.last.directory.drive files mid before views
+  was-read : HasReadDrive (directory_fault found) located.last.directory.drive files mid before views
   was-read = again.read-again files located.last.directory volume folder volume-there file-there old mid before between views
       searched (directory_fault found) (λ v file. deletion_calls file located.last.name user execute) io directories records
       reads
 
   -- no entry was found
-  pub entry-refused : (error : DirError) (number : ℕ) → found ≡ Err error → number ≡ directory_error error → Tries way bound asker files (Err number) mid before views
+  pub entry-refused : (error : DirError) (number : ℕ) → found ≡ Err error → number ≡ directory_error error → TriesNameCall way bound asker files (Err number) mid before views
   entry-refused error number is number_is =
-      subst (λ (n : ℕ). Tries way bound asker files (Err n) mid before views) (sym number_is)
+      subst (λ (n : ℕ). TriesNameCall way bound asker files (Err n) mid before views) (sym number_is)
       (no-entry user execute located look seen asker files old mid before between views who loc called error
       (entry-answers user execute located look seen asker files old mid before between views who loc called (Err error)
       (subst (λ (r : Result Deletable DirError). AnswersWalk (deletion_end volume.files folder located.last.name user
       execute) (descriptor_found r)) is fact))
-      (subst (λ (r : Result Deletable DirError). HasRead (directory_fault r) located.last.directory.drive files mid before views) is was-read))
+      (subst (λ (r : Result Deletable DirError). HasReadDrive (directory_fault r) located.last.directory.drive files mid before views) is was-read))
 
-  module _ (entry : Deletable) (is : found ≡ Ok entry) (shared : Bool) (shared_so : (f : Files) → StandsFor mid views
+  module _ (entry : Deletable) (is : found ≡ Ok entry) (shared : Bool) (shared_so : (f : Files) → RepresentsFiles mid views
       f → shared ≡ is_open f (record { drive = located.last.directory.drive; number = entry.descriptor })) where
     shared_is : shared ≡ is_open files (record { drive = located.last.directory.drive; number = entry.descriptor })
     shared_is = shared_so (with_drives files (drive_states views)) was-read.stands
@@ -336,10 +336,10 @@ module _ (user : ℕ) (execute : Bool) (located : LastLocated) (look : Step Name
         (Ok entry.descriptor) (subst (λ (r : Result Deletable DirError). AnswersWalk (deletion_end volume.files folder
         located.last.name user execute) (descriptor_found r)) is fact)
 
-    read : HasRead None located.last.directory.drive files mid before views
-    read = subst (λ (r : Result Deletable DirError). HasRead (directory_fault r) located.last.directory.drive files mid before views) is was-read
+    read : HasReadDrive None located.last.directory.drive files mid before views
+    read = subst (λ (r : Result Deletable DirError). HasReadDrive (directory_fault r) located.last.directory.drive files mid before views) is was-read
 
-    pub file-shared : shared ≡ true → Tries way bound asker files (Err E_SHARE) mid before views
+    pub file-shared : shared ≡ true → TriesNameCall way bound asker files (Err E_SHARE) mid before views
     file-shared taken = is-shared user execute located look seen asker files old mid before between views who loc called entry.descriptor ends shared shared_is taken read
 
     module _ (quiet : shared ≡ false) (new : FileState) (now : List DriveView) (new_io : new.io ≡ mid.io)
@@ -380,13 +380,13 @@ module _ (user : ℕ) (execute : Bool) (located : LastLocated) (look : Step Name
           wanted (file_answer result) (drives.deleting_calls entry.descriptor) freeing (λ left. omega arith)
           deleting-it))
 
-      pub file-deleted : result ≡ Ok tt → Tries way bound asker files (Ok located.next) new before now
+      pub file-deleted : result ≡ Ok tt → TriesNameCall way bound asker files (Ok located.next) new before now
       file-deleted done =
           is-deleted user execute located look seen asker files old new before between now who loc all-called entry.descriptor ends shared shared_is quiet
           (subst (λ (r : Result (Unit {0}) FileFault). HasChanged wanted (file_answer r) located.last.directory.drive volume folder files new before now) done changed)
 
-      pub file-kept : (fault : FileFault) (number : ℕ) → result ≡ Err fault → number ≡ file_error fault → Tries way bound asker files (Err number) new before now
+      pub file-kept : (fault : FileFault) (number : ℕ) → result ≡ Err fault → number ≡ file_error fault → TriesNameCall way bound asker files (Err number) new before now
       file-kept fault number failed number_is =
-          subst (λ (n : ℕ). Tries way bound asker files (Err n) new before now) (sym number_is)
+          subst (λ (n : ℕ). TriesNameCall way bound asker files (Err n) new before now) (sym number_is)
           (not-deleted user execute located look seen asker files old new before between now who loc all-called entry.descriptor ends shared shared_is quiet fault
           (subst (λ (r : Result (Unit {0}) FileFault). HasChanged wanted (file_answer r) located.last.directory.drive volume folder files new before now) failed changed))

@@ -15,7 +15,7 @@ use Rattle.file_drives.specs.Drives.{DriveView}
 use Rattle.file_drives.specs.Mounted.{OnDisks, ReadsFile}
 use Rattle.file_state.proofs.CountLemmas.{called-more, called-then}
 use Rattle.file_state.specs.Counted.{CalledAtMost, calls_of}
-use Rattle.file_state.specs.Reached.{HasRead}
+use Rattle.file_state.specs.Reached.{HasReadDrive}
 use Rattle.file_state.specs.declared.state.FileState.{FileState}
 use Rattle.file_routes.specs.Routes.{next_step}
 use Rattle.name_calls.proofs.AgainLemmas as again
@@ -23,7 +23,7 @@ use Rattle.name_calls.proofs.ListCallLemmas.{calls-more, calls-next, calls-reach
 use Rattle.name_calls.proofs.LookLemmas.{answer-on, answer-refused, drive-on, found-calls, found-read, reaches-next}
 use Rattle.name_calls.specs.ChgDir.{allows_to_go}
 use Rattle.name_calls.specs.Locating.{FoundBy, IsLocated, Locates}
-use Rattle.name_calls.specs.Looks.{AnswersBy, HasFound, Looks, answer_of}
+use Rattle.name_calls.specs.Looks.{AnswersBy, HasFoundInSearch, Looks, answer_of}
 use Rattle.file_routes.specs.declared.route.Located.{Located}
 
 -- what was not located
@@ -65,7 +65,7 @@ unfound look next few most number files new before now more it = by it.answer it
 -- ---- its descriptor was read
 
 module _ (look : Step FoundBy) (seen : ℕ) (files : Files) (located : Located) (mid new : FileState)
-    (before views now : List DriveView) (loc : HasFound (IsLocated look files) look seen located files mid before
+    (before views now : List DriveView) (loc : HasFoundInSearch (IsLocated look files) look seen located files mid before
     views) (io : new.io ≡ mid.io) (directories : new.directories ≡ mid.directories)
     (records : new.records ≡ mid.records) where
   volume-is : volume_at files located.place.drive ≡ Some loc.it.found.volume
@@ -77,7 +77,7 @@ module _ (look : Step FoundBy) (seen : ℕ) (files : Files) (located : Located) 
   drive-is : drive_of look ≡ Some located.place.drive
   drive-is = loc.is.reached ∙ ap (λ (at : FilePlace). Some at.drive) loc.is.place_is
 
-  was-read : HasRead None located.place.drive files mid before views
+  was-read : HasReadDrive None located.place.drive files mid before views
   was-read = found-read (IsLocated look files) look seen files located mid before views loc located.place.drive drive-is
 
   -- what was read is of that file
@@ -89,7 +89,7 @@ module _ (look : Step FoundBy) (seen : ℕ) (files : Files) (located : Located) 
     reached-on = drive-on look next located.place.drive drive-is
 
     module _ (fault : Option ℕ) (reads : ReadsFile located.place fault (λ v file. 1) mid.disks views new.disks now) where
-      read-again : HasRead fault located.place.drive files new before now
+      read-again : HasReadDrive fault located.place.drive files new before now
       read-again = again.read-again files located.place loc.it.found.volume loc.it.found.file volume-is file-is mid new before views now was-read fault (λ v file. 1) io directories records reads
 
       called : CalledAtMost (calls_of (next_step look next) most) before now
@@ -159,14 +159,14 @@ module _ (look : Step FoundBy) (seen : ℕ) (files : Files) (located : Located) 
 
 -- what was read is of the file that was found
 pub of-found : (look : Step FoundBy) (seen : ℕ) (files : Files) (located : Located) (mid : FileState)
-    (before views : List DriveView) (loc : HasFound (IsLocated look files) look seen located files mid before views)
+    (before views : List DriveView) (loc : HasFoundInSearch (IsLocated look files) look seen located files mid before views)
     (fact : DiskVolume → DiskFile → Type 0) → OnDisks mid.disks views located.place fact → fact loc.it.found.volume
     loc.it.found.file
 of-found look seen files located mid before views loc = of-this look seen files located mid mid before views views loc refl refl refl
 
 -- what the test of a directory says of it
 module _ (look : Step FoundBy) (seen : ℕ) (files : Files) (located : Located) (mid new : FileState)
-    (before views now : List DriveView) (loc : HasFound (IsLocated look files) look seen located files mid before
+    (before views now : List DriveView) (loc : HasFoundInSearch (IsLocated look files) look seen located files mid before
     views) (io : new.io ≡ mid.io) (directories : new.directories ≡ mid.directories)
     (records : new.records ≡ mid.records) (asker : Asker) (most : ℕ) (enough : seen + 1 ≤ most)
     (reads : ReadsFile located.place None (λ v file. 1) mid.disks views new.disks now) where

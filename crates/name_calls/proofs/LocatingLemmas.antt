@@ -16,11 +16,11 @@ use Rattle.file_drives.specs.Drives.{DriveView}
 use Rattle.file_drives.specs.Mounted.{ArrivesOn, HasFileAt}
 use Rattle.device_paths.specs.Standing.{NamesFrom}
 use Rattle.rbf_access.specs.declared.volume.Volume.{Volume}
-use Rattle.file_state.specs.Tie.{StandsFor}
+use Rattle.file_state.specs.Tie.{RepresentsFiles}
 use Rattle.file_state.specs.declared.state.FileState.{FileState}
 use Rattle.file_routes.proofs.RouteLemmas.{leads-on}
-use Rattle.file_routes.specs.Walks.{SomeFrom, Walks}
-use Rattle.file_routes.specs.Routes.{HasNames, IsRoute, Led, NamesOn, StartsOn, led_by, leads, next_step, refuses_by, route_on}
+use Rattle.file_routes.specs.Walks.{SomeFrom, WalksAlongNames}
+use Rattle.file_routes.specs.Routes.{HasCourseNames, IsRoute, Led, NamesOn, StartsAtFile, led_by, leads, next_step, refuses_by, route_on}
 use Rattle.file_routes.specs.declared.route.Route.{Route}
 use Rattle.file_routes.specs.declared.route.Course.{Course}
 use Rattle.file_routes.specs.declared.route.Course.TheVariants.{Along, Device}
@@ -71,14 +71,14 @@ module _ (asker : Asker) (files : Files) (terms : ℕ) (execute : Bool) (refusal
 
 module _ (asker : Asker) (walker : Walker) (files : Files) (list : PathList) (from : FilePlace)
     (state new : FileState) (views now : List DriveView) (user : asker.user ≡ walker.by.user)
-    (stands : StandsFor state views files) (has : HasFileAt state.disks views from) (io : new.io ≡ state.io)
+    (stands : RepresentsFiles state views files) (has : HasFileAt state.disks views from) (io : new.io ≡ state.io)
     (directories : new.directories ≡ state.directories) (records : new.records ≡ state.records) (most : ℕ)
     (enough : (v : DiskVolume) → volume_at files from.drive ≡ Some v → walk_calls v.files walker.by.user walker.by.execute
     from.number list.names ≤ most) where
   abbrev step : Step FoundBy
   step = walks asker files walker.by.execute from list.names (λ found. comes (found_by list found))
 
-  pub walk-located : (arrived : Result FilePlace DirError) (next : ℕ) → next ≡ list.next → Walks walker from
+  pub walk-located : (arrived : Result FilePlace DirError) (next : ℕ) → next ≡ list.next → WalksAlongNames walker from
       list.names arrived state.disks views new.disks now → Locates step most (located_by arrived next) files new views
       now
   walk-located (Ok place) next next_is it =
@@ -97,11 +97,11 @@ module _ (asker : Asker) (walker : Walker) (files : Files) (list : PathList) (fr
 
 -- a file is there where a course along names starts, and it has some names or none
 pub starts-along : (disks : List (Option Volume)) (views : List DriveView) (course : Course) (start : WalkStart)
-    → course ≡ Along start → StartsOn disks views course → HasFileAt disks views start.directory
-starts-along disks views course start is starts = subst (λ (course : Course). StartsOn disks views course) is starts
+    → course ≡ Along start → StartsAtFile disks views course → HasFileAt disks views start.directory
+starts-along disks views course start is starts = subst (λ (course : Course). StartsAtFile disks views course) is starts
 
-pub has-along : (cells : Cells) (course : Course) (start : WalkStart) → course ≡ Along start → HasNames cells course → SomeFrom cells start.first
-has-along cells course start is has = subst (λ (course : Course). HasNames cells course) is has
+pub has-along : (cells : Cells) (course : Course) (start : WalkStart) → course ≡ Along start → HasCourseNames cells course → SomeFrom cells start.first
+has-along cells course start is has = subst (λ (course : Course). HasCourseNames cells course) is has
 
 module _ (asker : Asker) (files : Files) (terms : ℕ) (execute : Bool) (refusal : Option ℕ) (cells : Cells)
     (route : Route) (it : IsRoute cells asker (leads asker refusal (route_of asker files terms execute)) route) where
@@ -140,10 +140,10 @@ module _ (asker : Asker) (files : Files) (terms : ℕ) (execute : Bool) (refusal
     names-along = subst (λ (course : Course). NamesOn cells course it.list.names) is it.route_is.names
 
     pub along-located : (walker : Walker) (state new : FileState) (views now : List DriveView)
-        → walker.by.execute ≡ execute → asker.user ≡ walker.by.user → StandsFor state views files → HasFileAt state.disks
+        → walker.by.execute ≡ execute → asker.user ≡ walker.by.user → RepresentsFiles state views files → HasFileAt state.disks
         views start.directory → new.io ≡ state.io → new.directories ≡ state.directories → new.records ≡ state.records
         → (arrived : Result FilePlace DirError) (result : Result Located ℕ) → result ≡ located_by arrived route.next
-        → Walks walker start.directory it.list.names arrived state.disks views new.disks now
+        → WalksAlongNames walker start.directory it.list.names arrived state.disks views new.disks now
         → Locates (locates execute refusal asker files terms) (located_calls execute (λ v file. 0) asker files terms)
         result files new views now
     along-located walker state new views now searches user stands has io directories records arrived result result_is walk =

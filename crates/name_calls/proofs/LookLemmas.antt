@@ -13,23 +13,23 @@ use Rattle.file_state.proofs.CountLemmas.{called-more}
 use Rattle.file_state.proofs.KeepLemmas.{ReachesAtMost}
 use Rattle.file_state.proofs.ReachedLemmas.{read-at, read-none}
 use Rattle.file_state.specs.Counted.{CalledAtMost, calls_of}
-use Rattle.file_state.specs.Reached.{HasRead}
-use Rattle.file_state.specs.Tie.{StandsFor}
+use Rattle.file_state.specs.Reached.{HasReadDrive}
+use Rattle.file_state.specs.Tie.{RepresentsFiles}
 use Rattle.file_state.specs.declared.state.FileState.{FileState}
 use Rattle.file_routes.specs.Routes.{next_step}
 use Rattle.name_calls.proofs.ListCallLemmas.{called-nothing, calls-few}
-use Rattle.name_calls.specs.Looks.{AnswersBy, HasFound, Looks, LooksFor, answer_of}
+use Rattle.name_calls.specs.Looks.{AnswersBy, HasFoundInSearch, Looks, SearchHasResult, answer_of}
 
 -- an answer for which no drive was called
 pub looks-none : {A : Type 0} (step : Step A) (answer : Result A ℕ) (files : Files) (state : FileState)
-    (views : List DriveView) → StandsFor state views files → answer ≡ answer_of step → Looks step answer files state
+    (views : List DriveView) → RepresentsFiles state views files → answer ≡ answer_of step → Looks step answer files state
     views views
 looks-none step answer files state views stands is = inl (record { is = is; drive = 0; reached = inr refl; read = read-none 0 state views files stands })
 
 -- a refusal that reaches no drive
 pub refused-there : {A R : Type 0} (fact : A → R → Type 0) (step : Step A) (most number : ℕ) (files : Files)
-    (state : FileState) (views : List DriveView) → StandsFor state views files → step ≡ refused number
-    → LooksFor fact step most (Err number) files state views views
+    (state : FileState) (views : List DriveView) → RepresentsFiles state views files → step ≡ refused number
+    → SearchHasResult fact step most (Err number) files state views views
 refused-there fact step most number files state views stands is = record {
   answer = Err number;
   is = refl;
@@ -81,19 +81,19 @@ reaches-next step next drive before now reached =
 module _ {A R : Type 0} (fact : A → R → Type 0) (look : Step A) (most : ℕ) (files : Files) (thing : R) (mid : FileState) (before views : List DriveView) where
   found-answer : files.drives ≡ drive_states before → CalledAtMost (calls_of look most) before views
       → (answer : Result A ℕ) → AnswersBy fact answer (Ok thing) → Looks look answer files mid before views
-      → HasFound fact look most thing files mid before views
+      → HasFoundInSearch fact look most thing files mid before views
   found-answer drives calls (Err number) is looks = absurd is
   found-answer drives calls (Ok it) is looks = elim looks [
     | inl well ↦ record { it = it; is = is; answer = sym well.is; drive = well.drive; reached = well.reached; read = well.read; drives_are = drives; calls = calls }
     | inr broken ↦ let no = broken.answer_is in cc
   ]
 
-  pub found : LooksFor fact look most (Ok thing) files mid before views → HasFound fact look most thing files mid before views
+  pub found : SearchHasResult fact look most (Ok thing) files mid before views → HasFoundInSearch fact look most thing files mid before views
   found it = found-answer it.drives_are it.calls it.answer it.is it.looks
 
-  module _ (loc : HasFound fact look most thing files mid before views) where
+  module _ (loc : HasFoundInSearch fact look most thing files mid before views) where
     -- the drive that was reached was read
-    pub found-read : (drive : ℕ) → drive_of look ≡ Some drive → HasRead None drive files mid before views
+    pub found-read : (drive : ℕ) → drive_of look ≡ Some drive → HasReadDrive None drive files mid before views
     found-read drive at =
         read-at loc.drive drive files mid before views
         (⊎_elim (λ is. inl (let same : Some loc.drive ≡ Some drive = sym is ∙ at in cc)) (λ same. inr same) loc.reached)

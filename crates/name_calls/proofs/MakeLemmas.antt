@@ -14,7 +14,7 @@ use Rattle.io_model.specs.Io.{new_desc}
 use Rattle.io_model.specs.Open.{opened_regs}
 use Rattle.io_model.specs.PathList.{PathList}
 use Rattle.io_model.specs.Step.{answers}
-use Rattle.proc_state.specs.Tie.{Comes}
+use Rattle.proc_state.specs.Tie.{ReturnsCallEnd}
 use Rattle.proc_state.specs.declared.state.ProcState.{ProcState}
 use Rattle.rbf_model.specs.File.{DiskFile}
 use Rattle.rbf_model.specs.Volume.{DiskVolume}
@@ -35,16 +35,16 @@ use Rattle.file_rules.specs.Open.{is_for_execution, says_directory}
 use Rattle.file_rules.specs.Step.{FileDoes, FileEffect, FileStep, MayBeLeft, VolumeChange, changes, deed_of, leaves, leaves_so, reaches, refuses_so}
 use Rattle.file_rules.specs.Route.{Found, last_of, IsFoundAt}
 use Rattle.lock_model.specs.declared.place.FilePlace.{FilePlace}
-use Rattle.file_drives.specs.Changed.{Asked, ChangesVolume, IsRefused, has_no_segment, is_full_for, is_refused}
+use Rattle.file_drives.specs.Changed.{Asked, ChangesVolume, IsRefusedChange, has_no_segment, is_full_for, is_refused}
 use Rattle.file_drives.specs.Drives.{DriveView, drive_states}
 use Rattle.file_state.proofs.EndLemmas.{asked_of, breaks, goes-well, is-made}
 use Rattle.file_state.proofs.CountLemmas.{called-more, called-then, has-changed-in}
 use Rattle.file_state.proofs.KeepLemmas.{error-keeps, keeps-broken, keeps-made, keeps-refused}
 use Rattle.file_state.proofs.ReachedLemmas as reached
 use Rattle.file_state.specs.Counted.{CalledAtMost}
-use Rattle.file_state.specs.Ends.{Ends}
+use Rattle.file_state.specs.Ends.{EndsFileAttempt}
 use Rattle.file_state.specs.Media.{KeepsDrives}
-use Rattle.file_state.specs.Reached.{HasRead}
+use Rattle.file_state.specs.Reached.{HasReadDrive}
 use Rattle.file_state.proofs.ReachedLemmas.{HasChanged}
 use Rattle.file_state.specs.declared.state.FileState.{FileState}
 use Rattle.name_calls.proofs.BeginLemmas.{begins-numbered}
@@ -72,7 +72,7 @@ module _ (m : Processes) (was : Files) (now : TimePacket) (p : ℕ) (terms : Lis
   -- it was refused, or the drive failed
   pub place-refused : (new : FileState) (before after : List DriveView) → says_directory (regs_at m p).b ≡ false
       → is_dots name ≡ false → (error : DirError) → AnswersPlace dir.file name (user_at m p)
-      (is_for_execution (regs_at m p).a) (Err error) → HasRead (directory_fault {A = NewPlace} (Err error))
+      (is_for_execution (regs_at m p).a) (Err error) → HasReadDrive (directory_fault {A = NewPlace} (Err error))
       place.drive was new before after → FileDoes creating asker was (refuses_so (directory_error error)
       (with_drives was (drive_states after))) terms terms
   place-refused new before after says proper NotAllowed answer read =
@@ -116,7 +116,7 @@ module _ (m : Processes) (was : Files) (now : TimePacket) (p : ℕ) (terms : Lis
 
     -- what was answered, of the directory that was found
     pub change-answered : (mid : FileState) (views : List DriveView) (answer : Result ℕ DirError) (attr user : ℕ)
-        (most : DiskVolume → DiskFile → DiskVolume → ℕ) → HasRead None place.drive was mid before views
+        (most : DiskVolume → DiskFile → DiskVolume → ℕ) → HasReadDrive None place.drive was mid before views
         → new.io ≡ mid.io → new.directories ≡ mid.directories → new.records ≡ mid.records → attr ≡ (regs_at m p).b
         → user ≡ user_at m p → ChangesVolume place (asked_at place attr user) answer most mid.disks views new.disks
         after → Changed answer
@@ -189,7 +189,7 @@ module _ (m : Processes) (was : Files) (now : TimePacket) (p : ℕ) (terms : Lis
     changes-it enough list_free =
         room _ (makes-numbered asker was list name dir number numbered) ∙ room-made asker was list name dir number full none enough list_free
 
-    stays-refused : (fault : FileFault) → Changed (Err (File fault)) → IsRefused (Err (File fault)) ⊎
+    stays-refused : (fault : FileFault) → Changed (Err (File fault)) → IsRefusedChange (Err (File fault)) ⊎
         (is_refused (asked_of it asker) dir.volume dir.file ≡ true) → KeepsDrives making asker was
         (Error (file_error fault)) before after
     stays-refused fault changed quiet =
@@ -211,7 +211,7 @@ module _ (m : Processes) (was : Files) (now : TimePacket) (p : ℕ) (terms : Lis
     -- it was made, and a path begins on it
     pub make-ends : (n : ℕ) (changed : Changed (Ok n)) (end : CallEnd) (processes : ProcState) (state : FileState)
         (most : ℕ) → CalledAtMost most before after → EndsQuietly (begins asker (left (Ok n) changed) list
-        (FileTarget place.drive n)) m (left (Ok n) changed) p end processes state after → Ends making most m was now p
+        (FileTarget place.drive n)) m (left (Ok n) changed) p end processes state after → EndsFileAttempt making most m was now p
         end processes state before after terms
     make-ends n changed end processes state most calls ended =
         let files : Files = left (Ok n) changed in
@@ -226,7 +226,7 @@ module _ (m : Processes) (was : Files) (now : TimePacket) (p : ℕ) (terms : Lis
         let effect_is : ended.effect ≡ leaves (answers (opened_regs (regs_at m p) list number))
         (with_path_table files (paths_after_begin was.io.paths p (new_desc (FileTarget place.drive n)
         (regs_at m p).a))) = cc in
-        let is_done : end ≡ Done = (subst (λ (effect : FileEffect). Comes m p (result_of m p (io_effect effect)) end processes) effect_is ended.comes).0 in
+        let is_done : end ≡ Done = (subst (λ (effect : FileEffect). ReturnsCallEnd m p (result_of m p (io_effect effect)) end processes) effect_is ended.comes).0 in
         let on_drive = ap (λ (at : FilePlace). leaves (answers (opened_regs (regs_at m p) list number))
         (with_path_table files (paths_after_begin was.io.paths p (new_desc (FileTarget at.drive n)
         (regs_at m p).a)))) found.place_is in
@@ -271,9 +271,9 @@ module _ (m : Processes) (now : TimePacket) (p : ℕ) (v : DiskVolume) (file : D
     dir = record { place = place; volume = v; file = file }
 
     pub place-made : (most : ℕ) (end : CallEnd) (processes : ProcState) (left : FileState) (before later : List DriveView)
-        (terms : List TerminalState) → Ends (makes_there (asker_of m p now) was list name dir)
+        (terms : List TerminalState) → EndsFileAttempt (makes_there (asker_of m p now) was list name dir)
         ((most + place_calls file name user execute) + calls_at_place v file) m was now p end processes left before later
-        terms → Ends (creates_there (asker_of m p now) was list name dir)
+        terms → EndsFileAttempt (creates_there (asker_of m p now) was list name dir)
         (most + new_file_calls (asker_of m p now) name v file) m was now p end processes left before later terms
     place-made most end processes left before later terms made =
         let is = answered-to m p file name user execute (Ok at) user_is execute_is answer in

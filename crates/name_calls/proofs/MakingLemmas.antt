@@ -8,7 +8,7 @@ use Rattle.rbf_model.specs.Volume.{DiskVolume}
 use Rattle.rbf_model.specs.Walk.{look_up}
 use Rattle.rbf_change.specs.Calls.{cluster_size, free_total}
 use Rattle.rbf_change.specs.Names.{is_dots, may_change}
-use Rattle.rbf_change.specs.NewFiles.{Refusal, bad_path, entry_clusters, file_clusters, exists, no_cluster, not_allowed, too_many_runs}
+use Rattle.rbf_change.specs.NewFiles.{NewEntryRefusal, bad_path, entry_clusters, file_clusters, exists, no_cluster, not_allowed, too_many_runs}
 use Rattle.rbf_access.specs.Faults.{file_error}
 use Rattle.rbf_access.specs.declared.faults.FileFault.{FileFault}
 use Rattle.rbf_access.specs.declared.faults.FileFault.TheVariants.{Device, NoCluster, TooManyRuns}
@@ -32,7 +32,7 @@ use Rattle.file_drives.specs.Mounted.{OnDisks, ReadsFile}
 use Rattle.file_state.proofs.EndLemmas.{WritesNothing, asked_of}
 use Rattle.file_state.proofs.CountLemmas.{called-more, called-then}
 use Rattle.file_state.specs.Counted.{CalledAtMost}
-use Rattle.file_state.specs.Reached.{HasRead}
+use Rattle.file_state.specs.Reached.{HasReadDrive}
 use Rattle.file_state.proofs.ReachedLemmas.{HasChanged}
 use Rattle.file_state.specs.declared.state.FileState.{FileState}
 use Rattle.file_routes.specs.Routes.{next_step}
@@ -43,15 +43,15 @@ use Rattle.name_calls.proofs.AgainLemmas.{unchanged}
 use Rattle.name_calls.proofs.ListCallLemmas.{making-within}
 use Rattle.name_calls.proofs.LookLemmas.{found-calls, found-read}
 use Rattle.name_calls.proofs.TryLemmas.{refuses-quiet, tries-broken, tries-broken-change, tries-changed, tries-refused}
-use Rattle.name_calls.specs.Looks.{HasFound}
+use Rattle.name_calls.specs.Looks.{HasFoundInSearch}
 use Rattle.name_calls.specs.MakDir.{MakesFor, makes_it, makes_it_calls}
-use Rattle.name_calls.specs.Naming.{IsNamed, NamedBy}
-use Rattle.name_calls.specs.Tries.{Tries}
+use Rattle.name_calls.specs.Naming.{IsNameLocated, NamedBy}
+use Rattle.name_calls.specs.Tries.{TriesNameCall}
 use Rattle.name_calls.specs.declared.naming.LastLocated.{LastLocated}
 
 -- ---- why an entry is refused
 
-abbrev refusal : Bool → Bool → Bool → Bool → Bool → Option Refusal
+abbrev refusal : Bool → Bool → Bool → Bool → Bool → Option NewEntryRefusal
 refusal dots closed there full long =
     if dots then Some bad_path
     else (if closed then Some not_allowed
@@ -132,7 +132,7 @@ makes-quiet asker files it =
 
 module _ (requester : Requester) (user : ℕ) (located : LastLocated) (look : Step NamedBy) (seen : ℕ) (asker : Asker) (files : Files)
     (old new : FileState) (before between now : List DriveView) (who : MakesFor requester user asker)
-    (loc : HasFound (IsNamed New look files) look seen located files old before between)
+    (loc : HasFoundInSearch (IsNameLocated New look files) look seen located files old before between)
     (called : CalledAtMost (makes_it_calls seen asker loc.it) before now) where
   abbrev it : NamedBy
   it = loc.it
@@ -177,12 +177,12 @@ module _ (requester : Requester) (user : ℕ) (located : LastLocated) (look : St
   abbrev most : ℕ
   most = makes_it_calls seen asker it
 
-  refused-by : (number : ℕ) → HasRead None located.last.directory.drive files new before now
+  refused-by : (number : ℕ) → HasReadDrive None located.last.directory.drive files new before now
       → deed_of (ladder closed there full long change) files ≡ leaves_so (refuses_so number files)
-      → Tries step most asker files (Err number) new before now
+      → TriesNameCall step most asker files (Err number) new before now
   refused-by number read deed = tries-refused look (makes_it asker files) most asker files it loc.answer new before now called located.last.directory.drive at number read deed
 
-  broken-by : (number : ℕ) → HasRead (Some number) located.last.directory.drive files new before now → Tries step most asker files (Err number) new before now
+  broken-by : (number : ℕ) → HasReadDrive (Some number) located.last.directory.drive files new before now → TriesNameCall step most asker files (Err number) new before now
   broken-by number read = tries-broken look (makes_it asker files) most asker files it loc.answer new before now
       called located.last.directory.drive at v volume-is number (quiet-deed closed there full long change files tt) read
 
@@ -193,8 +193,8 @@ module _ (requester : Requester) (user : ℕ) (located : LastLocated) (look : St
       (subst (λ (name : List ℕ). AnswersPlace dir name user false result) (sym loc.is.name_is) fact)
 
   pub no-place : (error : DirError) → AnswersPlace dir it.name asker.user false (Err error)
-      → HasRead (directory_fault {A = NewPlace} (Err error)) located.last.directory.drive files new before now
-      → Tries step most asker files (Err (directory_error error)) new before now
+      → HasReadDrive (directory_fault {A = NewPlace} (Err error)) located.last.directory.drive files new before now
+      → TriesNameCall step most asker files (Err (directory_error error)) new before now
   no-place NotAllowed fact read =
       refused-by E_FNA read (closed-deed closed there full long change files
       (is-closed (is_dots it.name) closed there full long (fact (cluster_size v) (free_total v) new_directory_size)))
@@ -241,7 +241,7 @@ module _ (requester : Requester) (user : ℕ) (located : LastLocated) (look : St
     -- the drive failed: where it was to be refused, nothing has changed
     broken-change : (number : ℕ) (few none : Bool) → full ≡ few → long ≡ none
         → HasChanged asked (Err (File (Device number))) located.last.directory.drive v dir files new before now
-        → Tries step most asker files (Err number) new before now
+        → TriesNameCall step most asker files (Err number) new before now
     broken-change number true none is list changed =
         let refused : is_refused asked v dir ≡ true = ap (λ (b : Bool). b || long) is in
         broken-by number (unchanged asked (Err (File (Device number))) located.last.directory.drive v dir files new before now volume-is changed (inr refused) (changed.answers.refused refused))
@@ -254,7 +254,7 @@ module _ (requester : Requester) (user : ℕ) (located : LastLocated) (look : St
         files false may absent is list) number loc.drives_are
         (as-asked (Err (File (Device number))) changed)
 
-    pub is-made : (n : ℕ) → HasChanged asked (Ok n) located.last.directory.drive v dir files new before now → Tries step most asker files (Ok located.next) new before now
+    pub is-made : (n : ℕ) → HasChanged asked (Ok n) located.last.directory.drive v dir files new before now → TriesNameCall step most asker files (Ok located.next) new before now
     is-made n changed =
         tries-changed look (makes_it asker files) most asker files it loc.answer new before now called change v dir
         loc.is.reached loc.is.there.volume_is loc.is.there.file_is (room-deed closed there full long change files
@@ -262,7 +262,7 @@ module _ (requester : Requester) (user : ℕ) (located : LastLocated) (look : St
         (ap (λ (next : ℕ). leaves (answers (record asker.caller.regs { x = next % 65536 })) files) (sym loc.is.next_is))
         (as-asked (Ok n) changed)
 
-    pub not-made : (fault : FileFault) → HasChanged asked (widened (Err fault)) located.last.directory.drive v dir files new before now → Tries step most asker files
+    pub not-made : (fault : FileFault) → HasChanged asked (widened (Err fault)) located.last.directory.drive v dir files new before now → TriesNameCall step most asker files
         (Err (file_error fault)) new before now
     not-made (Device number) changed = broken-change number full long refl refl changed
     not-made NoCluster changed =
@@ -280,7 +280,7 @@ module _ (requester : Requester) (user : ℕ) (located : LastLocated) (look : St
 
 module _ (requester : Requester) (user : ℕ) (located : LastLocated) (look : Step NamedBy) (seen : ℕ) (asker : Asker) (files : Files)
     (old mid : FileState) (before between views : List DriveView) (who : MakesFor requester user asker)
-    (loc : HasFound (IsNamed New look files) look seen located files old before between)
+    (loc : HasFoundInSearch (IsNameLocated New look files) look seen located files old before between)
     (found : Result NewPlace DirError) (io : mid.io ≡ old.io) (directories : mid.directories ≡ old.directories)
     (records : mid.records ≡ old.records) (answer : OnDisks old.disks between located.last.directory
     (λ v file. AnswersPlace file located.last.name user false (place_found found))) (reads : ReadsFile located.last.directory
@@ -304,9 +304,9 @@ module _ (requester : Requester) (user : ℕ) (located : LastLocated) (look : St
   file-there : volume.files located.last.directory.number ≡ Some folder
   file-there = ap (λ (at : FilePlace). volume.files at.number) (sym loc.is.place_is) ∙ loc.is.there.file_is
 
-  searched : HasRead None located.last.directory.drive files old before between
+  searched : HasReadDrive None located.last.directory.drive files old before between
   searched =
-      found-read (IsNamed New look files) look seen files located old before between loc located.last.directory.drive
+      found-read (IsNameLocated New look files) look seen files located old before between loc located.last.directory.drive
       (loc.is.reached ∙ ap (λ (place : FilePlace). Some place.drive) loc.is.place_is)
 
   -- the calls for the search and for the place
@@ -318,7 +318,7 @@ module _ (requester : Requester) (user : ℕ) (located : LastLocated) (look : St
   place-called : CalledAtMost (seen + place_calls folder located.last.name user false) before views
   place-called =
       called-then seen (place_calls folder located.last.name user false) before between views
-      (found-calls (IsNamed New look files) look seen files located old before between loc)
+      (found-calls (IsNameLocated New look files) look seen files located old before between loc)
       (again.read-calls files located.last.directory volume folder volume-there file-there old mid before between views
       searched (directory_fault found) (λ v file. place_calls file located.last.name user false) reads)
 
@@ -329,20 +329,20 @@ module _ (requester : Requester) (user : ℕ) (located : LastLocated) (look : St
   fact = again.of-found files located.last.directory volume folder volume-there file-there old mid before between views
       searched (λ v file. AnswersPlace file located.last.name user false (place_found found)) answer
 
-  was-read : HasRead (directory_fault found) located.last.directory.drive files mid before views
+  was-read : HasReadDrive (directory_fault found) located.last.directory.drive files mid before views
   was-read = again.read-again files located.last.directory volume folder volume-there file-there old mid before between views
       searched (directory_fault found) (λ v file. place_calls file located.last.name user false) io directories records
       reads
 
   -- no place was found
-  pub place-refused : (error : DirError) (number : ℕ) → found ≡ Err error → number ≡ directory_error error → Tries way bound asker files (Err number) mid before views
+  pub place-refused : (error : DirError) (number : ℕ) → found ≡ Err error → number ≡ directory_error error → TriesNameCall way bound asker files (Err number) mid before views
   place-refused error number is number_is =
-      subst (λ (n : ℕ). Tries way bound asker files (Err n) mid before views) (sym number_is)
+      subst (λ (n : ℕ). TriesNameCall way bound asker files (Err n) mid before views) (sym number_is)
       (no-place requester user located look seen asker files old mid before between views who loc called error
       (place-answers requester user located look seen asker files old mid before between views who loc called (Err error)
       (subst (λ (r : Result NewPlace DirError). AnswersPlace folder located.last.name user false (place_found r))
       is fact))
-      (subst (λ (r : Result NewPlace DirError). HasRead (directory_fault r) located.last.directory.drive files mid before views) is was-read))
+      (subst (λ (r : Result NewPlace DirError). HasReadDrive (directory_fault r) located.last.directory.drive files mid before views) is was-read))
 
   module _ (place : NewPlace) (is : found ≡ Ok place) (user_is : place.by.user ≡ user) (new : FileState)
       (now : List DriveView) (new_io : new.io ≡ mid.io) (new_directories : new.directories ≡ mid.directories)
@@ -358,8 +358,8 @@ module _ (requester : Requester) (user : ℕ) (located : LastLocated) (look : St
         (Ok place.place) (subst (λ (r : Result NewPlace DirError). AnswersPlace folder located.last.name user false
         (place_found r)) is fact)
 
-    read : HasRead None located.last.directory.drive files mid before views
-    read = subst (λ (r : Result NewPlace DirError). HasRead (directory_fault r) located.last.directory.drive files mid before views) is was-read
+    read : HasReadDrive None located.last.directory.drive files mid before views
+    read = subst (λ (r : Result NewPlace DirError). HasReadDrive (directory_fault r) located.last.directory.drive files mid before views) is was-read
 
     abbrev wanted : Asked
     wanted = record { change = makes_directory located.last.directory.number located.last.name requester.regs.b; user = place.by.user; now = requester.time }
@@ -380,13 +380,13 @@ module _ (requester : Requester) (user : ℕ) (located : LastLocated) (look : St
         wanted (widened result) (drives.making_calls (widened result)) making-it (making-within result volume
         folder) makes))
 
-    pub directory-made : (n : ℕ) → result ≡ Ok n → Tries way bound asker files (Ok located.next) new before now
+    pub directory-made : (n : ℕ) → result ≡ Ok n → TriesNameCall way bound asker files (Ok located.next) new before now
     directory-made n done =
         is-made requester user located look seen asker files old new before between now who loc all-called place user_is new-place n
         (subst (λ (r : Result ℕ FileFault). HasChanged wanted (widened r) located.last.directory.drive volume folder files new before now) done changed)
 
-    pub directory-refused : (fault : FileFault) (number : ℕ) → result ≡ Err fault → number ≡ file_error fault → Tries way bound asker files (Err number) new before now
+    pub directory-refused : (fault : FileFault) (number : ℕ) → result ≡ Err fault → number ≡ file_error fault → TriesNameCall way bound asker files (Err number) new before now
     directory-refused fault number failed number_is =
-        subst (λ (n : ℕ). Tries way bound asker files (Err n) new before now) (sym number_is)
+        subst (λ (n : ℕ). TriesNameCall way bound asker files (Err n) new before now) (sym number_is)
         (not-made requester user located look seen asker files old new before between now who loc all-called place user_is new-place fault
         (subst (λ (r : Result ℕ FileFault). HasChanged wanted (widened r) located.last.directory.drive volume folder files new before now) failed changed))

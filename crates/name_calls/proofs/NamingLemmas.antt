@@ -20,12 +20,12 @@ use Rattle.file_drives.specs.Drives.{DriveView}
 use Rattle.file_drives.specs.Mounted.{ArrivesOn, HasFileAt}
 use Rattle.device_paths.specs.Standing.{NamesFrom, NamesStand, name_list}
 use Rattle.rbf_access.specs.declared.volume.Volume.{Volume}
-use Rattle.file_state.specs.Tie.{StandsFor}
+use Rattle.file_state.specs.Tie.{RepresentsFiles}
 use Rattle.file_state.specs.declared.state.FileState.{FileState}
 use Rattle.file_routes.proofs.ReachLemmas.{volume-there, walks-found}
 use Rattle.file_routes.proofs.VolumeLemmas.{file-there}
 use Rattle.file_routes.proofs.RouteLemmas.{leads-on}
-use Rattle.file_routes.specs.Reached.{Finds}
+use Rattle.file_routes.specs.Reached.{FindsFilePlace}
 use Rattle.file_routes.specs.Walks.{WalksToLast, directory_reached}
 use Rattle.file_routes.specs.Routes.{IsRoute, Led, NamesOn, leads, next_step, route_for, route_on}
 use Rattle.file_routes.specs.declared.route.Route.{Route}
@@ -43,7 +43,7 @@ use Rattle.name_calls.proofs.WalkedLemmas.{found-in, reached-there, walk-found, 
 use Rattle.file_routes.specs.Calls.{listed_calls, walk_and}
 use Rattle.name_calls.specs.ListCalls.{last_calls, named_calls}
 use Rattle.name_calls.specs.Looks.{answer_of}
-use Rattle.name_calls.specs.Naming.{IsNamed, LocatesLast, NamedBy, last_by, named_by, names_last, names_on, unnamed_number}
+use Rattle.name_calls.specs.Naming.{IsNameLocated, LocatesLast, NamedBy, last_by, named_by, names_last, names_on, unnamed_number}
 use Rattle.name_calls.specs.declared.naming.LastLocated.{LastLocated}
 
 -- ---- the list
@@ -83,7 +83,7 @@ proper-name New asker files terms execute list from names name is last made =
 
 module _ (purpose : Purpose) (asker : Asker) (walker : Walker) (files : Files) (list : PathList) (from : FilePlace)
     (state new : FileState) (views now : List DriveView) (user : asker.user ≡ walker.by.user)
-    (stands : StandsFor state views files) (has : HasFileAt state.disks views from) (io : new.io ≡ state.io)
+    (stands : RepresentsFiles state views files) (has : HasFileAt state.disks views from) (io : new.io ≡ state.io)
     (directories : new.directories ≡ state.directories) (records : new.records ≡ state.records) (most : ℕ)
     (enough : (v : DiskVolume) → volume_at files from.drive ≡ Some v → walk_calls v.files walker.by.user walker.by.execute
     from.number (before_last list.names) ≤ most) where
@@ -98,7 +98,7 @@ module _ (purpose : Purpose) (asker : Asker) (walker : Walker) (files : Files) (
         → WalksToLast walker from list.names reached state.disks views new.disks now → LocatesLast purpose
         (step-of name) most (last_by reached next) files new views now
     last-located name last (Ok at) it =
-        walk-found (IsNamed purpose (step-of name) files) (named_by list name) asker walker files from
+        walk-found (IsNameLocated purpose (step-of name) files) (named_by list name) asker walker files from
         (before_last list.names) state new views now user stands has io directories records most enough
         at.directory (record { last = at; next = next }) it.walks
         (λ found. record {
@@ -110,14 +110,14 @@ module _ (purpose : Purpose) (asker : Asker) (walker : Walker) (files : Files) (
           proper = proper name last;
         })
     last-located name last (Err error) it =
-        walk-lost (IsNamed purpose (step-of name) files) (named_by list name) asker walker files from
+        walk-lost (IsNameLocated purpose (step-of name) files) (named_by list name) asker walker files from
         (before_last list.names) state new views now user stands has io directories records most enough error
         it.walks
 
 -- of a list without names no drive is called
 pub unnamed-there : (purpose : Purpose) (asker : Asker) (files : Files) (execute : Bool) (whole : Step NamedBy)
     (most : ℕ) (list : PathList) (from : FilePlace) (state : FileState) (views : List DriveView)
-    → StandsFor state views files → HasFileAt state.disks views from → whole ≡ names_on purpose asker files execute
+    → RepresentsFiles state views files → HasFileAt state.disks views from → whole ≡ names_on purpose asker files execute
     list (along from []) None → LocatesLast purpose whole most (Err (unnamed_number purpose)) files state views views
 unnamed-there New asker files execute whole most list from state views stands has is = record {
   answer = Err E_BPNAM;
@@ -129,7 +129,7 @@ unnamed-there New asker files execute whole most list from state views stands ha
 unnamed-there Existing asker files execute whole most list from state views stands has is =
     let walker : Walker = record { process = asker.caller.process; by = record { user = asker.user; execute = execute } } in
     let volume : (v : DiskVolume) × _ = volume-there state.disks views from files.volumes has stands.mounted in
-    let it : Finds walker files from [] from = record {
+    let it : FindsFilePlace walker files from [] from = record {
       found = record { place = from; volume = volume.0; file = has.file };
       place_is = refl;
       drive_is = refl;
@@ -202,7 +202,7 @@ module _ (purpose : Purpose) (asker : Asker) (files : Files) (terms : ℕ) (exec
 
     -- a list without names
     pub along-unnamed : (state : FileState) (views : List DriveView) (number : ℕ) → start.first ≡ None
-        → number ≡ unnamed_number purpose → StandsFor state views files → HasFileAt state.disks views start.directory
+        → number ≡ unnamed_number purpose → RepresentsFiles state views files → HasFileAt state.disks views start.directory
         → LocatesLast purpose whole most (Err number) files state views views
     along-unnamed state views number none number_is stands has =
         let empty : it.list.names ≡ [] = subst (λ (first : Option ℕ). NamesFrom cells first it.list.names) none names-along in
@@ -212,7 +212,7 @@ module _ (purpose : Purpose) (asker : Asker) (files : Files) (terms : ℕ) (exec
 
     -- by its last name
     pub along-named : (walker : Walker) (state new : FileState) (views now : List DriveView)
-        → walker.by.execute ≡ execute → asker.user ≡ walker.by.user → StandsFor state views files → HasFileAt state.disks
+        → walker.by.execute ≡ execute → asker.user ≡ walker.by.user → RepresentsFiles state views files → HasFileAt state.disks
         views start.directory → new.io ≡ state.io → new.directories ≡ state.directories → new.records ≡ state.records
         → (name : List ℕ) → last_of it.list.names ≡ Some name → (reached : Result LastName DirError)
         (result : Result LastLocated ℕ) → result ≡ last_by reached route.next → WalksToLast walker start.directory it.list.names

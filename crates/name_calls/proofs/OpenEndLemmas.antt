@@ -10,7 +10,7 @@ use Rattle.rbf_model.specs.Volume.{DiskVolume}
 use Rattle.io_model.specs.Io.{Io, with_call}
 use Rattle.io_model.specs.Step.{answers}
 use Rattle.proc_model.specs.Records.{record_at}
-use Rattle.proc_state.specs.Tie.{Represents}
+use Rattle.proc_state.specs.Tie.{RepresentsProcesses}
 use Rattle.proc_state.specs.declared.state.ProcState.{ProcState}
 use Rattle.file_rules.specs.Attempts.{asker_of, file_step}
 use Rattle.file_rules.specs.Files.{Files, volume_at, with_drives}
@@ -24,19 +24,19 @@ use Rattle.file_state.proofs.ReachedLemmas as reached
 use Rattle.file_state.proofs.StateLemmas.{stands-with_io}
 use Rattle.file_state.specs.Attempt.{Standing}
 use Rattle.file_state.specs.Counted.{AttemptsIn, CalledAtMost, calls_of}
-use Rattle.file_state.specs.Ends.{Ends}
+use Rattle.file_state.specs.Ends.{EndsFileAttempt}
 use Rattle.file_state.specs.Media.{KeepsDrives}
-use Rattle.file_state.specs.Reached.{HasRead}
-use Rattle.file_state.specs.Tie.{StandsFor}
+use Rattle.file_state.specs.Reached.{HasReadDrive}
+use Rattle.file_state.specs.Tie.{RepresentsFiles}
 use Rattle.file_state.specs.declared.state.FileState.{FileState}
 use Rattle.name_calls.proofs.OpenCallLemmas.{calls-reached}
 use Rattle.name_calls.specs.Ends.{EndsQuietly, HasReadIn}
 
 -- who calls, as the kernel has it
-pub regs-tied : (s : ProcState) (m : Processes) (p : ℕ) → Represents s m → (record_at m.records p).regs ≡ (record_at s.table p).regs
+pub regs-tied : (s : ProcState) (m : Processes) (p : ℕ) → RepresentsProcesses s m → (record_at m.records p).regs ≡ (record_at s.table p).regs
 regs-tied s m p tied = ap (λ (it : Processes). (record_at it.records p).regs) tied.is
 
-pub user-tied : (s : ProcState) (m : Processes) (p : ℕ) → Represents s m → user_at m p ≡ (record_at s.table p).user
+pub user-tied : (s : ProcState) (m : Processes) (p : ℕ) → RepresentsProcesses s m → user_at m p ≡ (record_at s.table p).user
 user-tied s m p tied = ap (λ (it : Processes). user_at it p) tied.is
 
 -- more calls may be allowed
@@ -53,7 +53,7 @@ read-more few most fault drive files new before now more it = record {
 
 module _ (m : Processes) (was : Files) (now : TimePacket) (p : ℕ) (terms : List TerminalState) (step : FileStep) (drive : ℕ) (new : FileState) (before views : List DriveView) where
   -- and it is refused
-  pub well-refused : (number : ℕ) → deed_of step was ≡ leaves_so (refuses_so number was) → HasRead None drive was new
+  pub well-refused : (number : ℕ) → deed_of step was ≡ leaves_so (refuses_so number was) → HasReadDrive None drive was new
       before views → FileDoes step (asker_of m p now) was (refuses_so number (with_drives was (drive_states views)))
       terms terms
   well-refused number is read =
@@ -61,7 +61,7 @@ module _ (m : Processes) (was : Files) (now : TimePacket) (p : ℕ) (terms : Lis
 
   -- and has failed
   pub broken : (number : ℕ) (v : DiskVolume) → drive_of step ≡ Some drive → volume_at was drive ≡ Some v
-      → MayBeLeft (deed_of step was) (asker_of m p now) v v → HasRead (Some number) drive was new before views
+      → MayBeLeft (deed_of step was) (asker_of m p now) v v → HasReadDrive (Some number) drive was new before views
       → FileDoes step (asker_of m p now) was (refuses_so number (with_drives was (drive_states views))) terms terms
   broken number v at is may read =
       subst (λ (files : Files). FileDoes step (asker_of m p now) was (refuses_so number (with_drives files (drive_states views))) terms terms) (reached.same-volume was drive v is)
@@ -74,14 +74,14 @@ module _ (m : Processes) (p : ℕ) (state : FileState) (views : List DriveView) 
   left = record state { io = io }
 
   -- the files, where nothing is kept of the call
-  pub stands-after : (files : Files) → StandsFor state views files → StandsFor left views (record files { io = with_call files.io p None })
+  pub stands-after : (files : Files) → RepresentsFiles state views files → RepresentsFiles left views (record files { io = with_call files.io p None })
   stands-after files stands =
       stands-with_io state views files (with_call files.io p None) io (ap (λ (old : Io). with_call old p None) stands.io ∙ sym io_is) stands
 
   -- ---- it is refused
 
-  module _ (number : ℕ) (end_is : end ≡ Error number) (tied : Represents processes m) where
-    pub refused-quietly : (files : Files) → StandsFor state views files → (step : FileStep) → deed_of step files ≡
+  module _ (number : ℕ) (end_is : end ≡ Error number) (tied : RepresentsProcesses processes m) where
+    pub refused-quietly : (files : Files) → RepresentsFiles state views files → (step : FileStep) → deed_of step files ≡
         leaves_so (refuses_so number files) → EndsQuietly step m files p end processes left views
     refused-quietly files stands step is = record {
       effect = refuses_so number files;
@@ -91,10 +91,10 @@ module _ (m : Processes) (p : ℕ) (state : FileState) (views : List DriveView) 
     }
 
     module _ (was : Files) (now : TimePacket) (terms : List TerminalState) (most : ℕ) (step : FileStep) where
-      pub refused-ends : (files : Files) (before : List DriveView) → StandsFor state views files
+      pub refused-ends : (files : Files) (before : List DriveView) → RepresentsFiles state views files
           → FileDoes step (asker_of m p now) was (refuses_so number files) terms terms
           → CalledAtMost (calls_of step most) before views → KeepsDrives step (asker_of m p now) was (Error number)
-          before views → Ends step most m was now p end processes left before views terms
+          before views → EndsFileAttempt step most m was now p end processes left before views terms
       refused-ends files before stands does calls drives = record {
         effect = refuses_so number files;
         does = does;
@@ -105,7 +105,7 @@ module _ (m : Processes) (p : ℕ) (state : FileState) (views : List DriveView) 
       }
 
       -- at once: no drive was called
-      pub refused-at_once : step ≡ refused number → StandsFor state views was → Ends step most m was now p end processes left views views terms
+      pub refused-at_once : step ≡ refused number → RepresentsFiles state views was → EndsFileAttempt step most m was now p end processes left views views terms
       refused-at_once is stands =
           refused-ends was views stands
           (goes-well step (asker_of m p now) was (refuses_so number was) was.drives terms (ap (λ (step : FileStep). deed_of step was) is) refl)
@@ -115,7 +115,7 @@ module _ (m : Processes) (p : ℕ) (state : FileState) (views : List DriveView) 
       -- when its drive was read
       pub read-ends : (fault : Option ℕ) (drive : ℕ) (before : List DriveView) → drive_of step ≡ Some drive
           → HasReadIn most fault drive was state before views → FileDoes step (asker_of m p now) was
-          (refuses_so number (with_drives was (drive_states views))) terms terms → Ends step most m was now p end
+          (refuses_so number (with_drives was (drive_states views))) terms terms → EndsFileAttempt step most m was now p end
           processes left before views terms
       read-ends fault drive before at it does =
           refused-ends (with_drives was (drive_states views)) before it.read.stands does
@@ -125,7 +125,7 @@ module _ (m : Processes) (p : ℕ) (state : FileState) (views : List DriveView) 
   -- ---- it is done
 
   pub done-quietly : (regs : Regs) (files : Files) (step : FileStep) (before : Files) → end ≡ Done
-      → Represents processes (with_regs_of m p regs) → StandsFor state views files → deed_of step before ≡ leaves_so
+      → RepresentsProcesses processes (with_regs_of m p regs) → RepresentsFiles state views files → deed_of step before ≡ leaves_so
       (leaves (answers regs) files) → EndsQuietly step m before p end processes left views
   done-quietly regs files step before end_is tied stands is = record {
     effect = leaves (answers regs) files;
@@ -142,7 +142,7 @@ module _ (m : Processes) (was : Files) (now : TimePacket) (p : ℕ) (end : CallE
       → ((effect : FileEffect) → deed_of later files ≡ leaves_so effect → (it : FileEffect) ×
       (deed_of step was ≡ leaves_so it) × (effect ≡ with_drives_after it (drive_states views))) → drive_of step ≡ Some
       drive → HasReadIn most None drive was mid before views → EndsQuietly later m files p end processes new views
-      → Ends step most m was now p end processes new before views terms
+      → EndsFileAttempt step most m was now p end processes new before views terms
   late-ends most step later files drive mid late at read it =
       let same : (effect : FileEffect) × (deed_of step was ≡ leaves_so effect) × (it.effect ≡ with_drives_after effect (drive_states views)) = late it.effect it.is in
       record {
@@ -156,7 +156,7 @@ module _ (m : Processes) (was : Files) (now : TimePacket) (p : ℕ) (end : CallE
       }
 
   abbrev EndsBy : FileStep → ℕ → Type 0
-  EndsBy step most = Ends step most m was now p end processes new before views terms
+  EndsBy step most = EndsFileAttempt step most m was now p end processes new before views terms
 
   -- the same step, and as many calls
   pub ends-as : (step other : FileStep) (few most : ℕ) → step ≡ other → few ≡ most → EndsBy step few → EndsBy other most
@@ -166,7 +166,7 @@ module _ (m : Processes) (was : Files) (now : TimePacket) (p : ℕ) (end : CallE
 -- the attempt is that step
 pub attempts-by : (most : ℕ) (call : PathCall) (m : Processes) (was : Files) (now : TimePacket) (p : ℕ) (end : CallEnd)
     (terms : List TerminalState) (before after : Standing) (step : FileStep) (few : ℕ)
-    → file_step call (asker_of m p now) was (length terms) ≡ step → few ≡ most → Ends step few m was now p end
+    → file_step call (asker_of m p now) was (length terms) ≡ step → few ≡ most → EndsFileAttempt step few m was now p end
     after.processes after.files before.views after.views terms → AttemptsIn most call m was now p end terms terms
     before after
 attempts-by most call m was now p end terms before after step few is as_many it =

@@ -15,7 +15,7 @@ use Rattle.rbf_model.specs.Volume.{DiskVolume}
 use Rattle.rbf_model.specs.Walk.{WalkEnd, arrives, not_allowed, not_found, walk}
 use Rattle.proc_model.specs.Processes.{Processes, regs_at, user_at}
 use Rattle.proc_model.specs.Records.{record_at}
-use Rattle.proc_state.specs.Tie.{Represents}
+use Rattle.proc_state.specs.Tie.{RepresentsProcesses}
 use Rattle.proc_state.specs.declared.state.ProcState.{ProcState}
 use Rattle.file_rules.specs.Files.{Asker, DriveState, Files, target_on, volume_at, with_drives, with_path_table}
 use Rattle.file_rules.specs.Open.{begins_on, i_open, is_for_execution, may_open, opens_found, opens_on_route}
@@ -143,7 +143,7 @@ module _ (asker : Asker) (files : Files) (list : PathList) (found : Found) where
 
 -- ---- by the user and the registers that were read
 
-module _ (s : ProcState) (m : Processes) (p : ℕ) (tied : Represents s m) (regs : Regs) (regs_are : regs ≡ (record_at s.table p).regs) where
+module _ (s : ProcState) (m : Processes) (p : ℕ) (tied : RepresentsProcesses s m) (regs : Regs) (regs_are : regs ≡ (record_at s.table p).regs) where
   pub mode-tied : (regs_at m p).a ≡ regs.a
   mode-tied = ap (λ (regs : Regs). regs.a) (regs-tied s m p tied ∙ sym regs_are)
 

@@ -8,12 +8,12 @@ use Rattle.os9_base.specs.Cells.{Cells}
 use Rattle.proc_model.specs.Records.{record_at}
 use Rattle.proc_state.proofs.Entered.{represented}
 use Rattle.proc_state.proofs.UserBytes.{same-then}
-use Rattle.proc_state.specs.Tie.{IsSame, Represents, processes_of}
+use Rattle.proc_state.specs.Tie.{AreProcessesSame, RepresentsProcesses, processes_of}
 use Rattle.proc_state.specs.declared.state.ProcState.{ProcState}
 use Rattle.file_routes.specs.Walks.{SomeFrom}
 
 -- the same, and the same again
-pub is-same-then : (first middle last : ProcState) → IsSame first middle → IsSame middle last → IsSame first last
+pub is-same-then : (first middle last : ProcState) → AreProcessesSame first middle → AreProcessesSame middle last → AreProcessesSame first last
 is-same-then first middle last was is = record {
   memory = same-then first.memory middle.memory last.memory was.memory is.memory;
   table = is.table ∙ was.table;
@@ -24,18 +24,18 @@ is-same-then first middle last was is = record {
 }
 
 -- the user of a process
-pub user-is : (s : ProcState) (m : Processes) (p user : ℕ) → Represents s m → user ≡ (record_at s.table p).user → user_at m p ≡ user
+pub user-is : (s : ProcState) (m : Processes) (p user : ℕ) → RepresentsProcesses s m → user ≡ (record_at s.table p).user → user_at m p ≡ user
 user-is s m p user tied is = ap (λ (m : Processes). user_at m p) tied.is ∙ sym is
 
 -- the registers at a call
-pub regs-are : (by : Requester) (s : ProcState) (m : Processes) → by.regs ≡ (record_at s.table by.p.0).regs → Represents s m → by.regs ≡ regs_at m by.p.0
+pub regs-are : (by : Requester) (s : ProcState) (m : Processes) → by.regs ≡ (record_at s.table by.p.0).regs → RepresentsProcesses s m → by.regs ≡ regs_at m by.p.0
 regs-are by s m same tied = same ∙ ap (λ (m : Processes). regs_at m by.p.0) (sym tied.is)
 
 -- processes are those of some machine
-pub some-machine : (s : ProcState) → (m : Processes) × Represents s m
+pub some-machine : (s : ProcState) → (m : Processes) × RepresentsProcesses s m
 some-machine s = (processes_of s _, record { memory = represented s.memory; is = refl })
 
 -- which sees some names of a list, where the kernel does
-pub some-names : (s : ProcState) (p : ℕ) (first : Option ℕ) → p < 33 → (m : Processes) (tied : Represents s m) → SomeFrom (cells_of s.memory p) first → SomeFrom (cells_at m p) first
+pub some-names : (s : ProcState) (p : ℕ) (first : Option ℕ) → p < 33 → (m : Processes) (tied : RepresentsProcesses s m) → SomeFrom (cells_of s.memory p) first → SomeFrom (cells_at m p) first
 some-names s p first inside m tied some =
     subst (λ (cells : Cells). SomeFrom cells first) (cells_of-seen s.memory p inside m.memory tied.memory) some

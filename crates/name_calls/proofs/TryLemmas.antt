@@ -9,35 +9,35 @@ use Rattle.rbf_walk.specs.declared.error.DirError.TheVariants.{File}
 use Rattle.file_rules.specs.Files.{Asker, Files, volume_at, with_drives, with_volume}
 use Rattle.file_rules.specs.Step.{FileDoes, FileEffect, FileStep, Step, VolumeChange, refused, comes, reaches, changes, deed_of, drive_of, leaves, leaves_so, refuses, refuses_so, with_drives_after, with_volume_after}
 use Rattle.file_drives.specs.Drives.{DriveView, drive_states}
-use Rattle.file_drives.specs.Mounted.{AgreesOnDrive, AreMounted, kept_at, mounted_at}
+use Rattle.file_drives.specs.Mounted.{AgreesOnDrive, AreMounted, disk_at, mounted_at}
 use Rattle.file_state.proofs.EndLemmas.{WritesNothing, asked_of, breaks-before, breaks-change, goes-well, is-made}
 use Rattle.file_state.proofs.CountLemmas.{called-more}
 use Rattle.file_state.proofs.KeepLemmas.{ReachesAtMost, error-keeps, keeps-broken, keeps-made, keeps-read}
 use Rattle.file_state.proofs.ReachedLemmas as reached
 use Rattle.file_state.specs.Counted.{CalledAtMost, calls_of}
 use Rattle.file_state.specs.Media.{file_changed}
-use Rattle.file_state.specs.Reached.{HasRead}
+use Rattle.file_state.specs.Reached.{HasReadDrive}
 use Rattle.file_state.proofs.ReachedLemmas.{HasChanged}
 use Rattle.file_state.specs.declared.state.FileState.{FileState}
 use Rattle.file_routes.proofs.VolumeLemmas.{agrees-at, view-there}
 use Rattle.file_routes.specs.Routes.{next_step}
 use Rattle.name_calls.proofs.ListCallLemmas.{calls-more, calls-next, calls-reached}
 use Rattle.name_calls.proofs.LookLemmas.{deed-on, deed-refused, drive-on, reaches-next}
-use Rattle.name_calls.specs.Looks.{AnswersBy, Looks, LooksFor, answer_of}
-use Rattle.name_calls.specs.Tries.{Tries, end_by}
+use Rattle.name_calls.specs.Looks.{AnswersBy, Looks, SearchHasResult, answer_of}
+use Rattle.name_calls.specs.Tries.{TriesNameCall, end_by}
 
 -- one step, said in two ways
 pub tries-same : (one two : FileStep) (few most : ℕ) (asker : Asker) (files : Files) (result : Result ℕ ℕ)
-    (new : FileState) (before now : List DriveView) → one ≡ two → few ≡ most → Tries one few asker files result new
-    before now → Tries two most asker files result new before now
+    (new : FileState) (before now : List DriveView) → one ≡ two → few ≡ most → TriesNameCall one few asker files result new
+    before now → TriesNameCall two most asker files result new before now
 tries-same one two few most asker files result new before now same as_often it =
-    subst (λ (step : FileStep). Tries step most asker files result new before now) same
-    (subst (λ (n : ℕ). Tries one n asker files result new before now) as_often it)
+    subst (λ (step : FileStep). TriesNameCall step most asker files result new before now) same
+    (subst (λ (n : ℕ). TriesNameCall one n asker files result new before now) as_often it)
 
 -- more calls may be allowed
 pub tries-more : (step : FileStep) (few most : ℕ) (asker : Asker) (files : Files) (result : Result ℕ ℕ)
-    (new : FileState) (before now : List DriveView) → few ≤ most → Tries step few asker files result new before now
-    → Tries step most asker files result new before now
+    (new : FileState) (before now : List DriveView) → few ≤ most → TriesNameCall step few asker files result new before now
+    → TriesNameCall step most asker files result new before now
 tries-more step few most asker files result new before now more it = record {
   left = it.left;
   does = it.does;
@@ -67,14 +67,14 @@ image-there : (disks : List (Option Volume)) (views : List DriveView) (volumes :
     (v : DiskVolume) → AreMounted disks views volumes → mounted_at volumes n ≡ Some v → (image : List ℕ) × Vol image v
 image-there disks views volumes n v mounted is =
     let there : (view : DriveView) × (slice_get views n ≡ Some view) = view-there disks views volumes n v mounted is in
-    image-of (kept_at disks n) there.0 v (agrees-at disks views volumes n v there.0 mounted is there.1)
+    image-of (disk_at disks n) there.0 v (agrees-at disks views volumes n v there.0 mounted is there.1)
 
 -- ---- no volume was changed
 
 module _ (step : FileStep) (most : ℕ) (asker : Asker) (files : Files) (new : FileState) (before now : List DriveView) (calls : CalledAtMost (calls_of step most) before now) where
   -- refused, and no drive failed
-  goes-refused : (number drive : ℕ) → ReachesAtMost step drive before now → HasRead None drive files new before now
-      → deed_of step files ≡ leaves_so (refuses_so number files) → Tries step most asker files (Err number) new before
+  goes-refused : (number drive : ℕ) → ReachesAtMost step drive before now → HasReadDrive None drive files new before now
+      → deed_of step files ≡ leaves_so (refuses_so number files) → TriesNameCall step most asker files (Err number) new before
       now
   goes-refused number drive reached read deed = record {
     left = with_drives files (drive_states now);
@@ -86,7 +86,7 @@ module _ (step : FileStep) (most : ℕ) (asker : Asker) (files : Files) (new : F
 
   -- a drive failed, and the volume is as it was
   goes-broken : (number drive : ℕ) (v : DiskVolume) → drive_of step ≡ Some drive → volume_at files drive ≡ Some v
-      → WritesNothing (deed_of step files) → HasRead (Some number) drive files new before now → Tries step most asker
+      → WritesNothing (deed_of step files) → HasReadDrive (Some number) drive files new before now → TriesNameCall step most asker
       files (Err number) new before now
   goes-broken number drive v at is quiet read =
       let image : (image : List ℕ) × Vol image v = image-there new.disks now files.volumes drive v read.stands.mounted is in
@@ -108,7 +108,7 @@ module _ {A R : Type 0} (fact : A → R → Type 0) (look : Step A) (next : A �
   whole = next_step look next
 
   unfound-by : CalledAtMost (calls_of whole most) before now → (answer : Result A ℕ) → AnswersBy {R = R} fact answer
-      (Err number) → Looks look answer files new before now → Tries whole most asker files (Err number) new before now
+      (Err number) → Looks look answer files new before now → TriesNameCall whole most asker files (Err number) new before now
   unfound-by calls (Ok it) is looks = absurd is
   unfound-by calls (Err other) is looks = elim looks [
     | inl well ↦
@@ -117,10 +117,10 @@ module _ {A R : Type 0} (fact : A → R → Type 0) (look : Step A) (next : A �
     | inr broken ↦
         let fault : number ≡ broken.number = let e = broken.answer_is in cc in
         goes-broken whole most asker files new before now calls number broken.drive broken.volume (drive-on look next broken.drive broken.reached) broken.is (next-quiet look next files quiet)
-        (subst (λ (n : ℕ). HasRead (Some n) broken.drive files new before now) (sym fault) broken.read)
+        (subst (λ (n : ℕ). HasReadDrive (Some n) broken.drive files new before now) (sym fault) broken.read)
   ]
 
-  pub tries-unfound : LooksFor fact look most (Err number) files new before now → Tries whole most asker files (Err number) new before now
+  pub tries-unfound : SearchHasResult fact look most (Err number) files new before now → TriesNameCall whole most asker files (Err number) new before now
   tries-unfound it = unfound-by (called-more (calls_of look most) (calls_of whole most) before now (calls-next look next most) it.calls) it.answer it.is it.looks
 
 -- ---- by what was found
@@ -139,14 +139,14 @@ module _ {A : Type 0} (look : Step A) (next : A → FileStep) (most : ℕ) (aske
     calls = called-more most (calls_of (next_step look next) most) before now (calls-reached (next_step look next) drive most reached-on) called
 
     -- it is refused
-    pub tries-refused : (number : ℕ) → HasRead None drive files new before now → deed_of (next it) files ≡ leaves_so
-        (refuses_so number files) → Tries (next_step look next) most asker files (Err number) new before now
+    pub tries-refused : (number : ℕ) → HasReadDrive None drive files new before now → deed_of (next it) files ≡ leaves_so
+        (refuses_so number files) → TriesNameCall (next_step look next) most asker files (Err number) new before now
     tries-refused number read is = goes-refused (next_step look next) most asker files new before now calls number drive (inl reached-on) read (deed ∙ is)
 
     -- the drive failed, and the volume is as it was
     pub tries-broken : (v : DiskVolume) → volume_at files drive ≡ Some v → (number : ℕ)
-        → WritesNothing (deed_of (next it) files) → HasRead (Some number) drive files new before now
-        → Tries (next_step look next) most asker files (Err number) new before now
+        → WritesNothing (deed_of (next it) files) → HasReadDrive (Some number) drive files new before now
+        → TriesNameCall (next_step look next) most asker files (Err number) new before now
     tries-broken v volume_is number quiet read = goes-broken (next_step look next) most asker files new before now calls number drive v reached-on volume_is (subst WritesNothing (sym deed) quiet) read
 
   module _ (change : VolumeChange) (v : DiskVolume) (file : DiskFile) (at : drive_of look ≡ Some change.drive)
@@ -155,7 +155,7 @@ module _ {A : Type 0} (look : Step A) (next : A → FileStep) (most : ℕ) (aske
     -- the change is made
     pub tries-changed : (n end : ℕ) → change.effect n ≡ leaves (end_by asker.caller.regs (Ok end)) files
         → HasChanged (asked_of change asker) (Ok n) change.drive v file files new before now
-        → Tries (next_step look next) most asker files (Ok end) new before now
+        → TriesNameCall (next_step look next) most asker files (Ok end) new before now
     tries-changed n end effect_is changed = record {
       left = with_drives (with_volume files change.drive changed.left) (drive_states now);
       does = λ terms.
@@ -168,7 +168,7 @@ module _ {A : Type 0} (look : Step A) (next : A → FileStep) (most : ℕ) (aske
 
     -- the drive failed in it
     pub tries-broken-change : (number : ℕ) → files.drives ≡ drive_states before → HasChanged (asked_of change asker)
-        (Err (File (Device number))) change.drive v file files new before now → Tries (next_step look next) most asker
+        (Err (File (Device number))) change.drive v file files new before now → TriesNameCall (next_step look next) most asker
         files (Err number) new before now
     tries-broken-change number drives changed = record {
       left = with_drives (with_volume files change.drive changed.left) (drive_states now);

@@ -8,7 +8,7 @@ use Rattle.os9_outer.specs.TerminalState.{TerminalState}
 use Rattle.os9_base.specs.declared.registers.Pid.{Pid}
 use Rattle.os9_base.specs.declared.registers.Regs.{Regs}
 use Rattle.device_paths.specs.Standing.{NamesFrom, NamesStand}
-use Rattle.proc_state.specs.Tie.{Represents}
+use Rattle.proc_state.specs.Tie.{RepresentsProcesses}
 use Rattle.proc_state.specs.declared.state.ProcState.{ProcState}
 use Rattle.proc_model.specs.Processes.{Processes, cells_at, regs_at, user_at}
 use Rattle.io_model.specs.Io.{Io, with_call}
@@ -28,13 +28,13 @@ use Rattle.file_drives.specs.Drives.{DriveView, drive_states}
 use Rattle.file_drives.specs.Mounted.{HasFileAt}
 use Rattle.file_state.proofs.CountLemmas.{called-read}
 use Rattle.file_state.proofs.ReachedLemmas as reached
-use Rattle.file_state.specs.Ends.{Ends}
-use Rattle.file_state.specs.Tie.{StandsFor}
+use Rattle.file_state.specs.Ends.{EndsFileAttempt}
+use Rattle.file_state.specs.Tie.{RepresentsFiles}
 use Rattle.file_state.specs.declared.state.FileState.{FileState}
 use Rattle.file_routes.proofs.ReachLemmas.{volume-there, walk-comes, walks-forbidden, walks-found, walks-reaches, walks-unfound, WalkComes}
 use Rattle.file_routes.proofs.VolumeLemmas.{file-there}
-use Rattle.file_routes.specs.Reached.{Finds}
-use Rattle.file_routes.specs.Walks.{Walks}
+use Rattle.file_routes.specs.Reached.{FindsFilePlace}
+use Rattle.file_routes.specs.Walks.{WalksAlongNames}
 use Rattle.file_routes.specs.declared.walk.Walker.{Walker}
 use Rattle.name_calls.proofs.OpenCallLemmas.{walk-found, walk-within}
 use Rattle.name_calls.proofs.OpenEndLemmas.{broken, ends-as, read-ends, read-more, regs-tied, user-tied, well-refused}
@@ -44,7 +44,7 @@ use Rattle.name_calls.specs.Steps.{walker_at}
 
 module _ (m : Processes) (was : Files) (now : TimePacket) (p : ℕ) (terms : List TerminalState) (walker : Walker)
     (from : FilePlace) (names : List (List ℕ)) (state new : FileState) (before after : List DriveView)
-    (user : (asker_of m p now).user ≡ walker.by.user) (stands : StandsFor state before was) (has : HasFileAt state.disks
+    (user : (asker_of m p now).user ≡ walker.by.user) (stands : RepresentsFiles state before was) (has : HasFileAt state.disks
     before from) (io : new.io ≡ state.io) (directories : new.directories ≡ state.directories)
     (records : new.records ≡ state.records) (next : Found → FileStep) where
   abbrev step : FileStep
@@ -61,7 +61,7 @@ module _ (m : Processes) (was : Files) (now : TimePacket) (p : ℕ) (terms : Lis
   pub reached-there : drive_of step ≡ Some from.drive
   reached-there = walks-reaches (asker_of m p now) walker was from names user next on-volume.0 on-volume.1
 
-  module _ (arrived : Result FilePlace DirError) (it : Walks walker from names arrived state.disks before new.disks after) where
+  module _ (arrived : Result FilePlace DirError) (it : WalksAlongNames walker from names arrived state.disks before new.disks after) where
     -- and was read, by the volume
     pub read : (v : DiskVolume) → volume_at was from.drive ≡ Some v
         → HasReadIn (walk_calls v.files walker.by.user walker.by.execute from.number names) (directory_fault arrived)
@@ -80,7 +80,7 @@ module _ (m : Processes) (was : Files) (now : TimePacket) (p : ℕ) (terms : Lis
   -- ---- it was refused, or its drive failed
 
   pub walk-refused : ((v : DiskVolume) → MayBeLeft (deed_of step was) (asker_of m p now) v v) → (error : DirError)
-      → Walks walker from names (Err error) state.disks before new.disks after → FileDoes step (asker_of m p now) was
+      → WalksAlongNames walker from names (Err error) state.disks before new.disks after → FileDoes step (asker_of m p now) was
       (refuses_so (directory_error error) (with_drives was (drive_states after))) terms terms
   walk-refused stays NotAllowed it =
       well-refused m was now p terms step from.drive new before after E_FNA
@@ -100,8 +100,8 @@ module _ (m : Processes) (was : Files) (now : TimePacket) (p : ℕ) (terms : Lis
 
   -- ---- it arrived
 
-  module _ (place : FilePlace) (it : Walks walker from names (Ok place) state.disks before new.disks after) where
-    pub finds : Finds walker was from names place
+  module _ (place : FilePlace) (it : WalksAlongNames walker from names (Ok place) state.disks before new.disks after) where
+    pub finds : FindsFilePlace walker was from names place
     finds = comes-to (Ok place) it
 
     pub found-at : IsFoundAt was place finds.found
@@ -136,7 +136,7 @@ module _ (m : Processes) (was : Files) (now : TimePacket) (p : ℕ) (terms : Lis
     asked : walk_and walker.by.user walker.by.execute from.number names most (volume_at was from.drive) ≡ walked_calls walker.by.execute
     asked = ap (λ (user : ℕ). walk_and user walker.by.execute from.number names most (volume_at was from.drive)) (sym user)
 
-    read-within : (arrived : Result FilePlace DirError) → Walks walker from names arrived state.disks before new.disks
+    read-within : (arrived : Result FilePlace DirError) → WalksAlongNames walker from names arrived state.disks before new.disks
         after → HasReadIn (walked_calls walker.by.execute) (directory_fault arrived) from.drive was new before after
     read-within arrived it =
         subst (λ (n : ℕ). HasReadIn n (directory_fault arrived) from.drive was new before after) asked
@@ -148,27 +148,27 @@ module _ (m : Processes) (was : Files) (now : TimePacket) (p : ℕ) (terms : Lis
 
     module _ (end : CallEnd) (processes : ProcState) where
       -- refused
-      pub walk-ends : (error : DirError) (it : Walks walker from names (Err error) state.disks before new.disks after)
+      pub walk-ends : (error : DirError) (it : WalksAlongNames walker from names (Err error) state.disks before new.disks after)
           (io_then : Io) → io_then ≡ with_call new.io p None → end ≡ Error (directory_error error)
-          → Represents processes m → ((v : DiskVolume) → MayBeLeft (deed_of step was) (asker_of m p now) v v)
-          → Ends (walked execute) (walked_calls execute) m was now p end processes (record new { io = io_then })
+          → RepresentsProcesses processes m → ((v : DiskVolume) → MayBeLeft (deed_of step was) (asker_of m p now) v v)
+          → EndsFileAttempt (walked execute) (walked_calls execute) m was now p end processes (record new { io = io_then })
           before after terms
       walk-ends error it io_then io_is end_is tied stays =
-          subst (λ (execute : Bool). Ends (walked execute) (walked_calls execute) m was now p end processes (record new { io = io_then }) before after terms) execute_is
+          subst (λ (execute : Bool). EndsFileAttempt (walked execute) (walked_calls execute) m was now p end processes (record new { io = io_then }) before after terms) execute_is
           (read-ends m p new after end processes io_then io_is (directory_error error) end_is tied was now terms
           (walked_calls walker.by.execute) step (directory_fault {A = FilePlace} (Err error)) from.drive before
           reached-there
           (read-within (Err error) it) (walk-refused stays error it))
 
       -- as it does at the file that was found
-      pub walk-goes : (place : FilePlace) (it : Walks walker from names (Ok place) state.disks before new.disks after)
-          (left : FileState) (later : List DriveView) → Ends (reaches (finds place it).found.place.drive
+      pub walk-goes : (place : FilePlace) (it : WalksAlongNames walker from names (Ok place) state.disks before new.disks after)
+          (left : FileState) (later : List DriveView) → EndsFileAttempt (reaches (finds place it).found.place.drive
           (next (finds place it).found)) (calls_before place it + most (finds place it).found.volume
-          (finds place it).found.file) m was now p end processes left before later terms → Ends (walked execute)
+          (finds place it).found.file) m was now p end processes left before later terms → EndsFileAttempt (walked execute)
           (walked_calls execute) m was now p end processes left before later terms
       walk-goes place it left later ended =
-          let found : Finds walker was from names place = finds place it in
-          subst (λ (execute : Bool). Ends (walked execute) (walked_calls execute) m was now p end processes left before later terms) execute_is
+          let found : FindsFilePlace walker was from names place = finds place it in
+          subst (λ (execute : Bool). EndsFileAttempt (walked execute) (walked_calls execute) m was now p end processes left before later terms) execute_is
           (ends-as m was now p end processes left before later terms
           (reaches found.found.place.drive (next found.found)) step
           (calls_before place it + most found.found.volume found.found.file) (walked_calls walker.by.execute)
@@ -185,7 +185,7 @@ pub record IsWalkerOf (m : Processes) (p : ℕ) (walker : Walker) : Type 0 where
   pub stand : (first : ℕ) (names : List (List ℕ)) → NamesStand (cells_at m p) first names → NamesStand (cells_at m walker.process.0) first names
   pub names : (first : Option ℕ) (names : List (List ℕ)) → NamesFrom (cells_at m p) first names → NamesFrom (cells_at m walker.process.0) first names
 
-pub walker-tied : (s : ProcState) (m : Processes) (p : Pid) (walker : Walker) → Represents s m → walker ≡ walker_at s p → IsWalkerOf m p.0 walker
+pub walker-tied : (s : ProcState) (m : Processes) (p : Pid) (walker : Walker) → RepresentsProcesses s m → walker ≡ walker_at s p → IsWalkerOf m p.0 walker
 walker-tied s m p walker tied is = subst (IsWalkerOf m p.0) (sym is) (record {
   user = user-tied s m p.0 tied;
   execute = ap (λ (regs : Regs). is_for_execution regs.a) (sym (regs-tied s m p.0 tied));

@@ -15,20 +15,20 @@ use Rattle.file_drives.specs.Mounted.{HasFileAt}
 use Rattle.file_state.proofs.CountLemmas.{called-more, called-read}
 use Rattle.file_state.proofs.ReachedLemmas as reached
 use Rattle.file_state.specs.Counted.{CalledAtMost, calls_of}
-use Rattle.file_state.specs.Reached.{HasRead}
-use Rattle.file_state.specs.Tie.{StandsFor}
+use Rattle.file_state.specs.Reached.{HasReadDrive}
+use Rattle.file_state.specs.Tie.{RepresentsFiles}
 use Rattle.file_state.specs.declared.state.FileState.{FileState}
 use Rattle.file_routes.proofs.ReachLemmas.{volume-there, walk-comes, walks-forbidden, walks-found, walks-reaches, walks-unfound, WalkComes}
 use Rattle.file_routes.proofs.VolumeLemmas.{file-there}
-use Rattle.file_routes.specs.Reached.{Finds}
-use Rattle.file_routes.specs.Walks.{Walks}
+use Rattle.file_routes.specs.Reached.{FindsFilePlace}
+use Rattle.file_routes.specs.Walks.{WalksAlongNames}
 use Rattle.file_routes.specs.declared.walk.Walker.{Walker}
 use Rattle.name_calls.proofs.ListCallLemmas.{calls-reached}
 use Rattle.name_calls.specs.Locating.{IsFileIn}
-use Rattle.name_calls.specs.Looks.{Looks, LooksFor, answer_of}
+use Rattle.name_calls.specs.Looks.{Looks, SearchHasResult, answer_of}
 
 -- a file that was found
-pub found-in : (walker : Walker) (files : Files) (from : FilePlace) (names : List (List ℕ)) (place : FilePlace) (it : Finds walker files from names place) → IsFileIn files it.found
+pub found-in : (walker : Walker) (files : Files) (from : FilePlace) (names : List (List ℕ)) (place : FilePlace) (it : FindsFilePlace walker files from names place) → IsFileIn files it.found
 found-in walker files from names place it = record {
   volume_is = ap (λ (at : FilePlace). volume_at files at.drive) it.place_is ∙ ap (volume_at files) it.drive_is ∙ it.volume_is;
   file_is = ap (λ (at : FilePlace). it.found.volume.files at.number) it.place_is ∙ it.file_is;
@@ -36,14 +36,14 @@ found-in walker files from names place it = record {
 
 module _ {A : Type 0} (asker : Asker) (walker : Walker) (files : Files) (from : FilePlace) (names : List (List ℕ)) (user : asker.user ≡ walker.by.user) (next : Found → Step A) where
   -- its drive was reached
-  pub reached-there : (place : FilePlace) (it : Finds walker files from names place) → drive_of (walks asker files walker.by.execute from names next) ≡ Some it.found.place.drive
+  pub reached-there : (place : FilePlace) (it : FindsFilePlace walker files from names place) → drive_of (walks asker files walker.by.execute from names next) ≡ Some it.found.place.drive
   reached-there place it =
       walks-reaches asker walker files from names user next it.found.volume it.volume_is
       ∙ ap (λ (drive : ℕ). Some drive) (sym it.drive_is ∙ ap (λ (at : FilePlace). at.drive) (sym it.place_is))
 
 module _ {A R : Type 0} (fact : A → R → Type 0) (made : Found → A) (asker : Asker) (walker : Walker) (files : Files)
     (from : FilePlace) (names : List (List ℕ)) (state new : FileState) (views now : List DriveView)
-    (user : asker.user ≡ walker.by.user) (stands : StandsFor state views files) (has : HasFileAt state.disks views from)
+    (user : asker.user ≡ walker.by.user) (stands : RepresentsFiles state views files) (has : HasFileAt state.disks views from)
     (io : new.io ≡ state.io) (directories : new.directories ≡ state.directories)
     (records : new.records ≡ state.records) (most : ℕ) (enough : (v : DiskVolume) → volume_at files from.drive ≡ Some
     v → walk_calls v.files walker.by.user walker.by.execute from.number names ≤ most) where
@@ -58,8 +58,8 @@ module _ {A R : Type 0} (fact : A → R → Type 0) (made : Found → A) (asker 
       let volume = volume-there state.disks views from files.volumes has stands.mounted in
       ap (option_and_then (λ (v : DiskVolume). v.files from.number)) volume.1 ∙ file-there state.disks views from has files.volumes volume.0 stands.mounted volume.1
 
-  module _ (arrived : Result FilePlace DirError) (it : Walks walker from names arrived state.disks views new.disks now) where
-    read : HasRead (directory_fault arrived) from.drive files new views now
+  module _ (arrived : Result FilePlace DirError) (it : WalksAlongNames walker from names arrived state.disks views new.disks now) where
+    read : HasReadDrive (directory_fault arrived) from.drive files new views now
     read = reached.has-read state new views now files from has.file (directory_fault arrived)
         (λ v file. walk_calls v.files walker.by.user walker.by.execute from.number names) stands there io directories
         records it.drive
@@ -77,14 +77,14 @@ module _ {A R : Type 0} (fact : A → R → Type 0) (made : Found → A) (asker 
     comes-to : WalkComes walker files from names arrived
     comes-to = walk-comes walker files from names state.disks views new.disks now has stands.mounted arrived it
 
-  well : (answer : Result A ℕ) (end : Step A) → step ≡ reaches from.drive end → answer_of end ≡ answer → HasRead None from.drive files new views now → Looks step answer files new views now
+  well : (answer : Result A ℕ) (end : Step A) → step ≡ reaches from.drive end → answer_of end ≡ answer → HasReadDrive None from.drive files new views now → Looks step answer files new views now
   well answer end is ends it = inl (record { is = sym ends ∙ sym (ap answer_of is); drive = from.drive; reached = inl (ap drive_of is); read = it })
 
-  pub walk-found : (place : FilePlace) (thing : R) → Walks walker from names (Ok place) state.disks views new.disks
-      now → ((it : Finds walker files from names place) → fact (made it.found) thing) → LooksFor fact step most
+  pub walk-found : (place : FilePlace) (thing : R) → WalksAlongNames walker from names (Ok place) state.disks views new.disks
+      now → ((it : FindsFilePlace walker files from names place) → fact (made it.found) thing) → SearchHasResult fact step most
       (Ok thing) files new views now
   walk-found place thing it holds =
-      let found : Finds walker files from names place = comes-to (Ok place) it in
+      let found : FindsFilePlace walker files from names place = comes-to (Ok place) it in
       record {
         answer = Ok (made found.found);
         is = holds found;
@@ -93,7 +93,7 @@ module _ {A R : Type 0} (fact : A → R → Type 0) (made : Found → A) (asker 
         calls = called (Ok place) it;
       }
 
-  pub walk-lost : (error : DirError) → Walks walker from names (Err error) state.disks views new.disks now → LooksFor fact step most (Err (directory_error error)) files new views now
+  pub walk-lost : (error : DirError) → WalksAlongNames walker from names (Err error) state.disks views new.disks now → SearchHasResult fact step most (Err (directory_error error)) files new views now
   walk-lost NotAllowed it = record {
     answer = Err E_FNA;
     is = refl;

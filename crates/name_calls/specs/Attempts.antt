@@ -7,7 +7,7 @@ use Rattle.os9_outer.specs.TerminalState.{TerminalState}
 use Rattle.proc_model.specs.Processes.{Processes, cells_at}
 use Rattle.io_model.specs.PathList.{PathList, ends_in_dots}
 use Rattle.device_paths.specs.Standing.{NamesFrom}
-use Rattle.proc_state.specs.Tie.{Represents}
+use Rattle.proc_state.specs.Tie.{RepresentsProcesses}
 use Rattle.rbf_change.specs.Names.{is_dots}
 use Rattle.file_rules.specs.Attempts.{asker_of}
 use Rattle.file_rules.specs.Files.{Files}
@@ -16,8 +16,8 @@ use Rattle.file_rules.specs.Route.{Found, along, IsFoundAt}
 use Rattle.lock_model.specs.declared.place.FilePlace.{FilePlace}
 use Rattle.file_drives.specs.Drives.{DriveView}
 use Rattle.file_state.specs.Attempt.{Standing}
-use Rattle.file_state.specs.Ends.{Ends}
-use Rattle.file_state.specs.Tie.{StandsFor}
+use Rattle.file_state.specs.Ends.{EndsFileAttempt}
+use Rattle.file_state.specs.Tie.{RepresentsFiles}
 use Rattle.name_calls.specs.OpenCalls.{creating_calls, new_file_calls, opening_calls}
 use Rattle.name_calls.specs.Ends.{HasReadIn}
 use Rattle.name_calls.specs.Steps.{creates_along, creates_there, opens_along}
@@ -25,10 +25,11 @@ use Rattle.name_calls.specs.declared.naming.LastLocated.{LastLocated}
 
 -- an attempt of a process, at a time, does what the step says, for any terminals: it ends so, and leaves this state;
 -- since the drives were `drives`, it called them at most `most` times
-abbrev pub EndsIn : FileStep → ℕ → Processes → Files → TimePacket → ℕ → CallEnd → List DriveView → Standing → Type 0
-EndsIn step most m was now p end drives after =
+abbrev pub EndsForAnyTerminals : FileStep → ℕ → Processes → Files → TimePacket → ℕ → CallEnd → List DriveView → Standing
+    → Type 0
+EndsForAnyTerminals step most m was now p end drives after =
     (terms : List TerminalState)
-    → Ends step most m was now p end after.processes after.files drives after.views terms
+    → EndsFileAttempt step most m was now p end after.processes after.files drives after.views terms
 
 -- ---- from a directory along names
 
@@ -36,8 +37,8 @@ EndsIn step most m was now p end drives after =
 -- names, and it ends before `next`
 abbrev pub OnEachList : Standing → ℕ → Option ℕ → ℕ → (Processes → Files → PathList → Type 0) → Type 0
 OnEachList before p first next fact =
-    (m : Processes) (was : Files) (list : PathList) → Represents before.processes m
-    → StandsFor before.files before.views was → NamesFrom (cells_at m p) first list.names → list.next ≡ next
+    (m : Processes) (was : Files) (list : PathList) → RepresentsProcesses before.processes m
+    → RepresentsFiles before.files before.views was → NamesFrom (cells_at m p) first list.names → list.next ≡ next
     → fact m was list
 
 -- I$Open, from a directory along the names of such a list
@@ -45,7 +46,7 @@ abbrev pub OpensAlong : FilePlace → Option ℕ → ℕ → TimePacket → ℕ 
 OpensAlong from first next now p end before after =
     OnEachList before p first next
     (λ m was list.
-    EndsIn (opens_along (asker_of m p now) was list from)
+    EndsForAnyTerminals (opens_along (asker_of m p now) was list from)
     (opening_calls (asker_of m p now) was (along from list.names)) m was now p end before.views after)
 
 -- I$Create, with the last of the names, which is not dots
@@ -54,7 +55,7 @@ CreatesAlong from first next now p end before after =
     OnEachList before p first next
     (λ m was list.
     ends_in_dots list ≡ false
-    → EndsIn (creates_along (asker_of m p now) was list from)
+    → EndsForAnyTerminals (creates_along (asker_of m p now) was list from)
     (creating_calls (asker_of m p now) was (along from list.names)) m was now p end before.views after)
 
 -- ---- in the directory that a walk has reached
@@ -64,8 +65,8 @@ CreatesAlong from first next now p end before after =
 abbrev pub CreatesThere : LastLocated → TimePacket → ℕ → CallEnd → Standing → Standing → Type 0
 CreatesThere located now p end before after =
     (m : Processes) (was : Files) (list : PathList) (dir : Found) (most : ℕ) (drives : List DriveView)
-    → Represents before.processes m
+    → RepresentsProcesses before.processes m
     → HasReadIn most None located.last.directory.drive was before.files drives before.views
     → IsFoundAt was located.last.directory dir → list.next ≡ located.next → is_dots located.last.name ≡ false
-    → EndsIn (creates_there (asker_of m p now) was list located.last.name dir)
+    → EndsForAnyTerminals (creates_there (asker_of m p now) was list located.last.name dir)
     (most + new_file_calls (asker_of m p now) located.last.name dir.volume dir.file) m was now p end drives after

@@ -8,9 +8,9 @@ use Rattle.file_state.specs.declared.state.FileState.{FileState}
 use Rattle.file_routes.specs.Routes.{next_step}
 use Rattle.file_routes.specs.declared.route.Purpose.TheVariants.{Existing}
 use Rattle.name_calls.specs.ListCalls.{deleting_calls}
-use Rattle.name_calls.specs.Looks.{HasFound}
-use Rattle.name_calls.specs.Naming.{IsNamed, NamedBy}
-use Rattle.name_calls.specs.Tries.{Tries}
+use Rattle.name_calls.specs.Looks.{HasFoundInSearch}
+use Rattle.name_calls.specs.Naming.{IsNameLocated, NamedBy}
+use Rattle.name_calls.specs.Tries.{TriesNameCall}
 use Rattle.name_calls.specs.declared.naming.LastLocated.{LastLocated}
 
 abbrev pub deletes_it : Asker → Files → Bool → NamedBy → FileStep
@@ -27,6 +27,7 @@ abbrev pub DeletesIn : ℕ → Bool → LastLocated → FileState → List Drive
     → Type 0
 DeletesIn user execute located old views result new after =
     (look : Step NamedBy) (seen : ℕ) (asker : Asker) (files : Files) (before : List DriveView) → asker.user ≡ user
-    → (loc : HasFound (IsNamed Existing look files) look seen located files old before views)
-    → Tries (next_step look (deletes_it asker files execute)) (deletes_it_calls seen asker execute loc.it) asker files
+    → (loc : HasFoundInSearch (IsNameLocated Existing look files) look seen located files old before views)
+    → TriesNameCall (next_step look (deletes_it asker files execute)) (deletes_it_calls seen asker execute loc.it) asker
+    files
     result new before after

@@ -11,7 +11,7 @@ use Rattle.file_state.specs.declared.state.FileState.{FileState}
 use Rattle.file_routes.specs.Routes.{refuses_by}
 use Rattle.rbf_walk.specs.Walk.{directory_error}
 use Rattle.rbf_walk.specs.declared.error.DirError.{DirError}
-use Rattle.name_calls.specs.Looks.{LooksFor}
+use Rattle.name_calls.specs.Looks.{SearchHasResult}
 use Rattle.file_routes.specs.declared.route.Located.{Located}
 
 -- a path list, and the file that it names
@@ -54,4 +54,5 @@ located_by (Err error) next = Err (directory_error error)
 
 -- a search by this step has this result
 abbrev pub Locates : Step FoundBy → ℕ → Result Located ℕ → Files → FileState → List DriveView → List DriveView → Type 0
-Locates step most result files new before now = LooksFor (IsLocated step files) step most result files new before now
+Locates step most result files new before now = SearchHasResult (IsLocated step files) step most result files new before
+    now

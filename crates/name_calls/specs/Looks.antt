@@ -2,7 +2,7 @@
 use Rattle.std.specs.Prelude.{◌≡◌, ◌⊎◌, ℕ, Some, None, List, Result, Ok, Err}
 use Rattle.os9_base.specs.declared.registers.TimePacket.{TimePacket}
 use Rattle.proc_model.specs.Processes.{Processes}
-use Rattle.proc_state.specs.Tie.{Represents}
+use Rattle.proc_state.specs.Tie.{RepresentsProcesses}
 use Rattle.rbf_model.specs.Volume.{DiskVolume}
 use Rattle.file_rules.specs.Attempts.{asker_of}
 use Rattle.file_rules.specs.Files.{Asker, Files, volume_at}
@@ -10,8 +10,8 @@ use Rattle.file_rules.specs.Step.{Step, refused, comes, reaches, drive_of}
 use Rattle.file_drives.specs.Drives.{DriveView, drive_states}
 use Rattle.file_state.specs.Attempt.{Standing}
 use Rattle.file_state.specs.Counted.{CalledAtMost, calls_of}
-use Rattle.file_state.specs.Reached.{HasRead}
-use Rattle.file_state.specs.Tie.{StandsFor}
+use Rattle.file_state.specs.Reached.{HasReadDrive}
+use Rattle.file_state.specs.Tie.{RepresentsFiles}
 use Rattle.file_state.specs.declared.state.FileState.{FileState}
 
 -- the result of a step if no drive fails
@@ -26,7 +26,7 @@ pub record LooksWell {A : Type 0} (step : Step A) (answer : Result A ℕ) (files
   pub is : answer ≡ answer_of step
   pub drive : ℕ
   pub reached : (drive_of step ≡ Some drive) ⊎ (now ≡ before)
-  pub read : HasRead None drive files new before now
+  pub read : HasReadDrive None drive files new before now
 
 -- the drive that the step reached has failed, and the result is the number of that fault
 pub record LooksBroken {A : Type 0} (step : Step A) (answer : Result A ℕ) (files : Files) (new : FileState)
@@ -36,7 +36,7 @@ pub record LooksBroken {A : Type 0} (step : Step A) (answer : Result A ℕ) (fil
   pub volume : DiskVolume
   pub is : volume_at files drive ≡ Some volume
   pub number : ℕ
-  pub read : HasRead (Some number) drive files new before now
+  pub read : HasReadDrive (Some number) drive files new before now
   pub answer_is : answer ≡ Err number
 
 abbrev pub Looks : {A : Type 0} → Step A → Result A ℕ → Files → FileState → List DriveView → List DriveView → Type 0
@@ -53,7 +53,7 @@ AnswersBy fact (Ok it) (Err number) = ⊥
 AnswersBy fact (Err number) (Ok found) = ⊥
 
 -- the search has this result, and the drives were called at most `most` times if the step reaches one, else not at all
-pub record LooksFor {A R : Type 0} (fact : A → R → Type 0) (step : Step A) (most : ℕ) (result : Result R ℕ)
+pub record SearchHasResult {A R : Type 0} (fact : A → R → Type 0) (step : Step A) (most : ℕ) (result : Result R ℕ)
     (files : Files) (new : FileState) (before now : List DriveView) : Type 0 where
   pub answer : Result A ℕ
   pub is : AnswersBy fact answer result
@@ -66,19 +66,20 @@ pub record LooksFor {A R : Type 0} (fact : A → R → Type 0) (step : Step A) (
 abbrev pub LooksFrom : {A R : Type 0} → (Step A → Files → A → R → Type 0) → (Asker → Files → ℕ → Step A)
     → (Asker → Files → ℕ → ℕ) → ℕ → ℕ → Result R ℕ → Standing → Standing → Type 0
 LooksFrom fact step most p terms result before after =
-    (m : Processes) (was : Files) (now : TimePacket) → Represents before.processes m
-    → StandsFor before.files before.views was
-    → LooksFor (fact (step (asker_of m p now) was terms) was) (step (asker_of m p now) was terms)
+    (m : Processes) (was : Files) (now : TimePacket) → RepresentsProcesses before.processes m
+    → RepresentsFiles before.files before.views was
+    → SearchHasResult (fact (step (asker_of m p now) was terms) was) (step (asker_of m p now) was terms)
     (most (asker_of m p now) was terms) result was after.files before.views after.views
 
 -- the search has found this, and these are the drives after it
-pub record HasFound {A R : Type 0} (fact : A → R → Type 0) (step : Step A) (most : ℕ) (found : R) (files : Files)
+pub record HasFoundInSearch {A R : Type 0} (fact : A → R
+    → Type 0) (step : Step A) (most : ℕ) (found : R) (files : Files)
     (mid : FileState) (before views : List DriveView) : Type 0 where
   pub it : A
   pub is : fact it found
   pub answer : answer_of step ≡ Ok it
   pub drive : ℕ
   pub reached : (drive_of step ≡ Some drive) ⊎ (views ≡ before)
-  pub read : HasRead None drive files mid before views
+  pub read : HasReadDrive None drive files mid before views
   pub drives_are : files.drives ≡ drive_states before
   pub calls : CalledAtMost (calls_of step most) before views

@@ -9,9 +9,9 @@ use Rattle.io_state.specs.declared.requester.Requester.{Requester}
 use Rattle.file_routes.specs.Routes.{next_step}
 use Rattle.file_routes.specs.declared.route.Purpose.TheVariants.{New}
 use Rattle.name_calls.specs.ListCalls.{making_calls}
-use Rattle.name_calls.specs.Looks.{HasFound}
-use Rattle.name_calls.specs.Naming.{IsNamed, NamedBy}
-use Rattle.name_calls.specs.Tries.{Tries}
+use Rattle.name_calls.specs.Looks.{HasFoundInSearch}
+use Rattle.name_calls.specs.Naming.{IsNameLocated, NamedBy}
+use Rattle.name_calls.specs.Tries.{TriesNameCall}
 use Rattle.name_calls.specs.declared.naming.LastLocated.{LastLocated}
 
 abbrev pub makes_it : Asker → Files → NamedBy → FileStep
@@ -32,6 +32,7 @@ abbrev pub MakesIn : Requester → ℕ → LastLocated → FileState → List Dr
     → List DriveView → Type 0
 MakesIn by user located old views result new after =
     (look : Step NamedBy) (seen : ℕ) (asker : Asker) (files : Files) (before : List DriveView) → MakesFor by user asker
-    → (loc : HasFound (IsNamed New look files) look seen located files old before views)
-    → Tries (next_step look (makes_it asker files)) (makes_it_calls seen asker loc.it) asker files result new before
+    → (loc : HasFoundInSearch (IsNameLocated New look files) look seen located files old before views)
+    → TriesNameCall (next_step look (makes_it asker files)) (makes_it_calls seen asker loc.it) asker files result new
+    before
     after

@@ -16,7 +16,7 @@ use Rattle.file_routes.specs.declared.route.Purpose.TheVariants.{Existing, New}
 use Rattle.rbf_walk.specs.Walk.{directory_error}
 use Rattle.rbf_walk.specs.declared.error.DirError.{DirError}
 use Rattle.name_calls.specs.Locating.{IsFileIn}
-use Rattle.name_calls.specs.Looks.{LooksFor}
+use Rattle.name_calls.specs.Looks.{SearchHasResult}
 use Rattle.name_calls.specs.declared.naming.LastLocated.{LastLocated}
 
 -- a path list, its last name, and the directory that the names before it lead to
@@ -54,7 +54,8 @@ names_last purpose execute refusal asker files terms =
     (last_of list.names))
 
 -- the located name and its directory are those of a step, on the drive that the step reached
-pub record IsNamed (purpose : Purpose) (step : Step NamedBy) (files : Files) (it : NamedBy) (located : LastLocated)
+pub record IsNameLocated (purpose : Purpose) (step : Step NamedBy) (files : Files) (it : NamedBy)
+    (located : LastLocated)
     : Type 0 where
   pub place_is : it.directory.place ≡ located.last.directory
   pub name_is : it.name ≡ located.last.name
@@ -73,4 +74,4 @@ last_by (Err error) next = Err (directory_error error)
 abbrev pub LocatesLast : Purpose → Step NamedBy → ℕ → Result LastLocated ℕ → Files → FileState → List DriveView
     → List DriveView → Type 0
 LocatesLast purpose step most result files new before now =
-    LooksFor (IsNamed purpose step files) step most result files new before now
+    SearchHasResult (IsNameLocated purpose step files) step most result files new before now

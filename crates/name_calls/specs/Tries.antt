@@ -7,7 +7,7 @@ use Rattle.os9_base.specs.declared.registers.TimePacket.{TimePacket}
 use Rattle.os9_outer.specs.TerminalState.{TerminalState}
 use Rattle.proc_model.specs.Processes.{Processes}
 use Rattle.io_model.specs.Step.{IoEnd, answers, fails}
-use Rattle.proc_state.specs.Tie.{Represents}
+use Rattle.proc_state.specs.Tie.{RepresentsProcesses}
 use Rattle.file_drives.specs.Drives.{DriveView}
 use Rattle.file_rules.specs.Attempts.{asker_of}
 use Rattle.file_rules.specs.Files.{Asker, Files}
@@ -15,7 +15,7 @@ use Rattle.file_rules.specs.Step.{FileDoes, FileStep, leaves}
 use Rattle.file_state.specs.Attempt.{Standing}
 use Rattle.file_state.specs.Counted.{CalledAtMost, calls_of}
 use Rattle.file_state.specs.Media.{KeepsDrives}
-use Rattle.file_state.specs.Tie.{StandsFor}
+use Rattle.file_state.specs.Tie.{RepresentsFiles}
 use Rattle.file_state.specs.declared.state.FileState.{FileState}
 
 -- the end for a caller with these registers: its list ends before this address, or this is its error
@@ -29,20 +29,24 @@ told_by (Ok next) = Done
 told_by (Err number) = Error number
 
 -- an attempt with this step and this result, which calls the drives at most `most` times if the step reaches one
-pub record Tries (step : FileStep) (most : ℕ) (asker : Asker) (files : Files) (result : Result ℕ ℕ) (new : FileState)
+pub record TriesNameCall (step : FileStep) (most : ℕ) (asker : Asker) (files : Files) (result : Result ℕ ℕ)
+    (new : FileState)
     (before now : List DriveView) : Type 0 where
   pub left : Files
   pub does : (terms : List TerminalState)
       → FileDoes step asker files (leaves (end_by asker.caller.regs result) left) terms terms
-  pub stands : StandsFor new now left
+  pub stands : RepresentsFiles new now left
   pub calls : CalledAtMost (calls_of step most) before now
   pub drives : KeepsDrives step asker files (told_by result) before now
 
 -- such an attempt of a process, at a time and with this number of terminals, from each state of the machine that the
 -- kernel's state represents
-abbrev pub TriesFrom : (Asker → Files → ℕ → FileStep) → (Asker → Files → ℕ → ℕ) → TimePacket → ℕ → ℕ → Result ℕ ℕ
+abbrev pub TriesNameCallFrom : (Asker → Files → ℕ → FileStep) → (Asker → Files → ℕ → ℕ) → TimePacket → ℕ → ℕ
+    → Result ℕ ℕ
     → Standing → Standing → Type 0
-TriesFrom step most now p terms result before after =
-    (m : Processes) (was : Files) → Represents before.processes m → StandsFor before.files before.views was
-    → Tries (step (asker_of m p now) was terms) (most (asker_of m p now) was terms) (asker_of m p now) was result
+TriesNameCallFrom step most now p terms result before after =
+    (m : Processes) (was : Files) → RepresentsProcesses before.processes m
+    → RepresentsFiles before.files before.views was
+    → TriesNameCall (step (asker_of m p now) was terms) (most (asker_of m p now) was terms) (asker_of m p now) was
+    result
     after.files before.views after.views

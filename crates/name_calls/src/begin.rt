@@ -9,11 +9,11 @@ ghost use Rattle.name_calls.specs.Ends.{EndsQuietly};
 ghost use Rattle.name_calls.specs.Steps.{begins};
 ghost use Rattle.file_rules.specs.Attempts.{asker_of};
 ghost use Rattle.file_rules.specs.Files.{Files};
-ghost use Rattle.file_state.specs.Tie.{StandsFor};
+ghost use Rattle.file_state.specs.Tie.{RepresentsFiles};
 ghost use Rattle.io_model.specs.PathList.{PathList};
 ghost use Rattle.io_state.specs.Files.{IsOnDisk};
 ghost use Rattle.os9_base.specs.declared.registers.TimePacket.{TimePacket};
-ghost use Rattle.proc_state.specs.Tie.{Represents};
+ghost use Rattle.proc_state.specs.Tie.{RepresentsProcesses};
 
 use device_paths::ends::{answer, refuse};
 use file_state::machine::Machine;
@@ -30,8 +30,8 @@ pub(crate) fn begin_on(machine: &mut Machine, by: Requester, target: Target, nex
     requires calls { InFirstAttempt by machine.old }
     requires disk { IsOnDisk target }
     ensures begins { (m : Processes) (was : Files) (now : TimePacket) (list : PathList)
-        (views : List DriveView) → Represents machine.old.processes m
-        → StandsFor machine.old.files views was → list.next ≡ next
+        (views : List DriveView) → RepresentsProcesses machine.old.processes m
+        → RepresentsFiles machine.old.files views was → list.next ≡ next
         → EndsQuietly (begins (asker_of m by.p.0 now) was list target)
         m was by.p.0 result machine.new.processes machine.new.files views }
     ensures lives { IsLiving machine.new.processes.table by.p.0 }

@@ -4,7 +4,7 @@ ghost use Rattle.std.specs.Prelude.{◌≡◌, List, Ok, Err, length, vec_len, i
 ghost use Rattle.file_rules.specs.ChgDir as model;
 ghost use Rattle.file_rules.specs.declared.path_call.PathCall.TheVariants as Call;
 ghost use Rattle.file_state.specs.Counted.{AttemptsWithin};
-ghost use Rattle.file_state.specs.Tie.{IsSound};
+ghost use Rattle.file_state.specs.Tie.{AreSoundFiles};
 ghost use Rattle.file_state.specs.Context.{InFirstAttempt};
 ghost use Rattle.name_calls.specs.ListCalls.{i_chgdir_calls};
 ghost use Rattle.name_calls.specs.ChgDir.{looks_for_directory};
@@ -13,7 +13,7 @@ ghost use Rattle.name_calls.specs.Locating.{IsLocated};
 ghost use Rattle.name_calls.specs.Looks.{LooksFrom};
 ghost use Rattle.os9_base.specs.declared.registers.TimePacket.{TimePacket};
 ghost use Rattle.os9_outer.specs.TerminalState.{TerminalState};
-ghost use Rattle.proc_state.specs.Tie.{IsSame};
+ghost use Rattle.proc_state.specs.Tie.{AreProcessesSame};
 ghost use Rattle.rbf_access.specs.Reading.{IsFdOf};
 ghost use Rattle.rbf_model.specs.File.{DiskFile};
 ghost use Rattle.file_drives.specs.Drives.{drives_seen};
@@ -48,7 +48,7 @@ use rbf_walk::may;
 /// the drive fails. No directory has changed then.
 pub fn i_chgdir(machine: &mut Machine, devices: &mut Devices, by: Requester) -> CallEnd
     requires calls { InFirstAttempt by machine.old }
-    requires sound { IsSound machine.old.files (drives_seen BlockDriver-box devices.old) }
+    requires sound { AreSoundFiles machine.old.files (drives_seen BlockDriver-box devices.old) }
     ensures call { (now : TimePacket) (terms : List TerminalState)
         → length terms ≡ vec_len devices.old.terms
         → AttemptsWithin i_chgdir_calls Call.ChgDir now by.p.0 result terms terms
@@ -80,12 +80,12 @@ fn find_directory(
     by: Requester,
 ) -> Result<Located, u8>
     requires calls { InCall by machine.old.processes }
-    requires sound { IsSound machine.old.files (drives_seen BlockDriver-box devices.old) }
+    requires sound { AreSoundFiles machine.old.files (drives_seen BlockDriver-box devices.old) }
     ensures finds { LooksFrom IsLocated looks_for_directory i_chgdir_calls by.p.0
         (vec_len devices.old.terms) result (machine_seen BlockDriver-box machine.old devices.old)
         (machine_seen BlockDriver-box machine.new devices.new) }
     ensures rest_kept { KeepsAllButDisks machine.old.files machine.new.files }
-    ensures same { IsSame machine.old.processes machine.new.processes }
+    ensures same { AreProcessesSame machine.old.processes machine.new.processes }
     ensures kept { SameTerminals by machine.new.processes devices.old devices.new }
 {
     let mode = by.regs.a;

@@ -10,7 +10,7 @@ ghost use Rattle.name_calls.specs.Attempts.{CreatesAlong, CreatesThere};
 ghost use Rattle.name_calls.specs.OpenCalls.{i_create_calls};
 ghost use Rattle.file_rules.specs.declared.path_call.PathCall.TheVariants as Call;
 ghost use Rattle.file_state.specs.Counted.{AttemptsWithin};
-ghost use Rattle.file_state.specs.Tie.{IsSound};
+ghost use Rattle.file_state.specs.Tie.{AreSoundFiles};
 ghost use Rattle.file_routes.specs.Walks.{SomeFrom};
 ghost use Rattle.guest_memory.specs.Tie.{cells_of};
 ghost use Rattle.os9_outer.specs.TerminalState.{TerminalState};
@@ -54,7 +54,7 @@ use rbf_entries::NewEntry;
 /// media unchanged.
 pub fn i_create(machine: &mut Machine, devices: &mut Devices, by: Requester) -> CallEnd
     requires calls { InFirstAttempt by machine.old }
-    requires sound { IsSound machine.old.files (drives_seen BlockDriver-box devices.old) }
+    requires sound { AreSoundFiles machine.old.files (drives_seen BlockDriver-box devices.old) }
     ensures call { (terms : List TerminalState) → length terms ≡ vec_len devices.old.terms
         → AttemptsWithin i_create_calls Call.Create by.time by.p.0 result terms terms
         (machine_seen BlockDriver-box machine.old devices.old)

@@ -8,16 +8,16 @@ ghost use Rattle.file_drives.specs.Mounted.{HasFileAt};
 ghost use Rattle.file_rules.specs.Delete.{deletes_by};
 ghost use Rattle.file_rules.specs.declared.path_call.PathCall.TheVariants as Call;
 ghost use Rattle.file_state.specs.Counted.{AttemptsWithin};
-ghost use Rattle.file_state.specs.Tie.{IsSound};
+ghost use Rattle.file_state.specs.Tie.{AreSoundFiles};
 ghost use Rattle.file_state.specs.Context.{InFirstAttempt};
 ghost use Rattle.name_calls.specs.ListCalls.{deletes_by_calls, i_delete_calls, i_deletx_calls};
 ghost use Rattle.name_calls.specs.Delete.{DeletesIn};
 ghost use Rattle.name_calls.specs.Kept.{KeepsAllButDisks};
-ghost use Rattle.name_calls.specs.Tries.{TriesFrom};
+ghost use Rattle.name_calls.specs.Tries.{TriesNameCallFrom};
 ghost use Rattle.file_routes.specs.Routes.{refuses_by};
 ghost use Rattle.os9_base.specs.declared.registers.TimePacket.{TimePacket};
 ghost use Rattle.os9_outer.specs.TerminalState.{TerminalState};
-ghost use Rattle.proc_state.specs.Tie.{IsSame};
+ghost use Rattle.proc_state.specs.Tie.{AreProcessesSame};
 
 use crate::ends::end_call;
 use crate::finding::{Lookup, Search};
@@ -48,7 +48,7 @@ use rbf_walk::Searcher;
 /// the fault, if the drive fails.
 pub fn i_delete(machine: &mut Machine, devices: &mut Devices, by: Requester) -> CallEnd
     requires calls { InFirstAttempt by machine.old }
-    requires sound { IsSound machine.old.files (drives_seen BlockDriver-box devices.old) }
+    requires sound { AreSoundFiles machine.old.files (drives_seen BlockDriver-box devices.old) }
     ensures call { (now : TimePacket) (terms : List TerminalState)
         → length terms ≡ vec_len devices.old.terms
         → AttemptsWithin i_delete_calls Call.Delete now by.p.0 result terms terms
@@ -75,7 +75,7 @@ pub fn i_delete(machine: &mut Machine, devices: &mut Devices, by: Requester) -> 
 /// E$BPAddr and before all others.
 pub fn i_deletx(machine: &mut Machine, devices: &mut Devices, by: Requester) -> CallEnd
     requires calls { InFirstAttempt by machine.old }
-    requires sound { IsSound machine.old.files (drives_seen BlockDriver-box devices.old) }
+    requires sound { AreSoundFiles machine.old.files (drives_seen BlockDriver-box devices.old) }
     ensures call { (now : TimePacket) (terms : List TerminalState)
         → length terms ≡ vec_len devices.old.terms
         → AttemptsWithin i_deletx_calls Call.DeletX now by.p.0 result terms terms
@@ -105,14 +105,14 @@ fn delete_named(
     lookup: Lookup,
 ) -> Result<u32, u8>
     requires calls { InCall by machine.old.processes }
-    requires sound { IsSound machine.old.files (drives_seen BlockDriver-box devices.old) }
-    ensures tries { (now : TimePacket) → TriesFrom
+    requires sound { AreSoundFiles machine.old.files (drives_seen BlockDriver-box devices.old) }
+    ensures tries { (now : TimePacket) → TriesNameCallFrom
         (λ asker was terms. deletes_by asker was terms lookup.execute (refuses_by lookup.refusal))
         (deletes_by_calls lookup.execute) now by.p.0 (vec_len devices.old.terms) result
         (machine_seen BlockDriver-box machine.old devices.old)
         (machine_seen BlockDriver-box machine.new devices.new) }
     ensures io_kept { machine.new.files.io ≡ machine.old.files.io }
-    ensures same { IsSame machine.old.processes machine.new.processes }
+    ensures same { AreProcessesSame machine.old.processes machine.new.processes }
     ensures kept { SameTerminals by machine.new.processes devices.old devices.new }
 {
     let user = machine.processes.table.user(by.p);

@@ -7,11 +7,11 @@ ghost use Rattle.file_drives.specs.Drives.{drives_seen};
 ghost use Rattle.name_calls.specs.Steps.{walker_at};
 ghost use Rattle.file_rules.specs.Attempts.{asker_of};
 ghost use Rattle.file_rules.specs.Files.{Files};
-ghost use Rattle.file_state.specs.Tie.{IsSound, StandsFor};
+ghost use Rattle.file_state.specs.Tie.{AreSoundFiles, RepresentsFiles};
 ghost use Rattle.file_routes.specs.Routes.{IsRouteFor, RouteHasNames, RouteStarts};
 ghost use Rattle.guest_memory.specs.Tie.{cells_of};
 ghost use Rattle.os9_base.specs.declared.registers.TimePacket.{TimePacket};
-ghost use Rattle.proc_state.specs.Tie.{IsSame, Represents};
+ghost use Rattle.proc_state.specs.Tie.{AreProcessesSame, RepresentsProcesses};
 
 use crate::open_modes::is_for_execution;
 use device_table::devices::Devices;
@@ -72,14 +72,14 @@ pub(crate) fn find_route(
     search: Search,
 ) -> Result<Route, u8>
     requires calls { InCall by s.old }
-    requires sound { IsSound files.now (drives_seen BlockDriver-box devices.now) }
-    ensures route { (m : Processes) (was : Files) (now : TimePacket) → Represents s.old m
-        → StandsFor files.now (drives_seen BlockDriver-box devices.now) was
+    requires sound { AreSoundFiles files.now (drives_seen BlockDriver-box devices.now) }
+    ensures route { (m : Processes) (was : Files) (now : TimePacket) → RepresentsProcesses s.old m
+        → RepresentsFiles files.now (drives_seen BlockDriver-box devices.now) was
         → IsRouteFor search.purpose search.lookup.refusal (cells_at m by.p.0)
         (asker_of m by.p.0 now) was (vec_len devices.now.terms) search.lookup.execute result }
     ensures names { RouteHasNames (cells_of s.new.memory by.p.0) result }
     ensures start { RouteStarts files.now.disks (drives_seen BlockDriver-box devices.now) result }
-    ensures same { IsSame s.old s.new }
+    ensures same { AreProcessesSame s.old s.new }
 {
     let query = Query {
         process: by.p,

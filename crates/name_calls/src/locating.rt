@@ -5,12 +5,12 @@ ghost use Rattle.io_state.specs.Context.{InCall, SameTerminals};
 ghost use Rattle.file_state.specs.Context.{machine_seen};
 ghost use Rattle.file_drives.specs.Drives.{drives_seen};
 ghost use Rattle.file_drives.specs.Mounted.{HasFileAt};
-ghost use Rattle.file_state.specs.Tie.{IsSound};
+ghost use Rattle.file_state.specs.Tie.{AreSoundFiles};
 ghost use Rattle.name_calls.specs.ListCalls.{located_calls};
 ghost use Rattle.name_calls.specs.Kept.{KeepsAllButDisks};
 ghost use Rattle.name_calls.specs.Locating.{IsLocated, located_by, locates};
 ghost use Rattle.name_calls.specs.Looks.{LooksFrom};
-ghost use Rattle.proc_state.specs.Tie.{IsSame};
+ghost use Rattle.proc_state.specs.Tie.{AreProcessesSame};
 
 use crate::finding::{Lookup, Search, find_route};
 use device_table::devices::Devices;
@@ -38,7 +38,7 @@ pub(crate) fn locate(
     lookup: Lookup,
 ) -> Result<Located, u8>
     requires calls { InCall by machine.old.processes }
-    requires sound { IsSound machine.old.files (drives_seen BlockDriver-box devices.old) }
+    requires sound { AreSoundFiles machine.old.files (drives_seen BlockDriver-box devices.old) }
     ensures locates { LooksFrom IsLocated (locates lookup.execute lookup.refusal)
         (located_calls lookup.execute (λ v file. 0)) by.p.0 (vec_len devices.old.terms) result
         (machine_seen BlockDriver-box machine.old devices.old)
@@ -46,7 +46,7 @@ pub(crate) fn locate(
     ensures there { IfOk result (λ located. HasFileAt machine.new.files.disks
         (drives_seen BlockDriver-box devices.new) located.place) }
     ensures rest_kept { KeepsAllButDisks machine.old.files machine.new.files }
-    ensures same { IsSame machine.old.processes machine.new.processes }
+    ensures same { AreProcessesSame machine.old.processes machine.new.processes }
     ensures kept { SameTerminals by machine.new.processes devices.old devices.new }
 {
     let searcher = Searcher {

@@ -8,14 +8,14 @@ ghost use Rattle.file_drives.specs.Mounted.{HasFileAt};
 ghost use Rattle.file_rules.specs.MakDir as model;
 ghost use Rattle.file_rules.specs.declared.path_call.PathCall.TheVariants as Call;
 ghost use Rattle.file_state.specs.Counted.{AttemptsWithin};
-ghost use Rattle.file_state.specs.Tie.{IsSound};
+ghost use Rattle.file_state.specs.Tie.{AreSoundFiles};
 ghost use Rattle.file_state.specs.Context.{InFirstAttempt};
 ghost use Rattle.name_calls.specs.ListCalls.{i_makdir_calls};
 ghost use Rattle.name_calls.specs.Kept.{KeepsAllButDisks};
 ghost use Rattle.name_calls.specs.MakDir.{MakesIn};
-ghost use Rattle.name_calls.specs.Tries.{TriesFrom};
+ghost use Rattle.name_calls.specs.Tries.{TriesNameCallFrom};
 ghost use Rattle.os9_outer.specs.TerminalState.{TerminalState};
-ghost use Rattle.proc_state.specs.Tie.{IsSame};
+ghost use Rattle.proc_state.specs.Tie.{AreProcessesSame};
 
 use crate::ends::end_call;
 use crate::finding::{Lookup, Search};
@@ -43,7 +43,7 @@ use rbf_walk::Searcher;
 /// of the fault, if the drive fails.
 pub fn i_makdir(machine: &mut Machine, devices: &mut Devices, by: Requester) -> CallEnd
     requires calls { InFirstAttempt by machine.old }
-    requires sound { IsSound machine.old.files (drives_seen BlockDriver-box devices.old) }
+    requires sound { AreSoundFiles machine.old.files (drives_seen BlockDriver-box devices.old) }
     ensures call { (terms : List TerminalState) → length terms ≡ vec_len devices.old.terms
         → AttemptsWithin i_makdir_calls Call.MakDir by.time by.p.0 result terms terms
         (machine_seen BlockDriver-box machine.old devices.old)
@@ -61,12 +61,12 @@ pub fn i_makdir(machine: &mut Machine, devices: &mut Devices, by: Requester) -> 
 /// As `i_makdir`.
 fn make_directory(machine: &mut Machine, devices: &mut Devices, by: Requester) -> Result<u32, u8>
     requires calls { InCall by machine.old.processes }
-    requires sound { IsSound machine.old.files (drives_seen BlockDriver-box devices.old) }
-    ensures tries { TriesFrom model.i_makdir i_makdir_calls by.time by.p.0
+    requires sound { AreSoundFiles machine.old.files (drives_seen BlockDriver-box devices.old) }
+    ensures tries { TriesNameCallFrom model.i_makdir i_makdir_calls by.time by.p.0
         (vec_len devices.old.terms) result (machine_seen BlockDriver-box machine.old devices.old)
         (machine_seen BlockDriver-box machine.new devices.new) }
     ensures io_kept { machine.new.files.io ≡ machine.old.files.io }
-    ensures same { IsSame machine.old.processes machine.new.processes }
+    ensures same { AreProcessesSame machine.old.processes machine.new.processes }
     ensures kept { SameTerminals by machine.new.processes devices.old devices.new }
 {
     let user = machine.processes.table.user(by.p);

@@ -5,13 +5,13 @@ ghost use Rattle.io_state.specs.Context.{InCall, SameTerminals};
 ghost use Rattle.file_state.specs.Context.{machine_seen};
 ghost use Rattle.file_drives.specs.Drives.{drives_seen};
 ghost use Rattle.file_drives.specs.Mounted.{HasFileAt};
-ghost use Rattle.file_state.specs.Tie.{IsSound};
+ghost use Rattle.file_state.specs.Tie.{AreSoundFiles};
 ghost use Rattle.name_calls.specs.ListCalls.{named_calls};
 ghost use Rattle.name_calls.specs.Kept.{KeepsAllButDisks};
 ghost use Rattle.name_calls.specs.Looks.{LooksFrom};
-ghost use Rattle.name_calls.specs.Naming.{IsNamed, last_by, names_last};
+ghost use Rattle.name_calls.specs.Naming.{IsNameLocated, last_by, names_last};
 ghost use Rattle.name_calls.specs.Naming as model;
-ghost use Rattle.proc_state.specs.Tie.{IsSame};
+ghost use Rattle.proc_state.specs.Tie.{AreProcessesSame};
 
 use crate::finding::{Search, find_route};
 use device_table::devices::Devices;
@@ -48,8 +48,8 @@ pub(crate) fn locate_last(
     search: Search,
 ) -> Result<LastLocated, u8>
     requires calls { InCall by machine.old.processes }
-    requires sound { IsSound machine.old.files (drives_seen BlockDriver-box devices.old) }
-    ensures locates { LooksFrom (IsNamed search.purpose)
+    requires sound { AreSoundFiles machine.old.files (drives_seen BlockDriver-box devices.old) }
+    ensures locates { LooksFrom (IsNameLocated search.purpose)
         (names_last search.purpose search.lookup.execute search.lookup.refusal)
         (named_calls search.purpose search.lookup.execute (λ name v dir. 0)) by.p.0
         (vec_len devices.old.terms) result (machine_seen BlockDriver-box machine.old devices.old)
@@ -57,7 +57,7 @@ pub(crate) fn locate_last(
     ensures there { IfOk result (λ located. HasFileAt machine.new.files.disks
         (drives_seen BlockDriver-box devices.new) located.last.directory) }
     ensures rest_kept { KeepsAllButDisks machine.old.files machine.new.files }
-    ensures same { IsSame machine.old.processes machine.new.processes }
+    ensures same { AreProcessesSame machine.old.processes machine.new.processes }
     ensures kept { SameTerminals by machine.new.processes devices.old devices.new }
 {
     let searcher = Searcher {

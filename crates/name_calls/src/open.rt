@@ -16,14 +16,14 @@ ghost use Rattle.file_rules.specs.Open.{opens_found};
 ghost use Rattle.file_rules.specs.Route.{Found};
 ghost use Rattle.file_rules.specs.declared.path_call.PathCall.TheVariants as Call;
 ghost use Rattle.file_state.specs.Counted.{AttemptsWithin};
-ghost use Rattle.file_state.specs.Tie.{IsSound, StandsFor};
+ghost use Rattle.file_state.specs.Tie.{AreSoundFiles, RepresentsFiles};
 ghost use Rattle.file_routes.specs.Walks.{SomeFrom};
 ghost use Rattle.guest_memory.specs.Tie.{cells_of};
 ghost use Rattle.io_model.specs.PathList.{PathList};
 ghost use Rattle.os9_base.specs.declared.registers.TimePacket.{TimePacket};
 ghost use Rattle.os9_outer.specs.TerminalState.{TerminalState};
 ghost use Rattle.proc_model.specs.Records.{IsLiving};
-ghost use Rattle.proc_state.specs.Tie.{Represents};
+ghost use Rattle.proc_state.specs.Tie.{RepresentsProcesses};
 ghost use Rattle.rbf_access.specs.Reading.{IsFdOf};
 
 use crate::begin::begin_on;
@@ -61,7 +61,7 @@ use rbf_sector::Fd;
 /// `i_open_calls` times. It is only read, and the other drives are not called.
 pub fn i_open(machine: &mut Machine, devices: &mut Devices, by: Requester) -> CallEnd
     requires calls { InFirstAttempt by machine.old }
-    requires sound { IsSound machine.old.files (drives_seen BlockDriver-box devices.old) }
+    requires sound { AreSoundFiles machine.old.files (drives_seen BlockDriver-box devices.old) }
     ensures call { (now : TimePacket) (terms : List TerminalState)
         → length terms ≡ vec_len devices.old.terms
         → AttemptsWithin i_open_calls Call.Open now by.p.0 result terms terms
@@ -121,8 +121,8 @@ fn open_found(machine: &mut Machine, by: Requester, located: Located, fd: &Fd) -
     requires calls { InFirstAttempt by machine.old }
     ensures opens { (m : Processes) (was : Files) (now : TimePacket) (list : PathList)
         (found : Found)
-        (views : List DriveView) → Represents machine.old.processes m
-        → StandsFor machine.old.files views was → found.place ≡ located.place
+        (views : List DriveView) → RepresentsProcesses machine.old.processes m
+        → RepresentsFiles machine.old.files views was → found.place ≡ located.place
         → IsFdOf found.file fd.now → list.next ≡ located.next
         → EndsQuietly (opens_found (asker_of m by.p.0 now) was list found)
         m was by.p.0 result machine.new.processes machine.new.files views }

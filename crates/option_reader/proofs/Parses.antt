@@ -12,7 +12,7 @@ use Rattle.clap.specs.declared.error.kind.ErrorKind.{ErrorKind}
 use Rattle.clap.specs.declared.error.kind.ErrorKind.TheVariants.{OutOfMemory}
 use Rattle.option_reader.specs.Given.{Given, words_give}
 use Rattle.option_reader.specs.Dash.{has_dash_value}
-use Rattle.option_reader.specs.Rows.{HasValue, app_with, given_of}
+use Rattle.option_reader.specs.Rows.{HasOptionValue, app_with, given_of}
 use Rattle.option_reader.proofs.Rules.{built_with, option_built, rules_with, shape_with}
 use Rattle.option_reader.proofs.RowLemmas.{AreRowsOf}
 use Rattle.option_reader.proofs.Turns.{IsFault, at, rows_at_end, verdict}
@@ -106,10 +106,10 @@ module _ (names : List Text) (words : List Text) where
 pub taken : (names words : List Text) (rows : List Row) → All (λ name. name ≢ []) names → All IsUtf8 words
     → has_dash_value false words ≡ false → fault_of (app_with names) words ≡ [] → rows ≡ matches_of (app_with names)
     words
-    → (Some (given_of rows) ≡ words_give names words) × All HasValue rows
+    → (Some (given_of rows) ≡ words_give names words) × All HasOptionValue rows
 taken names words rows named texts no_dash quiet is = by (words_give names words) (words-agree names named words no_dash texts)
   where
-    by : (answer : Option Given) → Agrees names answer (at [] None idle false) words → (Some (given_of rows) ≡ answer) × All HasValue rows
+    by : (answer : Option Given) → Agrees names answer (at [] None idle false) words → (Some (given_of rows) ≡ answer) × All HasOptionValue rows
     by None agrees = absurd (subst IsFault (sym (fault-is names words) ∙ quiet) agrees)
     by (Some answer) agrees =
         let are = subst (λ all. AreRowsOf all answer) (sym (is ∙ matches-are names words)) agrees.1 in

@@ -11,12 +11,12 @@ use Rattle.clap.specs.declared.parser.matches.Found.{Found}
 use Rattle.clap.specs.Walk.{Row, Text, all_of, at_row, first_of, has_row, more_values, reading_by, used, with_values, rows_of}
 use Rattle.clap.specs.declared.parser.matches.ValueSource.TheVariants.{CommandLine}
 use Rattle.option_reader.specs.Given.{Given, is_given, value_of, with_arguments, with_option}
-use Rattle.option_reader.specs.Rows.{HasValue, given_of, option_of}
+use Rattle.option_reader.specs.Rows.{HasOptionValue, given_of, option_of}
 use Rattle.option_reader.proofs.Rules.{arguments_built, option_built, same_bytes, bytes-sym}
 
 -- the rows give this, and each has a value
 abbrev pub AreRowsOf : List Row → Given → Type 0
-AreRowsOf rows words = (given_of rows ≡ words) × All HasValue rows
+AreRowsOf rows words = (given_of rows ≡ words) × All HasOptionValue rows
 
 parts : (a b : Bool) → (a || b) ≡ false → (a ≡ false) × (b ≡ false)
 parts true b e = absurd (Rattle.std.proofs.Common.true≢false e)
@@ -53,7 +53,7 @@ option_joins name value rows words named new are =
     let gives : given_of (rows ++ row ∷ []) ≡ with_option (given_of rows) name value =
     λ i. record { options = options i; arguments = arguments i } in
     subst (λ all. AreRowsOf all (with_option words name value)) (sym (option_used name value rows new))
-    (gives ∙ ap (λ given. with_option given name value) are.0, All-push HasValue rows row are.1 (omega arith))
+    (gives ∙ ap (λ given. with_option given name value) are.0, All-push HasOptionValue rows row are.1 (omega arith))
 
 -- one more argument
 module _ (word : Text) where
@@ -80,13 +80,13 @@ module _ (word : Text) where
       by rest true e = rw (e, e) refl
       by rest false e = rw (e, e) rest
 
-  still_valued : (rows : List Row) → All HasValue rows → All HasValue (joined rows)
-  still_valued [] all = All-cons HasValue argument_row [] (omega arith) (All-nil HasValue)
-  still_valued (row ∷ rows) all = by (still_valued rows (All-tail HasValue row rows all)) (bytes_eq row.id []) refl
+  still_valued : (rows : List Row) → All HasOptionValue rows → All HasOptionValue (joined rows)
+  still_valued [] all = All-cons HasOptionValue argument_row [] (omega arith) (All-nil HasOptionValue)
+  still_valued (row ∷ rows) all = by (still_valued rows (All-tail HasOptionValue row rows all)) (bytes_eq row.id []) refl
     where
-      by : All HasValue (joined rows) → (b : Bool) → bytes_eq row.id [] ≡ b → All HasValue (joined (row ∷ rows))
-      by rest true e = rw e (All-cons HasValue _ rows (grind (arith, common_steps)) (All-tail HasValue row rows all))
-      by rest false e = rw e (All-cons HasValue row (joined rows) (All-head HasValue row rows all) rest)
+      by : All HasOptionValue (joined rows) → (b : Bool) → bytes_eq row.id [] ≡ b → All HasOptionValue (joined (row ∷ rows))
+      by rest true e = rw e (All-cons HasOptionValue _ rows (grind (arith, common_steps)) (All-tail HasOptionValue row rows all))
+      by rest false e = rw e (All-cons HasOptionValue row (joined rows) (All-head HasOptionValue row rows all) rest)
 
   pub argument_joins : (rows : List Row) (words : Given) → AreRowsOf rows words → AreRowsOf (used arguments_built (word ∷ []) rows) (with_arguments words (word ∷ []))
   argument_joins rows words are =
@@ -107,15 +107,15 @@ module _ (name : Text) (named : bytes_eq name [] ≡ false) where
   no_argument : (row : Row) → bytes_eq row.id [] ≡ true → bytes_eq row.id name ≡ false
   no_argument row e = ap (λ id. bytes_eq id name) (same_bytes row.id [] e) ∙ bytes-sym [] name ∙ named
 
-  given-row : (rows : List Row) → All HasValue rows → list_any (λ option. bytes_eq name option.name) (flat_map option_of rows) ≡ has_row name rows
+  given-row : (rows : List Row) → All HasOptionValue rows → list_any (λ option. bytes_eq name option.name) (flat_map option_of rows) ≡ has_row name rows
   given-row [] all = refl
-  given-row (row ∷ rows) all = by (given-row rows (All-tail HasValue row rows all)) (bytes_eq row.id []) refl
+  given-row (row ∷ rows) all = by (given-row rows (All-tail HasOptionValue row rows all)) (bytes_eq row.id []) refl
     where
       by : list_any (λ option. bytes_eq name option.name) (flat_map option_of rows) ≡ has_row name rows → (b : Bool) → bytes_eq row.id [] ≡ b
           → list_any (λ option. bytes_eq name option.name) (flat_map option_of (row ∷ rows)) ≡ has_row name (row ∷ rows)
       by rest true e = rw (e, no_argument row e) rest
       by rest false e =
-          let one = one_option row row.values refl (All-head HasValue row rows all) e in
+          let one = one_option row row.values refl (All-head HasOptionValue row rows all) e in
           ap (λ options. list_any (λ option. bytes_eq name option.name) (options ++ flat_map option_of rows)) one.1
           ∙ ap₂ (λ a b. a || b) (bytes-sym name row.id) rest
 
@@ -123,9 +123,9 @@ module _ (name : Text) (named : bytes_eq name [] ≡ false) where
   pub is_given-row : (rows : List Row) (words : Given) → AreRowsOf rows words → is_given words name ≡ has_row name rows
   is_given-row rows words are = ap (λ given. is_given given name) (sym are.0) ∙ given-row rows are.1
 
-  value-row : (rows : List Row) → All HasValue rows → option_map (λ option. option.value) (find (λ option. bytes_eq option.name name) (flat_map option_of rows)) ≡ first_of name rows
+  value-row : (rows : List Row) → All HasOptionValue rows → option_map (λ option. option.value) (find (λ option. bytes_eq option.name name) (flat_map option_of rows)) ≡ first_of name rows
   value-row [] all = refl
-  value-row (row ∷ rows) all = by (value-row rows (All-tail HasValue row rows all)) (bytes_eq row.id []) refl
+  value-row (row ∷ rows) all = by (value-row rows (All-tail HasOptionValue row rows all)) (bytes_eq row.id []) refl
     where
       named_so : (value : Text) → option_of row ≡ record { name = row.id; value = value } ∷ [] → slice_get row.values 0 ≡ Some value
           → option_map (λ option. option.value) (find (λ option. bytes_eq option.name name) (flat_map option_of rows)) ≡ first_of name rows → (b : Bool) → bytes_eq row.id name ≡ b
@@ -139,11 +139,11 @@ module _ (name : Text) (named : bytes_eq name [] ≡ false) where
           → option_map (λ option. option.value) (find (λ option. bytes_eq option.name name) (flat_map option_of (row ∷ rows))) ≡ first_of name (row ∷ rows)
       by rest true e = rw (e, no_argument row e) rest
       by rest false e =
-          let one = one_option row row.values refl (All-head HasValue row rows all) e in
+          let one = one_option row row.values refl (All-head HasOptionValue row rows all) e in
           named_so one.0 one.1 one.2 rest (bytes_eq row.id name) refl
 
   -- and its value is the first of that row
-  pub value_of-row : (rows : List Row) → All HasValue rows → value_of (given_of rows) name ≡ first_of name rows
+  pub value_of-row : (rows : List Row) → All HasOptionValue rows → value_of (given_of rows) name ≡ first_of name rows
   value_of-row rows all = value-row rows all
 
 -- the arguments, by what the matches have of them

@@ -35,5 +35,5 @@ abbrev pub given_of : List Row → Given
 given_of rows = record { options = flat_map option_of rows; arguments = unwrap_or (all_of [] rows) [] }
 
 -- a row has a value
-abbrev pub HasValue : Row → Type 0
-HasValue row = 0 < length row.values
+abbrev pub HasOptionValue : Row → Type 0
+HasOptionValue row = 0 < length row.values

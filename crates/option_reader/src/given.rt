@@ -20,13 +20,13 @@ impl<'a> Model for GivenWords<'a> {
     ghost use Rattle.std.specs.List.{All};
     ghost use Rattle.clap.specs.Words.{found_of, rows_of};
     ghost use Rattle.option_reader.specs.Given.{Given};
-    ghost use Rattle.option_reader.specs.Rows.{HasValue, given_of};
+    ghost use Rattle.option_reader.specs.Rows.{HasOptionValue, given_of};
 
     ghost Value = { Given };
 
     ghost view = { λ words. given_of (rows_of (found_of words.matches)) };
 
-    ghost invariant = { λ words. All HasValue (rows_of (found_of words.matches)) };
+    ghost invariant = { λ words. All HasOptionValue (rows_of (found_of words.matches)) };
 }
 
 impl<'a> GivenWords<'a> {

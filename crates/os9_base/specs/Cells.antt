@@ -27,5 +27,5 @@ abbrev pub FitsIn : Cells → ℕ → ℕ → Type 0
 FitsIn cells at count = (at + count ≤ 65536) × AllNamed cells at count
 
 -- the bytes from an address on are these
-abbrev pub Holds : Cells → ℕ → List ℕ → Type 0
-Holds cells at bytes = (k : ℕ) → k < length bytes → cells (at + k) ≡ slice_get bytes k
+abbrev pub HoldsBytes : Cells → ℕ → List ℕ → Type 0
+HoldsBytes cells at bytes = (k : ℕ) → k < length bytes → cells (at + k) ≡ slice_get bytes k

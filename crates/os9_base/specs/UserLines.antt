@@ -5,7 +5,8 @@ use Rattle.os9_base.specs.UserNames.{user_cell}
 
 abbrev pub line_with : (ℕ → Option (List ℕ)) → ℕ → Option ℕ → Option (List ℕ)
 line_with rest at None = None
-line_with rest at (Some byte) = if byte == 13 then Some (byte ∷ []) else option_map (λ line. byte ∷ line) (rest (at + 1))
+line_with rest at (Some byte) = if byte == 13 then Some (byte ∷ [])
+    else option_map (λ line. byte ∷ line) (rest (at + 1))
 
 -- the bytes from an address on, up to and with the first carriage return, but at most this many; None if one of them is
 -- in no named slot or past FFFF

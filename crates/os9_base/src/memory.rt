@@ -1,6 +1,6 @@
 ghost use Rattle.std.specs.Prelude.{◌≡◌, IsSome, IsTrue, ◌+◌, ◌≤◌, ◌↔◌, length};
 ghost use Rattle.std.specs.Bool.{OnTrue, OnFalse};
-ghost use Rattle.os9_base.specs.Cells.{Cells, put_cell, store_cells, FitsIn, Holds};
+ghost use Rattle.os9_base.specs.Cells.{Cells, put_cell, store_cells, FitsIn, HoldsBytes};
 
 /// The bus of a processor: bytes at addresses, some of which are named.
 ///
@@ -15,7 +15,7 @@ pub trait Bus {
     /// `FFFF`. There may always be none, so their number says nothing about what is named.
     fn slice_from(&self, at: u16) -> &[u8]
         ensures fits { at + length result.now ≤ 65536 }
-        ensures bytes { Holds (cells self.now) at result.now };
+        ensures bytes { HoldsBytes (cells self.now) at result.now };
 
     /// The byte at an address, or None if the address is not named.
     fn read(&self, at: u16) -> Option<u8>
@@ -57,7 +57,7 @@ pub trait UserMem {
     /// Fills `into` with the bytes from `at` on.
     fn load(&self, at: u16, into: &mut [u8])
         requires { FitsIn (cells self.now) at (length into.old) }
-        ensures { Holds (cells self.now) at into.new };
+        ensures { HoldsBytes (cells self.now) at into.new };
 
     /// Sets the bytes from `at` on to those of `from`. Leaves every other byte, and which addresses
     /// are named, unchanged.

@@ -4,13 +4,13 @@ use Rattle.std.proofs.lemmas.List.Elements.{All-head, All-tail}
 use Rattle.std.proofs.lemmas.Option.{none-some, same_Some}
 use Rattle.std.specs.Prelude.{IfSome, MatchOption, if◌then◌else◌}
 use Rattle.os9_base.specs.Count.{Rose}
-use Rattle.os9_outer.specs.Host.{Files, file_contents}
+use Rattle.os9_outer.specs.Host.{HostFiles, file_contents}
 use Rattle.os9_words.specs.declared.command.Command.{Command}
 use Rattle.os9_words.specs.declared.command.Command.TheVariants.{Boot as BootCommand}
 use Rattle.os9_words.specs.declared.command.RunWords.{RunWords}
 use Rattle.os9_words.specs.Command.{command_of}
 use Rattle.os9_words.specs.Notes.{Notes}
-use Rattle.machine_model.specs.ProcessStart.{Refuses}
+use Rattle.machine_model.specs.ProcessStart.{RefusesBoot}
 use Rattle.machine_model.specs.declared.ends.BootFault.{BootFault}
 use Rattle.machine_model.specs.Run.{status_of}
 use Rattle.machine_model.specs.State.{State, has_living}
@@ -25,7 +25,7 @@ use Rattle.boot_run.specs.declared.status.End.TheVariants.{Ended, Living, Cannot
 use Rattle.boot_run.specs.declared.status.Input.TheVariants.{Script}
 use Rattle.os9_boot.specs.Boots.{BootComesTo, RunsToEnd}
 use Rattle.boot_run.specs.End.{status_number}
-use Rattle.os9_boot.specs.Headline.{BootIsOneRun, IsAccepted, IsOneRun}
+use Rattle.os9_boot.specs.Headline.{BootIsOneRun, AcceptsRun, IsOneRun}
 use Rattle.os9_boot.specs.History.{outputs_of}
 use Rattle.boot_run.specs.Reading.{BreaksSlices}
 use Rattle.boot_run.specs.Setup.{SetsUpBoot, script_of}
@@ -45,7 +45,7 @@ volume-at (suc n) (one ∷ images) image here volumes = volume-at n images image
 lives-status : (t : State) (lives : Bool) → has_living t ≡ lives → status_of t ≡ (if lives then 5 else 0)
 lives-status t lives is = ap (λ (lives : Bool). if lives then 5 else 0) is
 
-module _ (files : Files) (boot : RunWords) (before after : World) (accepted : IsAccepted files boot (length before.devices.terms)) where
+module _ (files : HostFiles) (boot : RunWords) (before after : World) (accepted : AcceptsRun files boot (length before.devices.terms)) where
   -- the first image is one
   first-image : (image : List ℕ) → slice_get (images_of files boot.files) 0 ≡ Some image → image ≡ accepted.sets.file.image
   first-image image first =
@@ -56,10 +56,10 @@ module _ (files : Files) (boot : RunWords) (before after : World) (accepted : Is
   one-file other it =
       it.file.is ∙ ap boot_file_of (first-image it.file.image (subst (λ (images : List (List ℕ)). slice_get images 0 ≡ Some it.file.image) it.images it.file.first)) ∙ sym accepted.sets.file.is
 
-  not-refused : (other : Setup) → SetsUpBoot files boot (length before.devices.terms) other → (fault : BootFault) → Refuses other.file other.blocks fault → ⊥
+  not-refused : (other : Setup) → SetsUpBoot files boot (length before.devices.terms) other → (fault : BootFault) → RefusesBoot other.file other.blocks fault → ⊥
   not-refused other it fault refuses =
-      accepted.starts fault (subst (λ (file : List ℕ). Refuses file accepted.setup.blocks fault) (one-file other it)
-      (subst (λ (blocks : ℕ). Refuses other.file blocks fault) (it.words.blocks ∙ sym accepted.sets.words.blocks)
+      accepted.starts fault (subst (λ (file : List ℕ). RefusesBoot file accepted.setup.blocks fault) (one-file other it)
+      (subst (λ (blocks : ℕ). RefusesBoot other.file blocks fault) (it.words.blocks ∙ sym accepted.sets.words.blocks)
       refuses))
 
   one-run : (setup : Setup) (lives : Bool) → SetsUpBoot files boot (length before.devices.terms) setup
@@ -114,9 +114,9 @@ module _ (files : Files) (boot : RunWords) (before after : World) (accepted : Is
     by-end NoFirst call comes is = absurd (not-refused comes.0 comes.1 comes.2.0 comes.2.1)
     by-end TooLarge call comes is = absurd (not-refused comes.0 comes.1 comes.2.0 comes.2.1)
 
-pub is-one-run : (words : List (List ℕ)) (boot : RunWords) (files : Files) (before after : World)
+pub is-one-run : (words : List (List ℕ)) (boot : RunWords) (files : HostFiles) (before after : World)
     (noted notes : Notes) (status : ℕ) → command_of words ≡ Some (BootCommand boot) → TopCall words before after noted
-    notes status → before.files ≡ Some files → All IsObserved before.devices.terms → IsAccepted files boot
+    notes status → before.files ≡ Some files → All IsObserved before.devices.terms → AcceptsRun files boot
     (length before.devices.terms) → ¬ Rose before.faults after.faults → BootIsOneRun files boot before after status
 is-one-run words boot files before after noted notes status spelled call told observed accepted kept =
     by-end files boot before after accepted kept observed status report.end report.call comes report.status_is
@@ -125,4 +125,4 @@ is-one-run words boot files before after noted notes status spelled call told ob
     report = subst (λ (found : Option Command). MatchOption found (WordsReport before after noted notes status) (λ command. CommandReport command before after noted notes status)) spelled call
 
     comes : BootComesTo files boot before after report.end
-    comes = subst (λ (some : Option Files). IfSome some (λ (files : Files). BootComesTo files boot before after report.end)) told report.call.comes
+    comes = subst (λ (some : Option HostFiles). IfSome some (λ (files : HostFiles). BootComesTo files boot before after report.end)) told report.call.comes

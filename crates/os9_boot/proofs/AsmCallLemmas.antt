@@ -1,7 +1,7 @@
 -- From the steps of `asm` to how it ends.
 use Rattle.std.proofs.Common.{◌≡◌, ◌⊎◌, ℕ, Option, Some, None, Err, List, [], ◌∷◌, refl, ap, subst, inl, inr}
 use Rattle.std.specs.Prelude.{IfSome}
-use Rattle.os9_outer.specs.Host.{Files, file_contents}
+use Rattle.os9_outer.specs.Host.{HostFiles, file_contents}
 use Rattle.os9_words.specs.declared.asm_words.AsmWords.{AsmWords}
 use Rattle.os9_kernel.specs.Outside.{Outside}
 use Rattle.boot_run.specs.World.{World, HasNoFault}
@@ -14,14 +14,14 @@ use Rattle.boot_run.specs.declared.status.End.TheVariants.{Ended, CannotRead, Ca
 use Rattle.boot_run.specs.declared.status.Input.{Input}
 use Rattle.boot_run.specs.declared.status.Input.TheVariants.{Source}
 use Rattle.boot_run.proofs.ChangeLemmas.{all-change, first-change, same-changes}
-use Rattle.os9_boot.specs.Asm.{AsmComesTo, HasModule, HasPart, MakesModule, MakesThen, asm_file_name, asm_outputs}
+use Rattle.os9_boot.specs.Asm.{AsmComesTo, HasModule, HasOutputPart, MakesModule, MakesThen, asm_file_name, asm_outputs}
 use Rattle.os9_boot.specs.AsmCall.{AsmCall}
 use Rattle.os9_boot.specs.AsmLeft.{AsmLeavesFiles, AsmMayEnd}
-use Rattle.os9_boot.specs.AsmSteps.{RefusesSource, WritesOut}
+use Rattle.os9_boot.specs.AsmSteps.{RefusesSource, WritesAsmOut}
 
 -- ---- worlds
 
-of-any : (told : Option Files) (fact : Files → Type 0) → ((files : Files) → fact files) → IfSome told fact
+of-any : (told : Option HostFiles) (fact : HostFiles → Type 0) → ((files : HostFiles) → fact files) → IfSome told fact
 of-any None fact holds = tt
 of-any (Some files) fact holds = holds files
 
@@ -87,7 +87,7 @@ module _ (asm : AsmWords) (source : List ℕ) (before mid : World) (read : IfSom
   of-source : (fact : List ℕ → Type 0) → fact source → IfSome before.files (λ files. fact (file_contents files asm.source))
   of-source fact holds = by before.files read
     where
-      by : (told : Option Files) → IfSome told (λ files. source ≡ file_contents files asm.source) → IfSome told (λ files. fact (file_contents files asm.source))
+      by : (told : Option HostFiles) → IfSome told (λ files. source ≡ file_contents files asm.source) → IfSome told (λ files. fact (file_contents files asm.source))
       by None is = tt
       by (Some files) is = subst fact is holds
 
@@ -107,7 +107,7 @@ module _ (asm : AsmWords) (source : List ℕ) (before mid : World) (read : IfSom
     then-made : (then_ : List ℕ → Type 0) → then_ bytes → MakesThen source then_
     then-made then_ rest = record { bytes = bytes; made = made; rest = rest }
 
-    wrote : (end : End) → WritesOut asm bytes end before after → AsmCall asm before after end
+    wrote : (end : End) → WritesAsmOut asm bytes end before after → AsmCall asm before after end
     wrote Ended out = record {
       comes = of-source (λ source. MakesThen source (HasModule asm before after)) (then-made (HasModule asm before after) out.ends.1);
       may = tt;
@@ -116,14 +116,14 @@ module _ (asm : AsmWords) (source : List ℕ) (before mid : World) (read : IfSom
       files = all-change (asm_outputs asm) (bytes ∷ []) before.files after.files out.ends.1;
     }
     wrote CannotWriteFile out = record {
-      comes = of-source (λ source. MakesThen source (HasPart asm before after)) (then-made (HasPart asm before after) out.ends.1);
+      comes = of-source (λ source. MakesThen source (HasOutputPart asm before after)) (then-made (HasOutputPart asm before after) out.ends.1);
       may = tt;
       devices = out.silent;
       host = (asm.out, refl, out.ends.0);
       files = first-change 0 (asm_outputs asm) (bytes ∷ []) before.files after.files out.ends.1;
     }
     wrote NoMemory out = record {
-      comes = of-source (λ source. (after.files ≡ before.files) ⊎ MakesThen source (HasPart asm before after)) (inr (then-made (HasPart asm before after) out.ends.1));
+      comes = of-source (λ source. (after.files ≡ before.files) ⊎ MakesThen source (HasOutputPart asm before after)) (inr (then-made (HasOutputPart asm before after) out.ends.1));
       may = tt;
       devices = out.silent;
       host = out.ends.0;
@@ -132,5 +132,5 @@ module _ (asm : AsmWords) (source : List ℕ) (before mid : World) (read : IfSom
     wrote end out = absurd out.ends
 
     -- its module was written
-    pub module-written : (end : End) → WritesOut asm bytes end mid after → AsmCall asm before after end
-    module-written end out = wrote end (subst (λ world. WritesOut asm bytes end world after) same out)
+    pub module-written : (end : End) → WritesAsmOut asm bytes end mid after → AsmCall asm before after end
+    module-written end out = wrote end (subst (λ world. WritesAsmOut asm bytes end world after) same out)

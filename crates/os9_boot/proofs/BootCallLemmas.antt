@@ -1,7 +1,7 @@
 -- Commands that end before anything ran, stresses, and the top call.
 use Rattle.std.proofs.Common.{◌≡◌, ◌⊎◌, ℕ, Option, Some, None, Ok, Err, List, refl, ap, subst, inl, inr, arith}
 use Rattle.std.specs.Prelude.{IfSome, Result}
-use Rattle.os9_outer.specs.Host.{Files, file_contents}
+use Rattle.os9_outer.specs.Host.{HostFiles, file_contents}
 use Rattle.os9_outer.specs.declared.host.Host.{Ghosts}
 use Rattle.os9_outer.specs.declared.host.HostFault.{HostFault}
 use Rattle.os9_words.specs.declared.command.Command.{Command}
@@ -38,13 +38,13 @@ use Rattle.os9_boot.specs.Commands.{CommandCall}
 use Rattle.boot_run.specs.End.{status_number}
 use Rattle.os9_boot.specs.End.{stress_end}
 use Rattle.os9_boot.specs.EndLines.{end_line}
-use Rattle.os9_boot.specs.Host.{FailsAsTold}
+use Rattle.os9_boot.specs.Host.{CommandFailsAsReported}
 use Rattle.boot_run.specs.Left.{IsSilent}
 use Rattle.boot_run.proofs.ChangeLemmas.{same-changes}
-use Rattle.os9_boot.specs.BootLeft.{BootLeavesFiles, LeavesDevices, StressMayEnd}
+use Rattle.os9_boot.specs.BootLeft.{BootLeavesFiles, CommandLeavesDevices, StressMayEnd}
 use Rattle.os9_boot.specs.History.{output_names, outputs_of}
 use Rattle.os9_boot.specs.Meaning.{meaning}
-use Rattle.os9_boot.specs.TopCall.{CommandReport, GainsLine, LosesLine, Reports, TopCall, words_status}
+use Rattle.os9_boot.specs.TopCall.{CommandReport, GainsLine, LosesErrorLine, Reports, TopCall, words_status}
 use Rattle.os9_boot.specs.FilesNoted.{NotesFiles}
 use Rattle.os9_boot.proofs.NameLemmas.{names-none}
 
@@ -81,7 +81,7 @@ still-undone before after same = record {
 }
 
 -- what holds of all files
-pub of-any : (told : Option Files) (fact : Files → Type 0) → ((files : Files) → fact files) → IfSome told fact
+pub of-any : (told : Option HostFiles) (fact : HostFiles → Type 0) → ((files : HostFiles) → fact files) → IfSome told fact
 of-any None fact holds = tt
 of-any (Some files) fact holds = holds files
 
@@ -133,7 +133,7 @@ wanting-leaves (DebugCommand debug) before after same = tt
 
 -- nothing was changed
 pub unchanged : (command : Command) (before after : World) (end : End) → after ≡ before → (meaning command).may end
-    → (meaning command).devices before after end → FailsAsTold command end before after → (meaning command).comes
+    → (meaning command).devices before after end → CommandFailsAsReported command end before after → (meaning command).comes
     before after end → CommandCall command before after end
 unchanged command before after end same may left told comes = record {
   comes = comes;
@@ -262,14 +262,14 @@ stressed seed before after end call = record {
     may Stress.OutputFailed left = tt
     may Stress.NoMemory left = tt
 
-    left : (end : StressEnd) → StressCall seed before after end → LeavesDevices 1 before after (stress_end end)
+    left : (end : StressEnd) → StressCall seed before after end → CommandLeavesDevices 1 before after (stress_end end)
     left Stress.Ended call = tt
     left Stress.Living call = tt
     left (Stress.DriveFailed drive number) call = call.devices
     left Stress.OutputFailed call = tt
     left Stress.NoMemory call = tt
 
-    told : (end : StressEnd) → StressCall seed before after end → FailsAsTold (StressCommand seed) (stress_end end) before after
+    told : (end : StressEnd) → StressCall seed before after end → CommandFailsAsReported (StressCommand seed) (stress_end end) before after
     told Stress.Ended call = call.no_fault (λ is. cc is)
     told Stress.Living call = call.no_fault (λ is. cc is)
     told (Stress.DriveFailed drive number) call = call.no_fault (λ is. cc is)
@@ -294,7 +294,7 @@ reported {Value = Value} members line answer before after wrote = record {
 }
   where
     by : (answer : Result Value HostFault) → WritesErr members line answer before after
-        → GainsLine line (notes_of members before) (notes_of members after) ⊎ LosesLine line (notes_of members before)
+        → GainsLine line (notes_of members before) (notes_of members after) ⊎ LosesErrorLine line (notes_of members before)
         (notes_of members after)
     by (Ok value) wrote = inl (record { gained = wrote.whole; no_fault = wrote.count_kept })
     by (Err fault) wrote = inr (record { gained = wrote.prefix; fault = wrote.fault_counted })

@@ -1,7 +1,7 @@
 -- A boot whose files were read.
 use Rattle.std.proofs.Common.{◌≡◌, ℕ, Option, Some, None, List, Ok, Err, length, refl, subst, inl, inr, All}
 use Rattle.std.specs.Prelude.{IfSome}
-use Rattle.os9_outer.specs.Host.{Files}
+use Rattle.os9_outer.specs.Host.{HostFiles}
 use Rattle.script_text.specs.declared.script.ScriptKey.{ScriptKey}
 use Rattle.script_text.specs.Script.{keys_of}
 use Rattle.script_text.specs.Slices.{slices_of}
@@ -19,8 +19,8 @@ use Rattle.boot_run.specs.declared.status.End.TheVariants.{CannotRead, CannotWri
 use Rattle.boot_run.specs.declared.status.Input.TheVariants.{Script as ScriptInput, Slices as SlicesInput}
 use Rattle.os9_boot.specs.Boots.{BootComesTo}
 use Rattle.os9_boot.specs.Commands.{CommandCall}
-use Rattle.os9_boot.specs.Host.{FailsAsTold}
-use Rattle.os9_boot.specs.BootLeft.{BootMayEnd, LeavesDevices}
+use Rattle.os9_boot.specs.Host.{CommandFailsAsReported}
+use Rattle.os9_boot.specs.BootLeft.{BootMayEnd, CommandLeavesDevices}
 use Rattle.os9_boot.specs.Images.{RefusesImages}
 use Rattle.boot_run.specs.Reading.{HasBootFiles, RefusesTexts}
 use Rattle.boot_run.specs.Setup.{HaveTexts, SetsUpBoot}
@@ -31,7 +31,7 @@ use Rattle.os9_boot.proofs.MachineLemmas.{EndsSo, RunFails, IsOfMachine, machine
 
 -- ---- a machine that ran with images
 
-module _ (files : Files) (boot : RunWords) (setup : Setup) (before after : World) (sets : SetsUpBoot files boot (length before.devices.terms) setup) where
+module _ (files : HostFiles) (boot : RunWords) (setup : Setup) (before after : World) (sets : SetsUpBoot files boot (length before.devices.terms) setup) where
   boot-comes : (end : End) → IsOfMachine end → EndsSo setup (outputs_of boot) before after end → BootComesTo files boot before after end
   boot-comes (CannotRead input) of comes = tt
   boot-comes (BadText input line) of comes = absurd of
@@ -41,7 +41,7 @@ module _ (files : Files) (boot : RunWords) (setup : Setup) (before after : World
   boot-comes NoMemory of (inr comes) = inr (setup, sets, comes)
   boot-comes end of comes = (setup, sets, comes)
 
-boot-fails : (boot : RunWords) (before after : World) (end : End) → RunFails (outputs_of boot) end before after → FailsAsTold (BootCommand boot) end before after
+boot-fails : (boot : RunWords) (before after : World) (end : End) → RunFails (outputs_of boot) end before after → CommandFailsAsReported (BootCommand boot) end before after
 boot-fails boot before after (CannotRead input) failed = absurd failed
 boot-fails boot before after CannotWrite failed = failed
 boot-fails boot before after (CannotWriteImage number) failed = failed
@@ -60,10 +60,10 @@ boot-may outputs before after end of failed = tt
 
 module _ (before : World) (boot : RunWords) (read : BootFiles) (has : IfSome before.files (λ files. HasBootFiles files boot read)) where
   -- what follows of the files that were read
-  of-files : (fact : Files → Type 0) → ((files : Files) → HasBootFiles files boot read → fact files) → IfSome before.files fact
+  of-files : (fact : HostFiles → Type 0) → ((files : HostFiles) → HasBootFiles files boot read → fact files) → IfSome before.files fact
   of-files fact follows = by before.files has
     where
-      by : (told : Option Files) → IfSome told (λ files. HasBootFiles files boot read) → IfSome told fact
+      by : (told : Option HostFiles) → IfSome told (λ files. HasBootFiles files boot read) → IfSome told fact
       by None has = tt
       by (Some files) has = follows files has
 
@@ -98,7 +98,7 @@ module _ (before : World) (boot : RunWords) (read : BootFiles) (has : IfSome bef
 
   -- the texts give keys and slices
   module _ (keys : List ScriptKey) (slices : List ℕ) (given : keys_of (length before.devices.terms) read.script.items ≡ Ok keys) (cut : slices_of read.slices.items ≡ Ok slices) where
-    accepted : (files : Files) → HasBootFiles files boot read → HaveTexts files boot (length before.devices.terms) keys slices
+    accepted : (files : HostFiles) → HasBootFiles files boot read → HaveTexts files boot (length before.devices.terms) keys slices
     accepted files has = record { script = rw (← has.script) given; slice_text = rw (← has.slices) cut }
 
     -- the images were refused
@@ -126,7 +126,7 @@ module _ (before : World) (boot : RunWords) (read : BootFiles) (has : IfSome bef
         slices = slices;
       }
 
-      sets-up : (files : Files) → HasBootFiles files boot read → SetsUpBoot files boot (length before.devices.terms) setup
+      sets-up : (files : HostFiles) → HasBootFiles files boot read → SetsUpBoot files boot (length before.devices.terms) setup
       sets-up files has = record {
         words = record { texts = accepted files has; blocks = refl; time = refl };
         images = has.images;
@@ -143,7 +143,7 @@ module _ (before : World) (boot : RunWords) (read : BootFiles) (has : IfSome bef
           record {
             comes = of-files (λ files. BootComesTo files boot before after answer) (λ files has. boot-comes files boot setup before after (sets-up files has) answer it.kind it.comes);
             may = boot-may (outputs_of boot) before after answer it.kind it.host;
-            devices = subst (λ k. LeavesDevices k before after answer) many it.devices;
+            devices = subst (λ k. CommandLeavesDevices k before after answer) many it.devices;
             host = boot-fails boot before after answer it.host;
             files = it.files;
           }

@@ -13,7 +13,7 @@ use Rattle.boot_run.specs.World.{World}
 use Rattle.boot_run.specs.declared.status.End.{End}
 use Rattle.boot_run.specs.declared.status.End.TheVariants.{Ended, Living, CannotWrite, CannotWriteFile, CannotWriteImage, NoMemory}
 use Rattle.boot_run.specs.End.{status_number}
-use Rattle.boot_run.specs.FileNames.{IsFront}
+use Rattle.boot_run.specs.FileNames.{AreFirstNames}
 use Rattle.os9_boot.specs.FileNames.{BootWrites}
 use Rattle.os9_boot.specs.History.{Outputs, output_names, outputs_of}
 use Rattle.os9_boot.specs.Headline.{IsOfWholeRun, WritesByStatus}
@@ -37,11 +37,11 @@ none-of outputs written CannotWriteFile writes unended sure enough = absurd (sur
 none-of outputs written NoMemory writes unended sure enough = absurd (enough refl)
 none-of outputs written end writes unended sure enough = writes
 
-all-front : (outputs : Outputs) (written : List (List ℕ)) → written ≡ output_names outputs → IsFront written (output_names outputs)
+all-front : (outputs : Outputs) (written : List (List ℕ)) → written ≡ output_names outputs → AreFirstNames written (output_names outputs)
 all-front outputs written writes = ([], sym (ap (λ written. written ++ []) writes ∙ append-nil (output_names outputs)))
 
 -- and at any status it has written the first of its files
-front-of : (outputs : Outputs) (written : List (List ℕ)) (end : End) → BootWrites outputs end written → IsFront written (output_names outputs)
+front-of : (outputs : Outputs) (written : List (List ℕ)) (end : End) → BootWrites outputs end written → AreFirstNames written (output_names outputs)
 front-of outputs written Ended writes = all-front outputs written writes
 front-of outputs written Living writes = all-front outputs written writes
 front-of outputs written CannotWriteFile writes = all-front outputs written writes

@@ -1,27 +1,27 @@
 -- What a verb that was done has left in the file of its image.
 use Rattle.std.proofs.Common.{◌≡◌, ◌≢◌, ℕ, Option, Some, None, List, [], ◌∷◌, unwrap_or, refl, sym, subst, ap}
-use Rattle.os9_outer.specs.Host.{Files, file_contents}
+use Rattle.os9_outer.specs.Host.{HostFiles, file_contents}
 use Rattle.os9_words.specs.declared.vol_words.Verb.{Verb}
 use Rattle.os9_words.specs.declared.vol_words.Verb.TheVariants.{Format, Put, Get, Mkdir, Delete, Dir, Repair}
 use Rattle.os9_words.specs.declared.vol_words.VolWords.{VolWords}
 use Rattle.rbf_model.specs.Volume.{DiskVolume, Vol}
-use Rattle.rbf_access.specs.Mounted.{Represents}
+use Rattle.rbf_access.specs.Mounted.{RepresentsVolume}
 use Rattle.vol_tools.specs.Blank.{blank_volume}
-use Rattle.vol_tools.specs.Tool.{IsRead, Tool, put, get, mkdir, remove, list, repair}
+use Rattle.vol_tools.specs.Tool.{IsFileRead, Tool, put, get, mkdir, remove, list, repair}
 use Rattle.vol_tools.specs.UsesInTurn.{Use, none, next}
 use Rattle.vol_tools.specs.InTurn.{LeavesInTurn}
 use Rattle.boot_run.specs.Images.{WritesAll}
-use Rattle.os9_boot.specs.Vol.{IsUsed, MakesBy, file_of, outputs_of, printed_of, tool_of, written_of}
-use Rattle.os9_boot.specs.Turns.{AreLinesOf, IsFileOf}
+use Rattle.os9_boot.specs.Vol.{IsToolUsed, MakesBy, file_of, outputs_of, printed_of, tool_of, written_of}
+use Rattle.os9_boot.specs.Turns.{AreLinesOf, AreBytesOfFile}
 use Rattle.os9_boot.proofs.CallFiles.{holds-written, keeps-other}
 
-pub on-image : (image : List ℕ) (v : DiskVolume) → Vol image v → Represents (Some image) v
+pub on-image : (image : List ℕ) (v : DiskVolume) → Vol image v → RepresentsVolume (Some image) v
 on-image image v vol = record { image = image; is = refl; vol = vol }
 
 abbrev pub use-at : Tool → VolWords → Use
 use-at tool vol = record { tool = tool; now = vol.start }
 
-pub used-leaves : (tool : Tool) (vol : VolWords) (old answer image : List ℕ) → IsUsed tool vol old answer image
+pub used-leaves : (tool : Tool) (vol : VolWords) (old answer image : List ℕ) → IsToolUsed tool vol old answer image
     → LeavesInTurn (use-at tool vol ∷ []) (Some old) (Some image) (answer ∷ [])
 used-leaves tool vol old answer image used = record {
   before = used.before;
@@ -32,7 +32,7 @@ used-leaves tool vol old answer image used = record {
 }
 
 -- a tool that changes no volume leaves the old image too
-keeps-image : (tool : Tool) (vol : VolWords) (old answer image : List ℕ) (used : IsUsed tool vol old answer image)
+keeps-image : (tool : Tool) (vol : VolWords) (old answer image : List ℕ) (used : IsToolUsed tool vol old answer image)
     → used.after ≡ used.before → LeavesInTurn (use-at tool vol ∷ []) (Some old) (Some old) (answer ∷ [])
 keeps-image tool vol old answer image used same = record {
   before = used.before;
@@ -51,7 +51,7 @@ Leaves None vol old new = Vol new (blank_volume vol.sectors vol.cluster vol.star
 Leaves (Some tool) vol old new =
     (answer : List ℕ) × LeavesBy tool vol answer old new
 
-module _ (vol : VolWords) (files now : Files) (answer image : List ℕ) where
+module _ (vol : VolWords) (files now : HostFiles) (answer image : List ℕ) where
   abbrev old : List ℕ
   old = file_contents files vol.image
 
@@ -59,13 +59,13 @@ module _ (vol : VolWords) (files now : Files) (answer image : List ℕ) where
   new = file_contents now vol.image
 
   -- the image was written
-  written : (tool : Tool) → IsUsed tool vol old answer image → WritesAll (vol.image ∷ []) (image ∷ []) files now
+  written : (tool : Tool) → IsToolUsed tool vol old answer image → WritesAll (vol.image ∷ []) (image ∷ []) files now
       → Leaves (Some tool) vol old new
   written tool used writes =
       (answer, subst (LeavesBy tool vol answer old) (sym (holds-written files now vol.image image writes)) (used-leaves tool vol old answer image used))
 
   -- it was not
-  unwritten : (tool : Tool) (used : IsUsed tool vol old answer image) → used.after ≡ used.before → new ≡ old
+  unwritten : (tool : Tool) (used : IsToolUsed tool vol old answer image) → used.after ≡ used.before → new ≡ old
       → Leaves (Some tool) vol old new
   unwritten tool used same kept =
       (answer, subst (LeavesBy tool vol answer old) (sym kept) (keeps-image tool vol old answer image used same))
@@ -88,13 +88,13 @@ module _ (vol : VolWords) (files now : Files) (answer image : List ℕ) where
   -- `get` has written what it read
   pub got : (verb : Verb) (path bytes : List ℕ) → verb ≡ Get → MakesBy (tool_of verb path bytes) vol old answer image
       → WritesAll (outputs_of verb vol) (written_of verb answer image) files now
-      → IsFileOf old path (file_contents now (file_of vol))
+      → AreBytesOfFile old path (file_contents now (file_of vol))
   got Get path bytes is made writes =
       let held : file_contents now (file_of vol) ≡ answer = holds-written files now (file_of vol) answer writes in
       record {
         volume = made.used.before;
         was = made.used.was;
-        read = subst (λ bytes. IsRead made.used.before path bytes) (sym held) made.used.gives.0;
+        read = subst (λ bytes. IsFileRead made.used.before path bytes) (sym held) made.used.gives.0;
       }
   got verb path bytes is made writes = absurd (cc is)
 

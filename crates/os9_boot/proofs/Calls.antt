@@ -19,22 +19,22 @@ use Rattle.boot_run.specs.declared.status.End.TheVariants.{Ended, Refused}
 use Rattle.os9_boot.specs.Vol.{MakesBy, RefusesBy, VolComesTo, file_of, path_of, printed_of, tool_of, vol_outputs, vol_tool, written_of}
 use Rattle.os9_boot.specs.Commands.{CommandCall}
 use Rattle.os9_boot.specs.TopCall.{CommandReport, TopCall, WordsReport}
-use Rattle.os9_boot.specs.Turns.{AreLinesOf, GetsOver, IsCalled, IsDoneOrRefused, IsFileOf, IsTurnOn, PrintsLines, Turn, is_done}
+use Rattle.os9_boot.specs.Turns.{AreLinesOf, GetsOver, IsCalled, IsDoneOrRefused, AreBytesOfFile, IsTurnOn, PrintsLines, FinishedVolCall, is_done}
 use Rattle.os9_boot.proofs.CallVerbs.{Leaves, got, listed, verb-leaves}
 
 -- what the image's file held before a call, and holds now
-abbrev pub held : Turn → List ℕ
+abbrev pub held : FinishedVolCall → List ℕ
 held turn = file_contents turn.files turn.vol.image
 
-abbrev pub holds : Turn → List ℕ
+abbrev pub holds : FinishedVolCall → List ℕ
 holds turn = file_contents turn.now turn.vol.image
 
 -- the bytes of FILE before it
-abbrev pub file-bytes : Turn → List ℕ
+abbrev pub file-bytes : FinishedVolCall → List ℕ
 file-bytes turn = file_contents turn.files (file_of turn.vol)
 
 -- the call was done
-pub record Done (turn : Turn) (called : IsCalled turn) : Type 0 where
+pub record Done (turn : FinishedVolCall) (called : IsCalled turn) : Type 0 where
   pub told : is_done turn ≡ true
   pub answer : List ℕ
   pub image : List ℕ
@@ -43,14 +43,14 @@ pub record Done (turn : Turn) (called : IsCalled turn) : Type 0 where
   pub wrote : WritesAll (vol_outputs turn.vol) (written_of turn.vol.verb answer image) turn.files turn.now
 
 -- its tool was refused: nothing was written, and the image is that of a volume
-pub record IsLeft (turn : Turn) : Type 0 where
+pub record IsLeft (turn : FinishedVolCall) : Type 0 where
   pub told : is_done turn ≡ false
   pub kept : turn.now ≡ turn.files
   pub volume : DiskVolume
   pub was : Vol (held turn) volume
   pub tool : turn.vol.verb ≢ Format
 
-pub data Outcome (turn : Turn) (called : IsCalled turn) : Type 0 where
+pub data Outcome (turn : FinishedVolCall) (called : IsCalled turn) : Type 0 where
   done : Done turn called → Outcome turn called
   left : IsLeft turn → Outcome turn called
 
@@ -60,7 +60,7 @@ of-refusal : (verb : Verb) (path bytes : List ℕ) (vol : VolWords) (old : List 
 of-refusal Format path bytes vol old number refuses = absurd refuses
 of-refusal verb path bytes vol old number (before, after, was, refuses) = (before, was, λ same. cc same)
 
-module _ (turn : Turn) (called : IsCalled turn) where
+module _ (turn : FinishedVolCall) (called : IsCalled turn) where
   abbrev before : World
   before = called.before
 
@@ -108,7 +108,7 @@ report-of : (words : List (List ℕ)) (vol : VolWords) (before after : World) (n
 report-of words vol before after noted notes status spell call =
     subst (λ (found : Option Command). MatchOption found (WordsReport before after noted notes status) (λ command. CommandReport command before after noted notes status)) spell call
 
-pub outcome : (name old : List ℕ) (turn : Turn) (is : IsTurnOn name old turn) → Outcome turn is.called
+pub outcome : (name old : List ℕ) (turn : FinishedVolCall) (is : IsTurnOn name old turn) → Outcome turn is.called
 outcome name old turn is =
     let called = is.called in
     let report = report-of called.words turn.vol called.before called.after called.noted called.notes turn.status called.spell called.call in
@@ -117,19 +117,19 @@ outcome name old turn is =
 
 -- ---- by the name of the image
 
-pub old-is : (name old : List ℕ) (turn : Turn) → IsTurnOn name old turn → held turn ≡ old
+pub old-is : (name old : List ℕ) (turn : FinishedVolCall) → IsTurnOn name old turn → held turn ≡ old
 old-is name old turn is = ap (λ image. file_contents turn.files image) is.image ∙ is.found
 
-new-is : (name old : List ℕ) (turn : Turn) → IsTurnOn name old turn → holds turn ≡ file_contents turn.now name
+new-is : (name old : List ℕ) (turn : FinishedVolCall) → IsTurnOn name old turn → holds turn ≡ file_contents turn.now name
 new-is name old turn is = ap (λ image. file_contents turn.now image) is.image
 
-by-name : (name old : List ℕ) (turn : Turn) → IsTurnOn name old turn → (fact : List ℕ → List ℕ → Type 0)
+by-name : (name old : List ℕ) (turn : FinishedVolCall) → IsTurnOn name old turn → (fact : List ℕ → List ℕ → Type 0)
     → fact (held turn) (holds turn) → fact old (file_contents turn.now name)
 by-name name old turn is fact so =
     subst (fact old) (new-is name old turn is) (subst (λ old. fact old (holds turn)) (old-is name old turn is) so)
 
 -- what a call that was done has left there, if that is no `get` over it
-pub done-leaves : (name old : List ℕ) (turn : Turn) (is : IsTurnOn name old turn)
+pub done-leaves : (name old : List ℕ) (turn : FinishedVolCall) (is : IsTurnOn name old turn)
     → (turn.vol.verb ≡ Get → file_of turn.vol ≢ turn.vol.image) → Done turn is.called
     → Leaves (vol_tool turn.files turn.vol) turn.vol old (file_contents turn.now name)
 done-leaves name old turn is apart it =
@@ -137,30 +137,30 @@ done-leaves name old turn is apart it =
     by-name name old turn is (Leaves (vol_tool turn.files turn.vol) turn.vol) leaves
 
 -- what a refused call has left there
-pub left-same : (name old : List ℕ) (turn : Turn) → IsTurnOn name old turn → IsLeft turn
+pub left-same : (name old : List ℕ) (turn : FinishedVolCall) → IsTurnOn name old turn → IsLeft turn
     → file_contents turn.now name ≡ old
 left-same name old turn is it = ap (λ files. file_contents files name) it.kept ∙ is.found
 
 -- what a `get` that was done has left in its FILE
-pub get-leaves : (name old : List ℕ) (turn : Turn) → IsTurnOn name old turn → turn.vol.verb ≡ Get → is_done turn ≡ true
-    → IsFileOf old (path_of turn.vol) (file_contents turn.now (file_of turn.vol))
+pub get-leaves : (name old : List ℕ) (turn : FinishedVolCall) → IsTurnOn name old turn → turn.vol.verb ≡ Get → is_done turn ≡ true
+    → AreBytesOfFile old (path_of turn.vol) (file_contents turn.now (file_of turn.vol))
 get-leaves name old turn is verb told = by (outcome name old turn is)
   where
-    by : Outcome turn is.called → IsFileOf old (path_of turn.vol) (file_contents turn.now (file_of turn.vol))
+    by : Outcome turn is.called → AreBytesOfFile old (path_of turn.vol) (file_contents turn.now (file_of turn.vol))
     by (left it) = absurd (cc (told, it.told))
     by (done it) =
-        subst (λ old. IsFileOf old (path_of turn.vol) (file_contents turn.now (file_of turn.vol))) (old-is name old turn is)
+        subst (λ old. AreBytesOfFile old (path_of turn.vol) (file_contents turn.now (file_of turn.vol))) (old-is name old turn is)
         (got turn.vol turn.files turn.now it.answer it.image turn.vol.verb (path_of turn.vol) (file-bytes turn) verb it.made it.wrote)
 
 -- so one over its image
-pub over-leaves : (name old : List ℕ) (turn : Turn) → IsTurnOn name old turn → GetsOver turn
-    → IsFileOf old (path_of turn.vol) (file_contents turn.now name)
+pub over-leaves : (name old : List ℕ) (turn : FinishedVolCall) → IsTurnOn name old turn → GetsOver turn
+    → AreBytesOfFile old (path_of turn.vol) (file_contents turn.now name)
 over-leaves name old turn is over =
-    subst (λ file. IsFileOf old (path_of turn.vol) (file_contents turn.now file)) (over.file ∙ is.image)
+    subst (λ file. AreBytesOfFile old (path_of turn.vol) (file_contents turn.now file)) (over.file ∙ is.image)
     (get-leaves name old turn is over.verb over.done)
 
 -- what a `dir` that was done has printed
-pub dir-prints : (name old : List ℕ) (turn : Turn) (is : IsTurnOn name old turn) → turn.vol.verb ≡ Dir
+pub dir-prints : (name old : List ℕ) (turn : FinishedVolCall) (is : IsTurnOn name old turn) → turn.vol.verb ≡ Dir
     → is_done turn ≡ true → PrintsLines old turn is.called.before is.called.after
 dir-prints name old turn is verb told = by (outcome name old turn is)
   where

@@ -1,7 +1,7 @@
 -- Checks of images whose bytes were read.
 use Rattle.std.proofs.Common.{◌≡◌, ℕ, Option, Some, None, List, refl, subst, inr, ap}
 use Rattle.std.specs.Prelude.{IfSome}
-use Rattle.os9_outer.specs.Host.{Files, file_contents}
+use Rattle.os9_outer.specs.Host.{HostFiles, file_contents}
 use Rattle.os9_outer.specs.Stream.{GainsPrefix, stream_with}
 use Rattle.rbf_model.specs.Faults.{IsFault}
 use Rattle.rbf_model.specs.Geometry.{image_geometry}
@@ -14,8 +14,8 @@ use Rattle.boot_run.specs.declared.status.End.{End}
 use Rattle.boot_run.specs.declared.status.End.TheVariants.{Ended, CannotWrite, NoMemory, BadImage}
 use Rattle.os9_boot.specs.Check.{CheckComesTo, PrintFails, PrintsAs, PrintsLine, counts_of, tree_line}
 use Rattle.os9_boot.specs.Commands.{CommandCall}
-use Rattle.os9_boot.specs.BootLeft.{CheckMayEnd, LeavesDevices}
-use Rattle.os9_boot.specs.Host.{FailsAsTold}
+use Rattle.os9_boot.specs.BootLeft.{CheckMayEnd, CommandLeavesDevices}
+use Rattle.os9_boot.specs.Host.{CommandFailsAsReported}
 use Rattle.os9_boot.proofs.BootCallLemmas.{kept-counts, still-silent, unchanged}
 
 module _ (before after : World) (image bytes : List ℕ) (read : IfSome before.files (λ files. bytes ≡ file_contents files image)) where
@@ -23,7 +23,7 @@ module _ (before after : World) (image bytes : List ℕ) (read : IfSome before.f
   of-image : (fact : List ℕ → Type 0) → fact bytes → IfSome before.files (λ files. fact (file_contents files image))
   of-image fact holds = by before.files read
     where
-      by : (told : Option Files) → IfSome told (λ files. bytes ≡ file_contents files image) → IfSome told (λ files. fact (file_contents files image))
+      by : (told : Option HostFiles) → IfSome told (λ files. bytes ≡ file_contents files image) → IfSome told (λ files. fact (file_contents files image))
       by None is = tt
       by (Some files) is = subst fact is holds
 
@@ -50,13 +50,13 @@ module _ (before after : World) (image bytes : List ℕ) (read : IfSome before.f
     may NoMemory printed = tt
     may end printed = absurd printed
 
-    leaves : (end : End) → PrintsAs (tree_line tree) before after end → LeavesDevices 0 before after end
+    leaves : (end : End) → PrintsAs (tree_line tree) before after end → CommandLeavesDevices 0 before after end
     leaves Ended printed = tt
     leaves CannotWrite printed = tt
     leaves NoMemory printed = tt
     leaves end printed = absurd printed
 
-    told : (end : End) → PrintsAs (tree_line tree) before after end → PrintFails end before after → FailsAsTold (CheckCommand image) end before after
+    told : (end : End) → PrintsAs (tree_line tree) before after end → PrintFails end before after → CommandFailsAsReported (CheckCommand image) end before after
     told Ended printed fails = fails
     told CannotWrite printed fails = fails
     told NoMemory printed fails = fails

@@ -8,7 +8,7 @@ use Rattle.os9_outer.specs.Host.{file_contents}
 use Rattle.os9_words.specs.declared.vol_words.Verb.{Verb}
 use Rattle.os9_words.specs.declared.vol_words.Verb.TheVariants.{Format, Get}
 use Rattle.rbf_model.specs.Volume.{DiskVolume, Vol}
-use Rattle.rbf_access.specs.Mounted.{Represents}
+use Rattle.rbf_access.specs.Mounted.{RepresentsVolume}
 use Rattle.vol_tools.specs.Blank.{blank_volume}
 use Rattle.vol_tools.specs.Tool.{Tool}
 use Rattle.vol_tools.specs.UsesInTurn.{Use, none}
@@ -17,7 +17,7 @@ use Rattle.vol_tools.proofs.Turns.{lists_join}
 use Rattle.os9_boot.specs.NewDisk.{LeavesNew}
 use Rattle.os9_boot.proofs.Lists.{from_new}
 use Rattle.os9_boot.specs.Vol.{file_of, path_of, tool_of, vol_tool}
-use Rattle.os9_boot.specs.Turns.{CallsInTurn, IsTurnOn, KeepsDisk, Turn, disk_of, is_done, uses_of}
+use Rattle.os9_boot.specs.Turns.{CallsInTurn, IsTurnOn, KeepsDisk, FinishedVolCall, disk_of, is_done, uses_of}
 use Rattle.os9_boot.proofs.Calls.{Outcome, done, done-leaves, file-bytes, left, left-same, old-is, outcome}
 use Rattle.os9_boot.proofs.CallVerbs.{Leaves, on-image, use-at}
 
@@ -25,11 +25,11 @@ use Rattle.os9_boot.proofs.CallVerbs.{Leaves, on-image, use-at}
 abbrev pub Comes : List Use → (old new : List ℕ) → Type 0
 Comes uses old new = (answers : List (List ℕ)) × LeavesInTurn uses (Some old) (Some new) answers
 
-abbrev pub ComesNew : (format : Turn) (later : List Turn) (new : List ℕ) → Type 0
+abbrev pub ComesNew : (format : FinishedVolCall) (later : List FinishedVolCall) (new : List ℕ) → Type 0
 ComesNew format later new =
     (answers : List (List ℕ)) × LeavesNew (disk_of format.vol) (uses_of later) (Some new) answers
 
-of-image : (image : List ℕ) (v : DiskVolume) → Represents (Some image) v → Vol image v
+of-image : (image : List ℕ) (v : DiskVolume) → RepresentsVolume (Some image) v → Vol image v
 of-image image v on = let same : image ≡ on.image = cc on.is in subst (λ image. Vol image v) (sym same) on.vol
 
 no-tool : (verb : Verb) (path bytes : List ℕ) → tool_of verb path bytes ≡ None → verb ≡ Format
@@ -42,18 +42,18 @@ no-tool verb path bytes is = absurd (cc is)
 abbrev use-by : Bool → Option Tool → TimePacket → Option Use
 use-by ended tool start = if ended then option_map (λ tool. record { tool = tool; now = start }) tool else None
 
-with-done : (turn : Turn) (turns : List Turn) (tool : Tool) → is_done turn ≡ true
+with-done : (turn : FinishedVolCall) (turns : List FinishedVolCall) (tool : Tool) → is_done turn ≡ true
     → vol_tool turn.files turn.vol ≡ Some tool → uses_of (turn ∷ turns) ≡ use-at tool turn.vol ∷ uses_of turns
 with-done turn turns tool told has =
     ap (λ one. cons_option one (uses_of turns)) (ap (λ ended. use-by ended (vol_tool turn.files turn.vol) turn.vol.start) told ∙ ap (λ tool. use-by true tool turn.vol.start) has)
 
-with-left : (turn : Turn) (turns : List Turn) → is_done turn ≡ false → uses_of (turn ∷ turns) ≡ uses_of turns
+with-left : (turn : FinishedVolCall) (turns : List FinishedVolCall) → is_done turn ≡ false → uses_of (turn ∷ turns) ≡ uses_of turns
 with-left turn turns told =
     ap (λ ended. cons_option (use-by ended (vol_tool turn.files turn.vol) turn.vol.start) (uses_of turns)) told
 
 -- ---- a call at the front
 
-behind-done : (turn : Turn) (turns : List Turn) (old mid new : List ℕ) → KeepsDisk turn → is_done turn ≡ true
+behind-done : (turn : FinishedVolCall) (turns : List FinishedVolCall) (old mid new : List ℕ) → KeepsDisk turn → is_done turn ≡ true
     → (tool : Option Tool) → vol_tool turn.files turn.vol ≡ tool → Leaves tool turn.vol old mid
     → ((v : DiskVolume) → Vol mid v → Comes (uses_of turns) mid new) → Comes (uses_of (turn ∷ turns)) old new
 behind-done turn turns old mid new keeps told None made leaves rest =
@@ -63,12 +63,12 @@ behind-done turn turns old mid new keeps told (Some tool) made (answer, leaves) 
     let joined = lists_join (use-at tool turn.vol ∷ []) (uses_of turns) (Some old) (Some mid) (Some new) (answer ∷ []) answers leaves later in
     (answer ∷ answers, subst (λ uses. LeavesInTurn uses (Some old) (Some new) (answer ∷ answers)) (sym (with-done turn turns tool told made)) joined)
 
-behind-left : (turn : Turn) (turns : List Turn) (old mid new : List ℕ) → is_done turn ≡ false → mid ≡ old
+behind-left : (turn : FinishedVolCall) (turns : List FinishedVolCall) (old mid new : List ℕ) → is_done turn ≡ false → mid ≡ old
     → Comes (uses_of turns) mid new → Comes (uses_of (turn ∷ turns)) old new
 behind-left turn turns old mid new told kept rest =
     subst (λ uses. Comes uses old new) (sym (with-left turn turns told)) (subst (λ held. Comes (uses_of turns) held new) kept rest)
 
-by-outcome : (name old new : List ℕ) (turn : Turn) (turns : List Turn) (is : IsTurnOn name old turn) → KeepsDisk turn
+by-outcome : (name old new : List ℕ) (turn : FinishedVolCall) (turns : List FinishedVolCall) (is : IsTurnOn name old turn) → KeepsDisk turn
     → Outcome turn is.called
     → ((v : DiskVolume) → Vol (file_contents turn.now name) v → Comes (uses_of turns) (file_contents turn.now name) new)
     → Comes (uses_of (turn ∷ turns)) old new
@@ -80,7 +80,7 @@ by-outcome name old new turn turns is keeps (left it) rest =
     let was : Vol (file_contents turn.now name) it.volume = subst (λ image. Vol image it.volume) (old-is name old turn is ∙ sym kept) it.was in
     behind-left turn turns old (file_contents turn.now name) new it.told kept (rest it.volume was)
 
-behind : (name old new : List ℕ) (turn : Turn) (turns : List Turn) → All KeepsDisk (turn ∷ turns)
+behind : (name old new : List ℕ) (turn : FinishedVolCall) (turns : List FinishedVolCall) → All KeepsDisk (turn ∷ turns)
     → CallsInTurn name (turn ∷ turns) old new
     → ((v : DiskVolume) → Vol (file_contents turn.now name) v → All KeepsDisk turns
     → CallsInTurn name turns (file_contents turn.now name) new → Comes (uses_of turns) (file_contents turn.now name) new)
@@ -91,7 +91,7 @@ behind name old new turn turns keep calls rest =
 -- ---- lists
 
 -- on the image of a volume
-along : (name : List ℕ) (turns : List Turn) (old new : List ℕ) (v : DiskVolume) → Vol old v → All KeepsDisk turns
+along : (name : List ℕ) (turns : List FinishedVolCall) (old new : List ℕ) (v : DiskVolume) → Vol old v → All KeepsDisk turns
     → CallsInTurn name turns old new → Comes (uses_of turns) old new
 along name [] old new v was keep calls = (
   [],
@@ -107,21 +107,21 @@ along name (turn ∷ turns) old new v was keep calls =
     behind name old new turn turns keep calls (along name turns (file_contents turn.now name) new)
 
 -- the first call finds the image of a volume
-pub some-calls : (name : List ℕ) (turns : List Turn) (old new : List ℕ) → turns ≢ [] → All KeepsDisk turns
+pub some-calls : (name : List ℕ) (turns : List FinishedVolCall) (old new : List ℕ) → turns ≢ [] → All KeepsDisk turns
     → CallsInTurn name turns old new → Comes (uses_of turns) old new
 some-calls name [] old new some keep calls = absurd (some refl)
 some-calls name (turn ∷ turns) old new some keep calls =
     behind name old new turn turns keep calls (along name turns (file_contents turn.now name) new)
 
 -- the calls from one on
-from-one : (name : List ℕ) (earlier later : List Turn) (turn : Turn) (old new : List ℕ)
+from-one : (name : List ℕ) (earlier later : List FinishedVolCall) (turn : FinishedVolCall) (old new : List ℕ)
     → CallsInTurn name (earlier ++ turn ∷ later) old new → (mid : List ℕ) × CallsInTurn name (turn ∷ later) mid new
 from-one name [] later turn old new calls = (old, calls)
 from-one name (first ∷ earlier) later turn old new calls =
     from-one name earlier later turn (file_contents first.now name) new calls.1
 
 -- from a new disk on
-new-disk : (name : List ℕ) (later : List Turn) (format : Turn) (old new : List ℕ) → format.vol.verb ≡ Format
+new-disk : (name : List ℕ) (later : List FinishedVolCall) (format : FinishedVolCall) (old new : List ℕ) → format.vol.verb ≡ Format
     → All KeepsDisk later → CallsInTurn name (format ∷ later) old new → ComesNew format later new
 new-disk name later format old new is keep calls = by (outcome name old format calls.0)
   where
@@ -142,7 +142,7 @@ new-disk name later format old new is keep calls = by (outcome name old format c
         let (answers, leaves) = along name later mid new blank was keep calls.1 in
         (answers, from_new (disk_of format.vol) mid (uses_of later) (Some new) answers was leaves)
 
-pub from-format : (name : List ℕ) (earlier later : List Turn) (format : Turn) (old new : List ℕ)
+pub from-format : (name : List ℕ) (earlier later : List FinishedVolCall) (format : FinishedVolCall) (old new : List ℕ)
     → format.vol.verb ≡ Format → All KeepsDisk later → CallsInTurn name (earlier ++ format ∷ later) old new
     → ComesNew format later new
 from-format name earlier later format old new is keep calls =

@@ -1,7 +1,7 @@
 -- What a `debug` has shown by its status, and which calls tell a terminal that failed.
 use Rattle.std.proofs.Common.{◌≡◌, ℕ, ◌⊎◌, inl, inr, Option, Some, None, List, refl, sym, subst, ◌∙◌, arith}
 use Rattle.std.specs.Prelude.{MatchOption}
-use Rattle.os9_outer.specs.Host.{Files}
+use Rattle.os9_outer.specs.Host.{HostFiles}
 use Rattle.os9_words.specs.Command.{command_of}
 use Rattle.os9_words.specs.Lines.{no_memory_line, words_line}
 use Rattle.os9_words.specs.Notes.{Notes}
@@ -15,7 +15,7 @@ use Rattle.boot_run.specs.declared.status.End.TheVariants.{Ended, Living, NoMemo
 use Rattle.os9_debug.specs.Counts.{TerminalRose}
 use Rattle.os9_debug.specs.Call.{DebugCall}
 use Rattle.os9_debug.specs.Left.{DebugMayEnd}
-use Rattle.os9_debug.specs.OneCourse.{IsFaultless, ShowsOneCourse}
+use Rattle.os9_debug.specs.OneCourse.{IsFaultlessDebug, ShowsOneCourse}
 use Rattle.os9_debug.proofs.OneCourse.{shows-one}
 use Rattle.os9_boot.specs.Commands.{CommandCall}
 use Rattle.os9_boot.specs.TopCall.{CommandReport, Reports, TopCall, WordsReport, words_status}
@@ -32,9 +32,9 @@ debug-call : (debug : DebugWords) (before after : World) (end : End) → Command
 debug-call debug before after end call =
     record { comes = call.comes; may = call.may; devices = call.devices; host = call.host; files = call.files }
 
-pub shows-one-run : (words : List (List ℕ)) (debug : DebugWords) (files : Files) (before after : World)
+pub shows-one-run : (words : List (List ℕ)) (debug : DebugWords) (files : HostFiles) (before after : World)
     (noted notes : Notes) (status : ℕ) → command_of words ≡ Some (Debug debug) → TopCall words before after noted
-    notes status → status ≡ status_number Ended → IsFaultless files debug before after → ShowsOneCourse files debug
+    notes status → status ≡ status_number Ended → IsFaultlessDebug files debug before after → ShowsOneCourse files debug
     before after
 shows-one-run words debug files before after noted notes status spelled call done faultless =
     shows-one files debug before after faultless

@@ -2,11 +2,11 @@
 use Rattle.std.proofs.Common.{◌≡◌, ◌≢◌, ◌≤◌, ℕ, zero, suc, Some, None, Result, Ok, Err, List, [], ◌∷◌, length, map, slice_get, refl, sym, ap, subst, ◌∙◌, arith, All}
 use Rattle.std.proofs.lemmas.List.{length-map}
 use Rattle.rbf_model.specs.Volume.{DiskVolume, Vol}
-use Rattle.rbf_access.specs.Mounted.{IsSound}
+use Rattle.rbf_access.specs.Mounted.{IsSoundMedia}
 use Rattle.file_drives.specs.Drives.{ChangesOneDrive, DriveView, drive_state, drive_states, media_at, media_of}
-use Rattle.file_rules.specs.Files.{DriveState, NoneFailed, OneFailed, drive_at}
+use Rattle.file_rules.specs.Files.{DriveState, KeepsDriveFaults, OneFailed, drive_at}
 use Rattle.boot_run.specs.BootFile.{IsVolume}
-use Rattle.boot_run.specs.Drives.{HaveRoom, IsEmpty, TakesImages, holding, with_media, without_media}
+use Rattle.boot_run.specs.Drives.{HaveRoom, IsEmptyDrive, TakesImages, holding, with_media, without_media}
 use Rattle.boot_run.specs.Ready.{AreEmptyAgain}
 use Rattle.boot_run.proofs.DriveLemmas.{counts-without, empty-without, media-without}
 use Rattle.vol_tools.specs.Tool.{Tool}
@@ -21,14 +21,14 @@ use Rattle.os9_words.specs.declared.vol_words.VolWords.{VolWords}
 use Rattle.boot_run.specs.declared.status.End.{End}
 use Rattle.boot_run.specs.declared.status.End.TheVariants.{NoMemory}
 use Rattle.os9_boot.specs.VolSteps.{DrivesAfter, DrivesFail, UsesDrive, UsesImage, fault_end}
-use Rattle.os9_boot.specs.Vol.{IsUsed}
+use Rattle.os9_boot.specs.Vol.{IsToolUsed}
 use Rattle.os9_boot.specs.declared.made.Made.{Made}
 
 some-one : {X : Type 0} (x y : X) → Some x ≡ Some y → x ≡ y
 some-one x y is = cc is
 
 -- the image that was put in is sound
-pub sound-in : (image : List ℕ) (drives : List DriveView) → 1 ≤ length drives → IsVolume image → (drive : DriveView) → slice_get (holding (image ∷ []) drives) 0 ≡ Some drive → IsSound drive.media
+pub sound-in : (image : List ℕ) (drives : List DriveView) → 1 ≤ length drives → IsVolume image → (drive : DriveView) → slice_get (holding (image ∷ []) drives) 0 ≡ Some drive → IsSoundMedia drive.media
 sound-in image [] some volume drive is = absurd (omega (arith, some))
 sound-in image (d ∷ ds) some (v, vol) drive is =
     let same : with_media image d ≡ drive = some-one (with_media image d) drive is in
@@ -54,7 +54,7 @@ module _ {A : Type 0} (use_ : Use) (bytes : A → List ℕ) (answer : Result A T
   many d ds mid it = ap length it.is
 
   -- its count has not risen, and its last fault is as before
-  quiet : (d : DriveView) (ds mid : List DriveView) (it : UsedAt d ds mid) → MovesFaults None d.counts it.new.counts → NoneFailed (drive_states (d ∷ ds)) (drive_states (map without_media mid))
+  quiet : (d : DriveView) (ds mid : List DriveView) (it : UsedAt d ds mid) → MovesFaults None d.counts it.new.counts → KeepsDriveFaults (drive_states (d ∷ ds)) (drive_states (map without_media mid))
   quiet d ds mid it moves =
       let same : drive_state it.new ≡ drive_state d = λ i. record { faults = moves.kept i; last = moves.last_kept i } in
       counts-without mid ∙ ap drive_states it.is ∙ ap (λ (state : DriveState). state ∷ drive_states ds) same
@@ -75,7 +75,7 @@ has-failed d new ds number moves = record {
 
 -- ---- the drives behind it
 
-left-behind : (drives mid : List DriveView) → All IsEmpty drives → length mid ≡ length drives → (media_of (map without_media mid) ≡ media_of drives) × AreEmptyAgain drives (map without_media mid)
+left-behind : (drives mid : List DriveView) → All IsEmptyDrive drives → length mid ≡ length drives → (media_of (map without_media mid) ≡ media_of drives) × AreEmptyAgain drives (map without_media mid)
 left-behind drives mid empty same =
     (media-without drives mid empty same, record { as_many = length-map mid without_media ∙ same; empty = empty-without mid })
 
@@ -121,7 +121,7 @@ module _ {A : Type 0} (tool : Tool) (vol : VolWords) (bytes : A → List ℕ) (i
   taken : (v : DiskVolume) (a : A) (new : DriveView) (ds mid after : List DriveView) (images : List (List ℕ))
       (left : List ℕ) → Vol image v → mid ≡ new ∷ ds → GivesOn use-of v (bytes a) new.media
       → OnMedia (KeepsTailBy tool) (Some image) new.media → OnMedia (KeepsOthersBy tool) (Some image) new.media
-      → TakesImages images mid after → slice_get images 0 ≡ Some left → IsUsed tool vol image (bytes a) left
+      → TakesImages images mid after → slice_get images 0 ≡ Some left → IsToolUsed tool vol image (bytes a) left
   taken v a new ds mid after images left was is gives tail others takes at =
       let there : media_at mid 0 ≡ Some gives.on.image = ap (λ (drives : List DriveView). media_at drives 0) is ∙ gives.on.is in
       record {
@@ -136,7 +136,7 @@ module _ {A : Type 0} (tool : Tool) (vol : VolWords) (bytes : A → List ℕ) (i
 
   pub image-used : (a : A) (drives mid after : List DriveView) (images : List (List ℕ)) (left : List ℕ)
       → HaveRoom 1 drives → ChangesOneDrive (UsesDrive use-of bytes (Ok a)) 0 (holding (image ∷ []) drives) mid
-      → TakesImages images mid after → slice_get images 0 ≡ Some left → IsUsed tool vol image (bytes a) left
+      → TakesImages images mid after → slice_get images 0 ≡ Some left → IsToolUsed tool vol image (bytes a) left
   image-used a [] mid after images left room changes takes at = absurd (omega (arith, room.enough))
   image-used a (d ∷ ds) mid after images left room changes takes at =
       let it = used-at use-of bytes (Ok a) image d ds mid changes in

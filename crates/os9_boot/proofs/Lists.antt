@@ -2,7 +2,7 @@
 use Rattle.std.proofs.Common.{◌≡◌, ℕ, Option, Some, List, [], ◌∷◌, refl, subst}
 use Rattle.os9_base.specs.declared.registers.TimePacket.{TimePacket}
 use Rattle.rbf_model.specs.Volume.{DiskVolume, Vol}
-use Rattle.rbf_access.specs.Mounted.{Represents}
+use Rattle.rbf_access.specs.Mounted.{RepresentsVolume}
 use Rattle.rbf_walk.proofs.Stepping.{same_content}
 use Rattle.vol_tools.specs.Blank.{blank_volume}
 use Rattle.vol_tools.specs.Tool.{freed_line, repair, repaired}
@@ -12,7 +12,7 @@ use Rattle.vol_tools.specs.declared.image.Repaired.{Repaired}
 use Rattle.vol_tools.specs.InTurn.{LeavesInTurn}
 use Rattle.os9_boot.specs.NewDisk.{LeavesNew, NewDisk}
 
-on_image : (image : List ℕ) (v : DiskVolume) → Vol image v → Represents (Some image) v
+on_image : (image : List ℕ) (v : DiskVolume) → Vol image v → RepresentsVolume (Some image) v
 on_image image v vol = record { image = image; is = refl; vol = vol }
 
 pub one_repair : (old : List ℕ) (outcome : Repaired) (now : TimePacket) → IsRepaired old outcome

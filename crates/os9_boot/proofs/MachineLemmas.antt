@@ -6,7 +6,7 @@ use Rattle.std.proofs.lemmas.Bool.{eq-eqb, eqb-true}
 use Rattle.std.proofs.lemmas.Option.{none-some}
 use Rattle.lock_model.specs.declared.history.Entry.{Entry}
 use Rattle.std.proofs.lemmas.List.Elements.{All-cons, All-head, All-tail}
-use Rattle.os9_outer.specs.Host.{Files, IfObserved}
+use Rattle.os9_outer.specs.Host.{HostFiles, IfObserved}
 use Rattle.os9_outer.specs.TerminalState.{TerminalState}
 use Rattle.file_drives.specs.Drives.{drive_states}
 use Rattle.machine_model.specs.declared.ends.BootFault.{BootFault}
@@ -25,7 +25,7 @@ use Rattle.boot_run.specs.declared.status.End.{End}
 use Rattle.boot_run.specs.declared.status.End.TheVariants.{Ended, Living, CannotRead, CannotWrite, CannotWriteImage, NoMemory, BadImage, BadText, BadBounds, DriveFailed, CannotWriteFile, Refused, BadSource, TerminalFailed}
 use Rattle.os9_boot.specs.Boots.{IsUndone, MachineComesTo, RunsToEnd, RunsUnwritten}
 use Rattle.boot_run.specs.Left.{ChangesOnly}
-use Rattle.os9_boot.specs.BootLeft.{BootLeavesFiles, LeavesDevices}
+use Rattle.os9_boot.specs.BootLeft.{BootLeavesFiles, CommandLeavesDevices}
 use Rattle.boot_run.specs.End.{boot_end}
 use Rattle.os9_boot.specs.History.{Outputs, no_outputs, output_bytes, output_names}
 use Rattle.os9_boot.specs.Written.{EndsBoot, StopsAt, WritesBack, end_unwritten, ends_run}
@@ -62,7 +62,7 @@ EndsSo setup outputs before after end = MachineComesTo setup outputs before afte
 pub record MachineEnds (setup : Setup) (outputs : Outputs) (before after : World) (end : End) : Type 0 where
   pub kind : IsOfMachine end
   pub comes : EndsSo setup outputs before after end
-  pub devices : LeavesDevices (length setup.images) before after end
+  pub devices : CommandLeavesDevices (length setup.images) before after end
   pub host : RunFails outputs end before after
   pub files : BootLeavesFiles (output_names outputs) before after end
 
@@ -103,7 +103,7 @@ which-name (first ∷ files) told (suc number) name named = elim (which-name fil
 ]
 
 -- what files are written behind the run are those of before that are written
-files-then : (fact : Files → Files → Type 0) (before mid after : World) → mid.files ≡ before.files → IfObserved fact mid.files after.files → IfObserved fact before.files after.files
+files-then : (fact : HostFiles → HostFiles → Type 0) (before mid after : World) → mid.files ≡ before.files → IfObserved fact mid.files after.files → IfObserved fact before.files after.files
 files-then fact before mid after kept wrote = subst (λ files. IfObserved fact files after.files) kept wrote
 
 outcome-after : (setup : Setup) (t : State) (written : List ℕ) (images : List (List ℕ)) (before mid after : World)
@@ -350,7 +350,7 @@ machine-ends setup outputs images history before mid after Run.NoMemory answer r
     rw (is, same) (out-of-memory-then setup outputs images history before mid run)
 
 -- without names nothing is written
-none-written : (texts : List (List ℕ)) (files : Option Files) → IfObserved (WritesAll [] texts) files files
+none-written : (texts : List (List ℕ)) (files : Option HostFiles) → IfObserved (WritesAll [] texts) files files
 none-written texts None = refl
 none-written texts (Some files) = λ name. refl
 

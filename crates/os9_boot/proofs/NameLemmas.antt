@@ -3,7 +3,7 @@ use Rattle.std.proofs.Common.{◌≡◌, ◌⊎◌, ◌==◌, ℕ, Bool, true, f
 use Rattle.std.specs.Prelude.{if◌then◌else◌}
 use Rattle.std.specs.Option.{option_map_or}
 use Rattle.lock_model.specs.declared.history.Entry.{Entry}
-use Rattle.os9_words.specs.Notes.{HasRead, HasWritten, Notes, having_read, having_written}
+use Rattle.os9_words.specs.Notes.{HasReadFiles, HasWritten, Notes, having_read, having_written}
 use Rattle.os9_words.specs.declared.command.Command.{Command}
 use Rattle.os9_words.specs.declared.command.Command.TheVariants.{Run as RunCommand, Boot as BootCommand, Check as CheckCommand, Stress as StressCommand, Vol as VolCommand, Asm as AsmCommand, Debug as DebugCommand}
 use Rattle.os9_outer.specs.Host.{IfObserved}
@@ -26,7 +26,7 @@ use Rattle.os9_boot.specs.Vol.{vol_outputs}
 use Rattle.os9_boot.specs.Check.{PrintsAs, PrintsLine}
 use Rattle.os9_boot.specs.End.{stress_end}
 use Rattle.os9_boot.specs.FileNames.{BootWrites}
-use Rattle.os9_boot.specs.FilesNoted.{NotesBack, NotesFiles, NotesHistory, Reads}
+use Rattle.os9_boot.specs.FilesNoted.{NotesBack, NotesFiles, NotesHistory, ReadsCommandFiles}
 use Rattle.os9_boot.specs.History.{Outputs, output_names, outputs_of}
 use Rattle.os9_boot.specs.Images.{RefusesImages}
 use Rattle.os9_boot.specs.Meaning.{meaning}
@@ -53,7 +53,7 @@ no-file-written-then (AsmCommand asm) = (asm_outputs asm, refl)
 no-file-written-then (DebugCommand debug) = refl
 
 -- no file was written behind what was read
-noted-so : (read : List (List ℕ)) (first next : Notes) → HasRead read first next → next ≡ having_written [] (having_read read first)
+noted-so : (read : List (List ℕ)) (first next : Notes) → HasReadFiles read first next → next ≡ having_written [] (having_read read first)
 noted-so read first next noted = noted.is ∙ (written-none (having_read read first)).is
 
 -- its reads stopped
@@ -84,12 +84,12 @@ abbrev pub IsBehindReads : End → Type 0
 IsBehindReads (CannotRead input) = ⊥
 IsBehindReads end = Unit {0}
 
-all-read : (command : Command) (end : End) → IsBehindReads end → Reads command end (meaning command).inputs
+all-read : (command : Command) (end : End) → IsBehindReads end → ReadsCommandFiles command end (meaning command).inputs
 all-read command (CannotRead input) behind = absurd behind
 all-read command NoMemory behind = ([], sym (append-nil (meaning command).inputs))
 all-read command end behind = refl
 
-module _ (command : Command) (end : End) (first mid : Notes) (behind : IsBehindReads end) (read : HasRead (meaning command).inputs first mid) where
+module _ (command : Command) (end : End) (first mid : Notes) (behind : IsBehindReads end) (read : HasReadFiles (meaning command).inputs first mid) where
   -- all was read, and then these files were written
   pub names-written : (written : List (List ℕ)) (next : Notes) → (meaning command).writes end written → HasWritten written mid next → NotesFiles command end first next
   names-written written next writes noted = record {

@@ -7,22 +7,22 @@ use Rattle.boot_run.specs.World.{World}
 use Rattle.boot_run.specs.Output.{WritesOutput}
 use Rattle.boot_run.specs.declared.status.End.TheVariants.{Ended, CannotWriteFile, NoMemory}
 use Rattle.os9_boot.specs.Asm.{asm_outputs}
-use Rattle.os9_boot.specs.AsmSteps.{NotesOut, WritesOut}
+use Rattle.os9_boot.specs.AsmSteps.{NotesOut, WritesAsmOut}
 
 module _ (asm : AsmWords) (bytes : List ℕ) (before after : World) where
-  pub wrote-whole : (value : Unit {0}) → WritesOutput {Value = Unit {0}} asm.out bytes (Ok value) before after → WritesOut asm bytes Ended before after
+  pub wrote-whole : (value : Unit {0}) → WritesOutput {Value = Unit {0}} asm.out bytes (Ok value) before after → WritesAsmOut asm bytes Ended before after
   wrote-whole value wrote = record {
     ends = (wrote.no_fault, wrote.written);
     silent = record { out = wrote.out; devices = wrote.devices };
   }
 
-  pub wrote-failed : WritesOutput {Value = Unit {0}} asm.out bytes (Err Failed) before after → WritesOut asm bytes CannotWriteFile before after
+  pub wrote-failed : WritesOutput {Value = Unit {0}} asm.out bytes (Err Failed) before after → WritesAsmOut asm bytes CannotWriteFile before after
   wrote-failed wrote = record {
     ends = (wrote.failed, wrote.part);
     silent = record { out = wrote.out; devices = wrote.devices };
   }
 
-  pub wrote-wanting : WritesOutput {Value = Unit {0}} asm.out bytes (Err OutOfMemory) before after → WritesOut asm bytes NoMemory before after
+  pub wrote-wanting : WritesOutput {Value = Unit {0}} asm.out bytes (Err OutOfMemory) before after → WritesAsmOut asm bytes NoMemory before after
   wrote-wanting wrote = record {
     ends = (wrote.no_fault, wrote.part);
     silent = record { out = wrote.out; devices = wrote.devices };

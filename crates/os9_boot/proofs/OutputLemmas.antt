@@ -1,7 +1,7 @@
 -- What is printed and written of what a verb has made.
 use Rattle.std.proofs.Common.{◌≡◌, ◌≢◌, ◌⊎◌, ◌<◌, ℕ, Option, Some, None, Ok, Err, List, [], ◌∷◌, length, slice_get, refl, sym, subst, ap, ◌∙◌, inl, inr, arith}
 use Rattle.std.specs.Prelude.{unwrap_or}
-use Rattle.os9_outer.specs.Host.{Files, IfObserved}
+use Rattle.os9_outer.specs.Host.{HostFiles, IfObserved}
 use Rattle.os9_outer.specs.Stream.{GainsPrefix, stream_with}
 use Rattle.os9_outer.specs.declared.host.HostFault.TheVariants.{Failed, OutOfMemory}
 use Rattle.os9_words.specs.Notes.{HasWritten, Notes}
@@ -62,13 +62,13 @@ get-outputs vol name is get =
 -- ---- a file that is written
 
 -- names and bytes that are those of one file
-all-of : (names written : List (List ℕ)) (name bytes : List ℕ) (before after : Option Files) → names ≡ name ∷ []
+all-of : (names written : List (List ℕ)) (name bytes : List ℕ) (before after : Option HostFiles) → names ≡ name ∷ []
     → written ≡ bytes ∷ [] → IfObserved (WritesAll (name ∷ []) (bytes ∷ [])) before after
     → IfObserved (WritesAll names written) before after
 all-of names written name bytes before after is are wrote =
     subst (λ names. IfObserved (WritesAll names written) before after) (sym is) (subst (λ written. IfObserved (WritesAll (name ∷ []) written) before after) (sym are) wrote)
 
-part-of : (names written : List (List ℕ)) (name bytes : List ℕ) (before after : Option Files) → names ≡ name ∷ []
+part-of : (names written : List (List ℕ)) (name bytes : List ℕ) (before after : Option HostFiles) → names ≡ name ∷ []
     → written ≡ bytes ∷ [] → IfObserved (WritesUpTo 0 (name ∷ []) (bytes ∷ [])) before after
     → IfObserved (WritesUpTo 0 names written) before after
 part-of names written name bytes before after is are wrote =
@@ -151,7 +151,7 @@ module _ (vol : VolWords) (answer image : List ℕ) (before after : World) (writ
   }
 
 -- `dir` writes none
-none-all : (files : Option Files) → IfObserved (WritesAll [] []) files files
+none-all : (files : Option HostFiles) → IfObserved (WritesAll [] []) files files
 none-all None = refl
 none-all (Some files) = λ name. refl
 

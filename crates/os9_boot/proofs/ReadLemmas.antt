@@ -2,13 +2,13 @@
 use Rattle.std.proofs.Common.{◌≡◌, ◌≢◌, ◌<◌, ℕ, zero, Option, Some, None, Result, Ok, Err, OnOk, Vec, Global, List, [], ◌∷◌, length, slice_get, refl, sym, subst, ap, ◌∙◌, arith}
 use Rattle.std.specs.Prelude.{IfErr, IfOk, IfSome, unwrap_or}
 use Rattle.os9_kernel.specs.Outside.{Outside}
-use Rattle.os9_outer.specs.Host.{Files, file_contents}
+use Rattle.os9_outer.specs.Host.{HostFiles, file_contents}
 use Rattle.os9_words.specs.Vol.{IsVol, rest_count}
 use Rattle.os9_words.specs.declared.vol_words.Verb.{Verb}
 use Rattle.os9_words.specs.declared.vol_words.Verb.TheVariants.{Format, Put, Get, Mkdir, Delete, Dir, Repair}
 use Rattle.os9_words.specs.declared.vol_words.VolWords.{VolWords}
 use Rattle.boot_run.specs.World.{World}
-use Rattle.os9_words.specs.Notes.{HasRead, Notes}
+use Rattle.os9_words.specs.Notes.{HasReadFiles, Notes}
 use Rattle.boot_run.specs.Stops.{NotesReads, NotesStop, StopsAtRead}
 use Rattle.boot_run.specs.declared.status.End.{End}
 use Rattle.boot_run.specs.declared.status.End.TheVariants.{CannotRead, NoMemory}
@@ -112,7 +112,7 @@ inputs-are Repair vol other = refl
 
 -- ---- both were read
 
-pub has-both : (vol : VolWords) (read : VolFiles) (told : Option Files)
+pub has-both : (vol : VolWords) (read : VolFiles) (told : Option HostFiles)
     → IfSome told (λ files. read.image.items ≡ file_contents files vol.image) → IfSome told (λ files. vol.verb ≡ Put
     → read.file.items ≡ file_contents files (file_of vol)) → IfSome told (λ files. HasVolFiles files vol read)
 has-both vol read None image file = tt
@@ -123,16 +123,16 @@ has-both vol read (Some files) image file = record { image = image; file = file 
 -- it was noted, or that it was not read
 module _ {Value : Type 0} (names : List (List ℕ)) (name : List ℕ) (only : names ≡ name ∷ []) (first next : Notes) where
   pub reads-of : (answer : Result Value End) (input : Input) (name_of : Input → Option (List ℕ))
-      → name_of input ≡ Some name → OnOk answer (HasRead (name ∷ []) first next)
+      → name_of input ≡ Some name → OnOk answer (HasReadFiles (name ∷ []) first next)
       → IfErr answer (λ end. (name_of : Input → Option (List ℕ)) → name_of input ≡ Some name
       → NotesStop name_of (name ∷ []) end first next)
       → NotesReads name_of names answer first next
-  reads-of (Ok value) input name_of named noted stopped = subst (λ names. HasRead names first next) (sym only) noted
+  reads-of (Ok value) input name_of named noted stopped = subst (λ names. HasReadFiles names first next) (sym only) noted
   reads-of (Err end) input name_of named noted stopped =
       subst (λ names. NotesStop name_of names end first next) (sym only) (stopped name_of named)
 
 -- FILE of `put` was read
-pub put-contents : (vol : VolWords) (name : List ℕ) → slice_get vol.rest 1 ≡ Some name → (told : Option Files)
+pub put-contents : (vol : VolWords) (name : List ℕ) → slice_get vol.rest 1 ≡ Some name → (told : Option HostFiles)
     (answer : Result (Vec ℕ Global) End)
     → IfOk answer (λ bytes. IfSome told (λ files. bytes.items ≡ file_contents files name))
     → IfOk answer (λ bytes. IfSome told (λ files. vol.verb ≡ Put → bytes.items ≡ file_contents files (file_of vol)))
@@ -141,6 +141,6 @@ put-contents vol name is None (Ok bytes) contents = tt
 put-contents vol name is (Some files) (Ok bytes) contents = λ put. contents ∙ ap (λ name. file_contents files name) (sym (file-is vol name is))
 
 -- another verb has none
-pub other-contents : (vol : VolWords) (bytes : List ℕ) (told : Option Files) → vol.verb ≢ Put → IfSome told (λ files. vol.verb ≡ Put → bytes ≡ file_contents files (file_of vol))
+pub other-contents : (vol : VolWords) (bytes : List ℕ) (told : Option HostFiles) → vol.verb ≢ Put → IfSome told (λ files. vol.verb ≡ Put → bytes ≡ file_contents files (file_of vol))
 other-contents vol bytes None other = tt
 other-contents vol bytes (Some files) other = λ put. absurd (other put)

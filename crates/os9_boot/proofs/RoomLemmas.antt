@@ -11,8 +11,8 @@ use Rattle.os9_words.specs.declared.command.Command.{Command}
 use Rattle.os9_words.specs.declared.command.Command.TheVariants.{Run, Boot, Check, Stress, Vol, Asm, Debug}
 use Rattle.os9_words.specs.Command.{command_of, most_images}
 use Rattle.os9_words.proofs.CommandLemmas.{is-complete}
-use Rattle.boot_run.specs.Drives.{HaveRoom, IsEmpty}
-use Rattle.boot_run.specs.Ready.{AreFree}
+use Rattle.boot_run.specs.Drives.{HaveRoom, IsEmptyDrive}
+use Rattle.boot_run.specs.Ready.{DevicesAreFree}
 use Rattle.os9_kernel.specs.Outside.{Outside}
 use Rattle.os9_boot.specs.Devices.{drives_for}
 
@@ -39,7 +39,7 @@ has-drives words drives room = record {
 }
 
 -- and devices with so many are free for any words
-pub free-for : (words : List (List ℕ)) (devices : Outside) → AreUnloaded devices.terms → HaveRoom most_images devices.drives → AreFree (drives_for words) devices
+pub free-for : (words : List (List ℕ)) (devices : Outside) → AreUnloaded devices.terms → HaveRoom most_images devices.drives → DevicesAreFree (drives_for words) devices
 free-for words devices unloaded room = record {
   terminals = unloaded;
   room = has-drives words devices.drives room;
@@ -48,18 +48,18 @@ free-for words devices unloaded room = record {
 -- one drive more
 pub empty-more : {Table : Type 0} {Driver : Table → Type 0} (members : (drive : DynBox Table Global Driver) → Ghosts (Driver drive.vtable))
     (drives : List (DynBox Table Global Driver)) (drive : DynBox Table Global Driver)
-    → IsEmpty (boxed_seen members drive) → All IsEmpty (drive_views members drives)
-    → All IsEmpty (drive_views members (drives ++ drive ∷ []))
-empty-more members [] drive is empty = All-cons IsEmpty (boxed_seen members drive) [] is empty
+    → IsEmptyDrive (boxed_seen members drive) → All IsEmptyDrive (drive_views members drives)
+    → All IsEmptyDrive (drive_views members (drives ++ drive ∷ []))
+empty-more members [] drive is empty = All-cons IsEmptyDrive (boxed_seen members drive) [] is empty
 empty-more members (first ∷ drives) drive is empty =
-    All-cons IsEmpty (boxed_seen members first) (drive_views members (drives ++ drive ∷ []))
-    (All-head IsEmpty (boxed_seen members first) (drive_views members drives) empty)
-    (empty-more members drives drive is (All-tail IsEmpty (boxed_seen members first)
+    All-cons IsEmptyDrive (boxed_seen members first) (drive_views members (drives ++ drive ∷ []))
+    (All-head IsEmptyDrive (boxed_seen members first) (drive_views members drives) empty)
+    (empty-more members drives drive is (All-tail IsEmptyDrive (boxed_seen members first)
     (drive_views members drives) empty))
 
 -- four drives without images
 pub four-drives : {Table : Type 0} {Driver : Table → Type 0} (members : (drive : DynBox Table Global Driver) → Ghosts (Driver drive.vtable))
-    (drives : List (DynBox Table Global Driver)) → length drives ≡ 4 → All IsEmpty (drive_views members drives)
+    (drives : List (DynBox Table Global Driver)) → length drives ≡ 4 → All IsEmptyDrive (drive_views members drives)
     → HaveRoom 4 (drive_views members drives)
 four-drives members drives count empty = record {
   enough = rw length-map (omega (arith, count));

@@ -1,7 +1,7 @@
 -- A run whose files were read.
 use Rattle.std.proofs.Common.{◌≡◌, ℕ, Option, Some, None, List, [], Ok, Err, length, refl, inl, inr, arith}
 use Rattle.std.specs.Prelude.{IfSome}
-use Rattle.os9_outer.specs.Host.{Files}
+use Rattle.os9_outer.specs.Host.{HostFiles}
 use Rattle.script_text.specs.declared.script.ScriptKey.{ScriptKey}
 use Rattle.script_text.specs.Script.{keys_of}
 use Rattle.script_text.specs.Slices.{slices_of}
@@ -19,8 +19,8 @@ use Rattle.boot_run.specs.declared.status.End.TheVariants.{CannotRead, CannotWri
 use Rattle.boot_run.specs.declared.status.Input.TheVariants.{Script as ScriptInput, Slices as SlicesInput}
 use Rattle.os9_boot.specs.Boots.{RunComesTo}
 use Rattle.os9_boot.specs.Commands.{CommandCall}
-use Rattle.os9_boot.specs.BootLeft.{LeavesDevices, RunMayEnd}
-use Rattle.os9_boot.specs.Host.{FailsAsTold}
+use Rattle.os9_boot.specs.BootLeft.{CommandLeavesDevices, RunMayEnd}
+use Rattle.os9_boot.specs.Host.{CommandFailsAsReported}
 use Rattle.boot_run.specs.Reading.{HasRunFiles, RefusesTexts}
 use Rattle.boot_run.specs.Setup.{SetsUpRun}
 use Rattle.os9_boot.specs.History.{no_outputs, output_bytes}
@@ -30,7 +30,7 @@ use Rattle.os9_boot.proofs.MachineLemmas.{EndsSo, RunFails, ends-alone, IsOfMach
 
 -- ---- a machine that ran without images
 
-module _ (files : Files) (run : RunWords) (setup : Setup) (before after : World) (sets : SetsUpRun files run (length before.devices.terms) setup) where
+module _ (files : HostFiles) (run : RunWords) (setup : Setup) (before after : World) (sets : SetsUpRun files run (length before.devices.terms) setup) where
   run-comes : (end : End) → IsOfMachine end → EndsSo setup no_outputs before after end → RunComesTo files run before after end
   run-comes (CannotRead input) of comes = tt
   run-comes (BadText input line) of comes = absurd of
@@ -38,7 +38,7 @@ module _ (files : Files) (run : RunWords) (setup : Setup) (before after : World)
   run-comes NoMemory of (inr comes) = inr (setup, sets, comes)
   run-comes end of comes = (setup, sets, comes)
 
-run-may : (before after : World) (end : End) → IsOfMachine end → RunFails no_outputs end before after → LeavesDevices 0 before after end → RunMayEnd end
+run-may : (before after : World) (end : End) → IsOfMachine end → RunFails no_outputs end before after → CommandLeavesDevices 0 before after end → RunMayEnd end
 run-may before after (BadImage number fault) of failed left = absurd of
 run-may before after (BadText input line) of failed left = absurd of
 run-may before after BadBounds of failed left = absurd of
@@ -50,7 +50,7 @@ run-may before after (BadSource line error) of failed left = absurd of
 run-may before after (TerminalFailed n) of failed left = absurd of
 run-may before after end of failed left = tt
 
-run-fails : (run : RunWords) (before after : World) (end : End) → RunFails no_outputs end before after → FailsAsTold (RunCommand run) end before after
+run-fails : (run : RunWords) (before after : World) (end : End) → RunFails no_outputs end before after → CommandFailsAsReported (RunCommand run) end before after
 run-fails run before after (CannotRead input) failed = absurd failed
 run-fails run before after CannotWrite failed = failed
 run-fails run before after (CannotWriteImage number) failed = absurd (cc failed.1)
@@ -61,10 +61,10 @@ run-fails run before after end kept = kept
 
 module _ (before : World) (run : RunWords) (read : RunFiles) (has : IfSome before.files (λ files. HasRunFiles files run read)) where
   -- what follows of the files that were read
-  of-files : (fact : Files → Type 0) → ((files : Files) → HasRunFiles files run read → fact files) → IfSome before.files fact
+  of-files : (fact : HostFiles → Type 0) → ((files : HostFiles) → HasRunFiles files run read → fact files) → IfSome before.files fact
   of-files fact follows = by before.files has
     where
-      by : (told : Option Files) → IfSome told (λ files. HasRunFiles files run read) → IfSome told fact
+      by : (told : Option HostFiles) → IfSome told (λ files. HasRunFiles files run read) → IfSome told fact
       by None has = tt
       by (Some files) has = follows files has
 
@@ -112,7 +112,7 @@ module _ (before : World) (run : RunWords) (read : RunFiles) (has : IfSome befor
       slices = slices;
     }
 
-    sets-up : (files : Files) → HasRunFiles files run read → SetsUpRun files run (length before.devices.terms) setup
+    sets-up : (files : HostFiles) → HasRunFiles files run read → SetsUpRun files run (length before.devices.terms) setup
     sets-up files has = record {
       words = record {
         texts = record { script = rw (← has.script) given; slice_text = rw (← has.slices) cut };

@@ -2,7 +2,7 @@
 use Rattle.std.proofs.Common.{◌≡◌, ◌≢◌, ℕ, zero, suc, Option, Some, None, Result, Ok, Err, List, [], take, append-nil, refl, sym, ap, subst, ◌∙◌, inl, inr, arith}
 use Rattle.std.specs.Prelude.{IfSome}
 use Rattle.os9_base.specs.Count.{Rose}
-use Rattle.os9_outer.specs.Host.{Files, IfObserved, file_contents}
+use Rattle.os9_outer.specs.Host.{HostFiles, IfObserved, file_contents}
 use Rattle.os9_outer.specs.Stream.{GainsPrefix, stream_with}
 use Rattle.os9_words.specs.declared.vol_words.Verb.{Verb}
 use Rattle.os9_words.specs.declared.vol_words.Verb.TheVariants.{Format, Put, Get, Mkdir, Delete, Dir, Repair}
@@ -10,7 +10,7 @@ use Rattle.os9_words.specs.declared.vol_words.VolWords.{VolWords}
 use Rattle.rbf_model.specs.Faults.{IsFault}
 use Rattle.vol_tools.specs.Tool.{Tool}
 use Rattle.file_drives.specs.Drives.{drive_states, media_of}
-use Rattle.file_rules.specs.Files.{NoneFailed}
+use Rattle.file_rules.specs.Files.{KeepsDriveFaults}
 use Rattle.os9_kernel.specs.Outside.{Outside}
 use Rattle.boot_run.specs.BootFile.{IsVolume}
 use Rattle.boot_run.specs.Images.{WritesAll, WritesUpTo}
@@ -23,17 +23,17 @@ use Rattle.boot_run.proofs.ChangeLemmas.{all-change, first-change, same-changes}
 use Rattle.os9_boot.specs.VolCall.{MakesCall, MakesQuietly, VolCall}
 use Rattle.os9_boot.specs.VolLeft.{LeavesMade, LeavesQuiet, PrintsLines, VolLeavesFiles, VolMayEnd}
 use Rattle.os9_boot.specs.VolSteps.{DrivesAfter, Finishes, FormatsDisk, HasVolFiles, MakesOf, PrintEnds, WritesEnd}
-use Rattle.os9_boot.specs.Vol.{MakesBy, MakesThen, PrintsAndStops, PrintsAndWrites, PrintsFirst, RefusesBy, VolComesTo, file_of, path_of, printed_of, tool_of, vol_file_name, vol_outputs, vol_tool, written_of}
+use Rattle.os9_boot.specs.Vol.{MakesBy, MakesThen, PrintsAndStops, PrintsAndWrites, PrintsFirstLines, RefusesBy, VolComesTo, file_of, path_of, printed_of, tool_of, vol_file_name, vol_outputs, vol_tool, written_of}
 use Rattle.os9_boot.specs.declared.files.VolFiles.{VolFiles}
 use Rattle.os9_boot.specs.declared.made.Made.{Made}
 
 -- ---- worlds
 
-of-any : (told : Option Files) (fact : Files → Type 0) → ((files : Files) → fact files) → IfSome told fact
+of-any : (told : Option HostFiles) (fact : HostFiles → Type 0) → ((files : HostFiles) → fact files) → IfSome told fact
 of-any None fact holds = tt
 of-any (Some files) fact holds = holds files
 
-of-each : (told : Option Files) (one other : Files → Type 0) → ((files : Files) → one files → other files) → IfSome told one → IfSome told other
+of-each : (told : Option HostFiles) (one other : HostFiles → Type 0) → ((files : HostFiles) → one files → other files) → IfSome told one → IfSome told other
 of-each None one other follows holds = tt
 of-each (Some files) one other follows holds = follows files holds
 
@@ -161,7 +161,7 @@ module _ (vol : VolWords) (read : VolFiles) (before : World) (devices : Outside)
       (tool-same vol.verb (path_of vol) read.file.items (file_contents files (file_of vol)) has.file)
       (subst (λ image. fact (tool_of vol.verb (path_of vol) read.file.items) image) has.image holds)) has
 
-  quiet : NoneFailed (drive_states before.devices.drives) (drive_states devices.drives) → media_of devices.drives ≡ media_of before.devices.drives → LeavesQuiet before after
+  quiet : KeepsDriveFaults (drive_states before.devices.drives) (drive_states devices.drives) → media_of devices.drives ≡ media_of before.devices.drives → LeavesQuiet before after
   quiet counts media = record { terminals = terms; none_failed = counts; media_kept = media }
 
   pub made-of : (result : Result Made End) → MakesOf vol read.image.items read.file.items result → DrivesAfter result before.devices.drives devices.drives → MakesCall vol result before after
@@ -244,7 +244,7 @@ module _ (vol : VolWords) (made : Made) (before mid after : World) (quiet : Make
     first : HasNoFault before printed
     first = no-fault-then before mid printed quiet.no_fault sure
 
-    files-from : (fact : Files → Files → Type 0) → IfObserved fact printed.files after.files → IfObserved fact before.files after.files
+    files-from : (fact : HostFiles → HostFiles → Type 0) → IfObserved fact printed.files after.files → IfObserved fact before.files after.files
     files-from fact wrote = subst (λ files. IfObserved fact files after.files) (kept ∙ quiet.files) wrote
 
     rose-from : Rose printed.faults after.faults → Rose before.faults after.faults
@@ -296,7 +296,7 @@ module _ (vol : VolWords) (made : Made) (before mid after : World) (quiet : Make
   gains-out : GainsPrefix mid.out out after.out → GainsPrefix before.out out after.out
   gains-out prefix = subst (λ stream. GainsPrefix stream out after.out) quiet.out prefix
 
-  prints-first : GainsPrefix mid.out out after.out → out ≢ [] → after.files ≡ mid.files → PrintsFirst before after out written
+  prints-first : GainsPrefix mid.out out after.out → out ≢ [] → after.files ≡ mid.files → PrintsFirstLines before after out written
   prints-first prefix some files = record { output = gains-out prefix; files = files ∙ quiet.files; some = some }
 
   begun-lines : GainsPrefix mid.out out after.out → after.files ≡ mid.files → after.devices ≡ mid.devices → LeavesMade vol.verb before after
@@ -307,16 +307,16 @@ module _ (vol : VolWords) (made : Made) (before mid after : World) (quiet : Make
 
   print-ended : (end : End) → PrintEnds out end mid after → VolCall vol before after end
   print-ended CannotWrite ends = record {
-    comes = comes-then (PrintsFirst before after) (prints-first ends.prefix ends.some ends.files);
+    comes = comes-then (PrintsFirstLines before after) (prints-first ends.prefix ends.some ends.files);
     may = prints-lines vol.verb made.answer.items ends.some;
     devices = begun-lines ends.prefix ends.files ends.devices;
     host = (subst (λ faults. Rose faults after.faults) quiet.no_fault.0 ends.stopped.0, ends.stopped.1, ends.stopped.2);
     files = ends.files ∙ quiet.files;
   }
   print-ended NoMemory ends = record {
-    comes = of-each before.files (λ files. MakesThen files vol (PrintsFirst before after))
+    comes = of-each before.files (λ files. MakesThen files vol (PrintsFirstLines before after))
         (λ files. VolComesTo files vol before after NoMemory) (λ files makes. inr (inl makes))
-        (comes-then (PrintsFirst before after) (prints-first ends.prefix ends.some ends.files));
+        (comes-then (PrintsFirstLines before after) (prints-first ends.prefix ends.some ends.files));
     may = tt;
     devices = begun-lines ends.prefix ends.files ends.devices;
     host = no-fault-then before mid after quiet.no_fault ends.stopped;

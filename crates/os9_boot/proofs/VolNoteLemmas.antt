@@ -1,6 +1,6 @@
 -- The files that `vol` reads and writes, as its host notes them.
 use Rattle.std.proofs.Common.{◌≡◌, ℕ, Result, Ok, Err, List, [], refl, sym, ap, subst, ◌∙◌, inl, inr, append-nil}
-use Rattle.os9_words.specs.Notes.{HasRead, HasWritten, Notes, having_read, having_written}
+use Rattle.os9_words.specs.Notes.{HasReadFiles, HasWritten, Notes, having_read, having_written}
 use Rattle.os9_words.specs.declared.vol_words.Verb.TheVariants.{Format}
 use Rattle.os9_words.specs.declared.vol_words.VolWords.{VolWords}
 use Rattle.boot_run.specs.World.{World}
@@ -15,7 +15,7 @@ use Rattle.os9_boot.specs.Vol.{inputs_of, vol_file_name, vol_inputs, vol_outputs
 use Rattle.os9_boot.specs.declared.made.Made.{Made}
 
 -- no file was written behind what was read
-none-behind : (read : List (List ℕ)) (first next : Notes) → HasRead read first next → next ≡ having_written [] (having_read read first)
+none-behind : (read : List (List ℕ)) (first next : Notes) → HasReadFiles read first next → next ≡ having_written [] (having_read read first)
 none-behind read first next noted = noted.is ∙ (written-none (having_read read first)).is
 
 -- the reads stopped
@@ -42,13 +42,13 @@ no-inputs vol format = ap (λ verb. inputs_of verb vol) format
 
 pub notes-formatted : (vol : VolWords) (result : Result Made End) (notes : Notes) → vol.verb ≡ Format → FormatsDisk vol result → NotesMaking vol result notes notes
 notes-formatted vol (Ok made) notes format is =
-    subst (λ names. HasRead names notes notes) (sym (no-inputs vol format)) (read-none notes)
+    subst (λ names. HasReadFiles names notes notes) (sym (no-inputs vol format)) (read-none notes)
 notes-formatted vol (Err NoMemory) notes format is =
     notes-stopped vol NoMemory notes notes (record { read = []; stops = (vol_inputs vol, refl); noted = read-none notes })
 notes-formatted vol (Err end) notes format is = absurd is
 
 -- all was read, and then it ended
-module _ (vol : VolWords) (first mid : Notes) (read : HasRead (vol_inputs vol) first mid) where
+module _ (vol : VolWords) (first mid : Notes) (read : HasReadFiles (vol_inputs vol) first mid) where
   pub notes-made : (image bytes : List ℕ) (result : Result Made End) → MakesOf vol image bytes result → NotesMaking vol result first mid
   notes-made image bytes (Ok made) is = read
   notes-made image bytes (Err (BadImage number fault)) is = record { read = vol_inputs vol; reads = refl; written = []; writes = refl; noted = none-behind (vol_inputs vol) first mid read }

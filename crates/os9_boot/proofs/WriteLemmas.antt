@@ -8,7 +8,7 @@ use Rattle.std.proofs.lemmas.Option.{none-some, same_Some, slice_get_within}
 use Rattle.std.proofs.Math.Seq.{take-append_seam}
 use Rattle.lock_model.specs.Lines.{history_text}
 use Rattle.lock_model.specs.declared.history.Entry.{Entry}
-use Rattle.os9_outer.specs.Host.{Files, IfObserved, KeepsOrHoldsPrefix}
+use Rattle.os9_outer.specs.Host.{HostFiles, IfObserved, KeepsOrHoldsPrefix}
 use Rattle.os9_outer.specs.declared.host.HostFault.{HostFault}
 use Rattle.os9_outer.specs.declared.host.HostFault.TheVariants.{Failed}
 use Rattle.boot_run.specs.ImageWrites.{FailsAt, WritesImages}
@@ -41,7 +41,7 @@ there-behind [] more x = refl
 there-behind (first ∷ xs) more x = there-behind xs more x
 
 -- the files behind as many names and images are those behind the last of them
-with_images-last : (names images : List (List ℕ)) (name image : List ℕ) (files : Files) → length images ≡ length names
+with_images-last : (names images : List (List ℕ)) (name image : List ℕ) (files : HostFiles) → length images ≡ length names
     → with_images files (names ++ name ∷ []) (images ++ image ∷ []) ≡ with_file (with_images files names images) name image
 with_images-last [] [] name image files many = refl
 with_images-last [] (one ∷ images) name image files many = absurd (omega (arith, many))
@@ -51,8 +51,8 @@ with_images-last (first ∷ names) (one ∷ images) name image files many =
 
 -- ---- what was written, observed or not
 
-then-so : (first next whole : Files → Files → Type 0) → ((before mid now : Files) → first before mid → next mid now → whole before now)
-    → (before mid now : Option Files) → IfObserved first before mid → IfObserved next mid now → IfObserved whole before now
+then-so : (first next whole : HostFiles → HostFiles → Type 0) → ((before mid now : HostFiles) → first before mid → next mid now → whole before now)
+    → (before mid now : Option HostFiles) → IfObserved first before mid → IfObserved next mid now → IfObserved whole before now
 then-so first next whole by None None None one other = refl
 then-so first next whole by None None (Some now) one other = absurd (cc other)
 then-so first next whole by None (Some mid) now one other = absurd (cc one)
@@ -60,14 +60,14 @@ then-so first next whole by (Some before) None now one other = absurd one
 then-so first next whole by (Some before) (Some mid) None one other = absurd other
 then-so first next whole by (Some before) (Some mid) (Some now) one other = by before mid now one other
 
-so-too : (one other : Files → Files → Type 0) → ((before now : Files) → one before now → other before now)
-    → (before now : Option Files) → IfObserved one before now → IfObserved other before now
+so-too : (one other : HostFiles → HostFiles → Type 0) → ((before now : HostFiles) → one before now → other before now)
+    → (before now : Option HostFiles) → IfObserved one before now → IfObserved other before now
 so-too one other by None now is = is
 so-too one other by (Some before) None is = absurd is
 so-too one other by (Some before) (Some now) is = by before now is
 
 -- the images were written up to one of them: so were the images and what is behind them
-up-to-front : (number : ℕ) (names images more texts : List (List ℕ)) (before now : Files)
+up-to-front : (number : ℕ) (names images more texts : List (List ℕ)) (before now : HostFiles)
     → WritesUpTo number names images before now → WritesUpTo number (names ++ more) (images ++ texts) before now
 up-to-front number names images more texts before now it =
     let low : number ≤ length names = omega (arith, slice_get_within names number it.name it.named) in
@@ -89,16 +89,16 @@ up-to-front number names images more texts before now it =
 
 module _ (names images : List (List ℕ)) (name text : List ℕ) (many : length images ≡ length names) where
   -- a file behind them was written too
-  all-behind : (before mid now : Files) → WritesAll names images before mid → WritesAll (name ∷ []) (text ∷ []) mid now
+  all-behind : (before mid now : HostFiles) → WritesAll names images before mid → WritesAll (name ∷ []) (text ∷ []) mid now
       → WritesAll (names ++ name ∷ []) (images ++ text ∷ []) before now
   all-behind before mid now all last other =
-      last other ∙ by ∙ sym (ap (λ (files : Files). files other) (with_images-last names images name text before many))
+      last other ∙ by ∙ sym (ap (λ (files : HostFiles). files other) (with_images-last names images name text before many))
     where
       by : with_file mid name text other ≡ with_file (with_images before names images) name text other
       by = simp (all other)
 
   -- or not, or in part
-  up-to-last : (before mid now : Files) → WritesAll names images before mid → WritesUpTo 0 (name ∷ []) (text ∷ []) mid now
+  up-to-last : (before mid now : HostFiles) → WritesAll names images before mid → WritesUpTo 0 (name ∷ []) (text ∷ []) mid now
       → WritesUpTo (length names) (names ++ name ∷ []) (images ++ text ∷ []) before now
   up-to-last before mid now all last =
       let names_same : names ≡ take (length names) (names ++ name ∷ []) = sym (take-append_seam names (name ∷ [])) in
@@ -120,7 +120,7 @@ module _ (names images : List (List ℕ)) (name text : List ℕ) (many : length 
       }
 
 -- nothing was written yet
-pub none-yet : (name text : List ℕ) (files : Option Files) → IfObserved (WritesUpTo 0 (name ∷ []) (text ∷ [])) files files
+pub none-yet : (name text : List ℕ) (files : Option HostFiles) → IfObserved (WritesUpTo 0 (name ∷ []) (text ∷ [])) files files
 none-yet name text None = refl
 none-yet name text (Some files) = record {
   name = name;

@@ -1,6 +1,6 @@
 -- What `asm` does (this project's own; the language of sources is that of asm_model).
 use Rattle.std.specs.Prelude.{◌≡◌, ◌⊎◌, ℕ, ⊤, Option, Some, None, Ok, Err, List, [], ◌∷◌}
-use Rattle.os9_outer.specs.Host.{Files, file_contents, IfObserved}
+use Rattle.os9_outer.specs.Host.{HostFiles, file_contents, IfObserved}
 use Rattle.os9_words.specs.declared.asm_words.AsmWords.{AsmWords}
 use Rattle.boot_run.specs.Images.{WritesAll, WritesUpTo}
 use Rattle.boot_run.specs.World.{World}
@@ -47,16 +47,16 @@ abbrev pub HasModule : AsmWords → World → World → List ℕ → Type 0
 HasModule asm before after bytes = IfObserved (WritesAll (asm_outputs asm) (bytes ∷ [])) before.files after.files
 
 -- OUT may have a part of them, and no other file has changed
-abbrev pub HasPart : AsmWords → World → World → List ℕ → Type 0
-HasPart asm before after bytes = IfObserved (WritesUpTo 0 (asm_outputs asm) (bytes ∷ [])) before.files after.files
+abbrev pub HasOutputPart : AsmWords → World → World → List ℕ → Type 0
+HasOutputPart asm before after bytes = IfObserved (WritesUpTo 0 (asm_outputs asm) (bytes ∷ [])) before.files after.files
 
 -- its outcome, by its end
-abbrev pub AsmComesTo : Files → AsmWords → World → World → End → Type 0
+abbrev pub AsmComesTo : HostFiles → AsmWords → World → World → End → Type 0
 AsmComesTo files asm before after Ended = MakesThen (file_contents files asm.source) (HasModule asm before after)
 AsmComesTo files asm before after CannotWriteFile =
-    MakesThen (file_contents files asm.source) (HasPart asm before after)
+    MakesThen (file_contents files asm.source) (HasOutputPart asm before after)
 AsmComesTo files asm before after NoMemory =
-    (after.files ≡ before.files) ⊎ MakesThen (file_contents files asm.source) (HasPart asm before after)
+    (after.files ≡ before.files) ⊎ MakesThen (file_contents files asm.source) (HasOutputPart asm before after)
 AsmComesTo files asm before after (BadSource line error) =
     outcome_of (file_contents files asm.source) ≡ Err (fault_on line error)
 AsmComesTo files asm before after end = ⊤

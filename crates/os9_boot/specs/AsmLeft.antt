@@ -3,7 +3,7 @@ use Rattle.std.specs.Prelude.{◌≡◌, ℕ, ⊤, List, []}
 use Rattle.os9_outer.specs.Host.{IfObserved}
 use Rattle.os9_words.specs.declared.asm_words.AsmWords.{AsmWords}
 use Rattle.boot_run.specs.World.{World}
-use Rattle.boot_run.specs.FileNames.{IsFront}
+use Rattle.boot_run.specs.FileNames.{AreFirstNames}
 use Rattle.boot_run.specs.Left.{ChangesOnly, IsSilent}
 use Rattle.boot_run.specs.declared.status.End.{End}
 use Rattle.boot_run.specs.declared.status.End.TheVariants.{Ended, CannotRead, CannotWriteFile, NoMemory, BadSource}
@@ -39,5 +39,5 @@ AsmLeavesFiles asm before after end = after.files ≡ before.files
 abbrev pub AsmWrites : AsmWords → End → List (List ℕ) → Type 0
 AsmWrites asm Ended written = written ≡ asm_outputs asm
 AsmWrites asm CannotWriteFile written = written ≡ asm_outputs asm
-AsmWrites asm NoMemory written = IsFront written (asm_outputs asm)
+AsmWrites asm NoMemory written = AreFirstNames written (asm_outputs asm)
 AsmWrites asm end written = written ≡ []

@@ -8,7 +8,7 @@ use Rattle.asm6809.specs.Assembled.{outcome_of}
 use Rattle.boot_run.specs.Left.{IsSilent}
 use Rattle.boot_run.specs.declared.status.End.{End}
 use Rattle.boot_run.specs.declared.status.End.TheVariants.{Ended, CannotWriteFile, NoMemory, BadSource}
-use Rattle.os9_boot.specs.Asm.{HasModule, HasPart}
+use Rattle.os9_boot.specs.Asm.{HasModule, HasOutputPart}
 use Rattle.os9_boot.specs.AsmLeft.{AsmWrites}
 
 -- the source was refused, with its first bad line; or memory was out
@@ -18,16 +18,16 @@ RefusesSource source NoMemory = ⊤
 RefusesSource source end = ⊥
 
 -- how the write of OUT ended
-abbrev pub WriteEnds : AsmWords → List ℕ → World → World → End → Type 0
-WriteEnds asm bytes before after Ended = HasNoFault before after × HasModule asm before after bytes
-WriteEnds asm bytes before after CannotWriteFile =
-    FailsToWriteFile asm.out before after × HasPart asm before after bytes
-WriteEnds asm bytes before after NoMemory = HasNoFault before after × HasPart asm before after bytes
-WriteEnds asm bytes before after end = ⊥
+abbrev pub AsmWriteEnds : AsmWords → List ℕ → World → World → End → Type 0
+AsmWriteEnds asm bytes before after Ended = HasNoFault before after × HasModule asm before after bytes
+AsmWriteEnds asm bytes before after CannotWriteFile =
+    FailsToWriteFile asm.out before after × HasOutputPart asm before after bytes
+AsmWriteEnds asm bytes before after NoMemory = HasNoFault before after × HasOutputPart asm before after bytes
+AsmWriteEnds asm bytes before after end = ⊥
 
 -- OUT was written, whole or in part; the output and the devices are unchanged
-pub record WritesOut (asm : AsmWords) (bytes : List ℕ) (end : End) (before after : World) : Type 0 where
-  pub ends : WriteEnds asm bytes before after end
+pub record WritesAsmOut (asm : AsmWords) (bytes : List ℕ) (end : End) (before after : World) : Type 0 where
+  pub ends : AsmWriteEnds asm bytes before after end
   pub silent : IsSilent before after
 
 -- as the host notes it

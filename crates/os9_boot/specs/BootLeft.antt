@@ -13,14 +13,14 @@ use Rattle.os9_boot.specs.History.{Outputs}
 -- ---- how it may end
 
 -- the words of a run and a boot name two texts
-abbrev pub IsText : Input → Type 0
-IsText Script = ⊤
-IsText Slices = ⊤
-IsText input = ⊥
+abbrev pub IsBootText : Input → Type 0
+IsBootText Script = ⊤
+IsBootText Slices = ⊤
+IsBootText input = ⊥
 
 -- the ends of a run: it has no image to check, to mount or to write, and does not go back
 abbrev pub RunMayEnd : End → Type 0
-RunMayEnd (BadText input line) = IsText input
+RunMayEnd (BadText input line) = IsBootText input
 RunMayEnd (BadImage number fault) = ⊥
 RunMayEnd BadBounds = ⊥
 RunMayEnd (CannotWriteImage number) = ⊥
@@ -33,7 +33,7 @@ RunMayEnd end = ⊤
 
 -- those of a boot: it makes no file but that of its history, uses no tool, and reads no source
 abbrev pub BootMayEnd : Outputs → End → Type 0
-BootMayEnd outputs (BadText input line) = IsText input
+BootMayEnd outputs (BadText input line) = IsBootText input
 BootMayEnd outputs CannotWriteFile = IsSome outputs.history
 BootMayEnd outputs (Refused number) = ⊥
 BootMayEnd outputs (BadSource line error) = ⊥
@@ -62,15 +62,15 @@ StressMayEnd end = ⊥
 
 -- what is left of the output and the devices, observed or not, by the end of the command with this number of images: if
 -- no machine was started all is unchanged, or the drive of an image failed
-abbrev pub LeavesDevices : ℕ → World → World → End → Type 0
-LeavesDevices images before after Ended = ⊤
-LeavesDevices images before after Living = ⊤
-LeavesDevices images before after CannotWrite = ⊤
-LeavesDevices images before after (CannotWriteImage number) = ⊤
-LeavesDevices images before after CannotWriteFile = ⊤
-LeavesDevices images before after NoMemory = ⊤
-LeavesDevices images before after (DriveFailed drive number) = FailsToMount images drive number before after
-LeavesDevices images before after end = IsSilent before after
+abbrev pub CommandLeavesDevices : ℕ → World → World → End → Type 0
+CommandLeavesDevices images before after Ended = ⊤
+CommandLeavesDevices images before after Living = ⊤
+CommandLeavesDevices images before after CannotWrite = ⊤
+CommandLeavesDevices images before after (CannotWriteImage number) = ⊤
+CommandLeavesDevices images before after CannotWriteFile = ⊤
+CommandLeavesDevices images before after NoMemory = ⊤
+CommandLeavesDevices images before after (DriveFailed drive number) = FailsToMount images drive number before after
+CommandLeavesDevices images before after end = IsSilent before after
 
 -- what a boot leaves of the files: it writes those of these names only after its run
 abbrev pub BootLeavesFiles : List (List ℕ) → World → World → End → Type 0
@@ -83,7 +83,7 @@ BootLeavesFiles names before after end = after.files ≡ before.files
 
 -- a check leaves the devices unchanged
 pub record CheckLeaves (before after : World) (end : End) : Type 0 where
-  pub out : LeavesDevices 0 before after end
+  pub out : CommandLeavesDevices 0 before after end
   pub devices : after.devices ≡ before.devices
 
 -- the contents of the files are unchanged

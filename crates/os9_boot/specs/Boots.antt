@@ -1,12 +1,12 @@
 -- The outcome of a command that runs a machine on what its files hold (Level Two manual, "Booting"; the order of the
 -- tests is this project's own).
 use Rattle.std.specs.Prelude.{◌≡◌, ◌⊎◌, ℕ, ⊤, Bool, true, false, Err, List, length, All}
-use Rattle.os9_outer.specs.Host.{Files, file_contents, IfObserved}
+use Rattle.os9_outer.specs.Host.{HostFiles, file_contents, IfObserved}
 use Rattle.os9_outer.specs.Stream.{stream_with}
 use Rattle.script_text.specs.declared.script.ScriptKey.{ScriptKey}
 use Rattle.script_text.specs.Script.{keys_of}
 use Rattle.machine_model.specs.declared.ends.BootFault.{BootFault}
-use Rattle.machine_model.specs.ProcessStart.{Refuses}
+use Rattle.machine_model.specs.ProcessStart.{RefusesBoot}
 use Rattle.machine_model.specs.State.{State, has_living}
 use Rattle.os9_words.specs.declared.command.RunWords.{RunWords}
 use Rattle.boot_run.specs.BootFile.{IsFirstFault}
@@ -78,20 +78,20 @@ MachineComesTo setup outputs before after NoMemory =
     IfAllObserved before (RunsUnended setup before after
     ⊎ ((number : ℕ) × RunsUnwritten setup outputs number before after))
 MachineComesTo setup outputs before after (DriveFailed drive number) =
-    (fault : BootFault) → ¬ Refuses setup.file setup.blocks fault
+    (fault : BootFault) → ¬ RefusesBoot setup.file setup.blocks fault
 MachineComesTo setup outputs before after end =
-    (fault : BootFault) × Refuses setup.file setup.blocks fault × (end ≡ boot_end fault)
+    (fault : BootFault) × RefusesBoot setup.file setup.blocks fault × (end ≡ boot_end fault)
 
 -- ---- of a run and of a boot
 
 -- a text is refused, with its first bad line: the script, or after an accepted script the slice text
-abbrev pub RefusesText : Files → RunWords → ℕ → Input → ℕ → Type 0
-RefusesText files run terminals Script line = keys_of terminals (script_of files run) ≡ Err line
-RefusesText files run terminals input line =
+abbrev pub RefusesRunText : HostFiles → RunWords → ℕ → Input → ℕ → Type 0
+RefusesRunText files run terminals Script line = keys_of terminals (script_of files run) ≡ Err line
+RefusesRunText files run terminals input line =
     BreaksSlices terminals line (script_of files run) (file_contents files run.slices)
 
 -- the texts are accepted
-abbrev pub AcceptsTexts : Files → RunWords → ℕ → Type 0
+abbrev pub AcceptsTexts : HostFiles → RunWords → ℕ → Type 0
 AcceptsTexts files run terminals =
     (keys : List ScriptKey) × (slices : List ℕ) × HaveTexts files run terminals keys slices
 
@@ -101,10 +101,10 @@ SetUpComesTo is_so outputs before after end =
     (setup : Setup) × is_so setup × MachineComesTo setup outputs before after end
 
 -- the outcome of a run, by its end; if memory is out nothing was run, or the machine was
-abbrev pub RunComesTo : Files → RunWords → World → World → End → Type 0
+abbrev pub RunComesTo : HostFiles → RunWords → World → World → End → Type 0
 RunComesTo files run before after (CannotRead input) = ⊤
 RunComesTo files run before after (BadText input line) =
-    RefusesText files run (length before.devices.terms) input line
+    RefusesRunText files run (length before.devices.terms) input line
 RunComesTo files run before after NoMemory =
     IsUndone before after
     ⊎ SetUpComesTo (SetsUpRun files run (length before.devices.terms)) no_outputs before after NoMemory
@@ -112,10 +112,10 @@ RunComesTo files run before after end =
     SetUpComesTo (SetsUpRun files run (length before.devices.terms)) no_outputs before after end
 
 -- the outcome of a boot
-abbrev pub BootComesTo : Files → RunWords → World → World → End → Type 0
+abbrev pub BootComesTo : HostFiles → RunWords → World → World → End → Type 0
 BootComesTo files boot before after (CannotRead input) = ⊤
 BootComesTo files boot before after (BadText input line) =
-    RefusesText files boot (length before.devices.terms) input line
+    RefusesRunText files boot (length before.devices.terms) input line
 BootComesTo files boot before after (BadImage number fault) =
     AcceptsTexts files boot (length before.devices.terms) × IsFirstFault (images_of files boot.files) number fault
 BootComesTo files boot before after BadBounds =

@@ -1,6 +1,6 @@
 -- The names of the files that a command writes (this project's own).
 use Rattle.std.specs.Prelude.{◌≡◌, ℕ, suc, List, [], take}
-use Rattle.boot_run.specs.FileNames.{IsFront}
+use Rattle.boot_run.specs.FileNames.{AreFirstNames}
 use Rattle.boot_run.specs.declared.status.End.{End}
 use Rattle.boot_run.specs.declared.status.End.TheVariants.{Ended, Living, CannotWriteFile, CannotWriteImage, NoMemory}
 use Rattle.os9_boot.specs.History.{Outputs, output_names}
@@ -12,7 +12,7 @@ BootWrites outputs Ended written = written ≡ output_names outputs
 BootWrites outputs Living written = written ≡ output_names outputs
 BootWrites outputs (CannotWriteImage number) written = written ≡ take (suc number) outputs.images
 BootWrites outputs CannotWriteFile written = written ≡ output_names outputs
-BootWrites outputs NoMemory written = IsFront written (output_names outputs)
+BootWrites outputs NoMemory written = AreFirstNames written (output_names outputs)
 BootWrites outputs end written = written ≡ []
 
 -- no file was written

@@ -2,7 +2,7 @@
 use Rattle.std.specs.Prelude.{ℕ, ◌⊎◌, List, [], ◌∷◌, Result, Ok, Err}
 use Rattle.os9_words.specs.declared.command.Command.{Command}
 use Rattle.os9_words.specs.Notes.{HasWritten, Notes}
-use Rattle.boot_run.specs.Noted.{NotesFiles as NotesNamed, Reads as ReadsNamed}
+use Rattle.boot_run.specs.Noted.{NotesNamedFiles as NotesNamed, ReadsInputs as ReadsNamed}
 use Rattle.boot_run.specs.declared.status.End.{End}
 use Rattle.boot_run.specs.declared.status.End.TheVariants.{NoMemory}
 use Rattle.os9_boot.specs.FileNames.{BootWrites}
@@ -10,8 +10,8 @@ use Rattle.os9_boot.specs.History.{Outputs}
 use Rattle.os9_boot.specs.Meaning.{meaning}
 
 -- the files that a command with this end has read
-abbrev pub Reads : Command → End → List (List ℕ) → Type 0
-Reads command end read = ReadsNamed (meaning command).file_name (meaning command).inputs end read
+abbrev pub ReadsCommandFiles : Command → End → List (List ℕ) → Type 0
+ReadsCommandFiles command end read = ReadsNamed (meaning command).file_name (meaning command).inputs end read
 
 -- the files that a boot has written
 pub record NotesBack (outputs : Outputs) (end : End) (before after : Notes) : Type 0 where

@@ -26,9 +26,9 @@ use Rattle.os9_boot.specs.End.{stress_end}
 use Rattle.boot_run.specs.FileNames.{run_inputs}
 use Rattle.os9_boot.specs.FileNames.{BootWrites, WritesNone}
 use Rattle.os9_boot.specs.History.{output_names, outputs_of}
-use Rattle.os9_boot.specs.BootLeft.{BootLeavesFiles, BootMayEnd, CheckLeaves, CheckMayEnd, KeepsFiles, LeavesDevices, RunMayEnd, StressMayEnd}
+use Rattle.os9_boot.specs.BootLeft.{BootLeavesFiles, BootMayEnd, CheckLeaves, CheckMayEnd, KeepsFiles, CommandLeavesDevices, RunMayEnd, StressMayEnd}
 
-pub record Meaning : Type 1 where
+pub record CommandMeaning : Type 1 where
   pub comes : World → World → End → Type 0  -- its outcome, if that can be observed
   pub may : End → Type 0  -- how it may end
   pub devices : World → World → End → Type 0  -- what it leaves of the output and the devices, observed or not
@@ -43,11 +43,11 @@ abbrev pub StressGives : ℕ → World → World → End → Type 0
 StressGives seed before after end = (it : StressEnd) × (end ≡ stress_end it) × StressComesTo seed before after it
 
 -- `run`
-abbrev pub run_meaning : RunWords → Meaning
+abbrev pub run_meaning : RunWords → CommandMeaning
 run_meaning run = record {
   comes = λ before after end. IfSome before.files (λ files. RunComesTo files run before after end);
   may = RunMayEnd;
-  devices = LeavesDevices 0;
+  devices = CommandLeavesDevices 0;
   files = KeepsFiles;
   file_name = run_file_name run;
   inputs = run_inputs run;
@@ -56,11 +56,11 @@ run_meaning run = record {
 }
 
 -- `boot`, which needs a drive for each of its images
-abbrev pub boot_meaning : RunWords → Meaning
+abbrev pub boot_meaning : RunWords → CommandMeaning
 boot_meaning boot = record {
   comes = λ before after end. IfSome before.files (λ files. BootComesTo files boot before after end);
   may = BootMayEnd (outputs_of boot);
-  devices = LeavesDevices (length boot.files);
+  devices = CommandLeavesDevices (length boot.files);
   files = BootLeavesFiles (output_names (outputs_of boot));
   file_name = run_file_name boot;
   inputs = run_inputs boot;
@@ -69,7 +69,7 @@ boot_meaning boot = record {
 }
 
 -- `check`
-abbrev pub check_meaning : List ℕ → Meaning
+abbrev pub check_meaning : List ℕ → CommandMeaning
 check_meaning image = record {
   comes = λ before after end. IfSome before.files (λ files. CheckComesTo (file_contents files image) before after end);
   may = CheckMayEnd;
@@ -82,11 +82,11 @@ check_meaning image = record {
 }
 
 -- `stress`, which names no file, and needs a drive for the disk that it makes
-abbrev pub stress_meaning : ℕ → Meaning
+abbrev pub stress_meaning : ℕ → CommandMeaning
 stress_meaning seed = record {
   comes = λ before after end. All IsObserved before.devices.terms → StressGives seed before after end;
   may = StressMayEnd;
-  devices = LeavesDevices 1;
+  devices = CommandLeavesDevices 1;
   files = KeepsFiles;
   file_name = λ input. None;
   inputs = [];
@@ -95,7 +95,7 @@ stress_meaning seed = record {
 }
 
 -- `vol`, which needs a drive for its image
-abbrev pub vol_meaning : VolWords → Meaning
+abbrev pub vol_meaning : VolWords → CommandMeaning
 vol_meaning vol = record {
   comes = λ before after end. IfSome before.files (λ files. VolComesTo files vol before after end);
   may = VolMayEnd vol.verb;
@@ -108,7 +108,7 @@ vol_meaning vol = record {
 }
 
 -- `asm`
-abbrev pub asm_meaning : AsmWords → Meaning
+abbrev pub asm_meaning : AsmWords → CommandMeaning
 asm_meaning asm = record {
   comes = λ before after end. IfSome before.files (λ files. AsmComesTo files asm before after end);
   may = AsmMayEnd;
@@ -121,7 +121,7 @@ asm_meaning asm = record {
 }
 
 -- `debug`
-abbrev pub debug_meaning : DebugWords → Meaning
+abbrev pub debug_meaning : DebugWords → CommandMeaning
 debug_meaning debug = record {
   comes = λ before after end. IfSome before.files (λ files. DebugComesTo files debug before after end);
   may = DebugMayEnd;
@@ -134,7 +134,7 @@ debug_meaning debug = record {
 }
 
 -- an arm for each command
-abbrev pub meaning : Command → Meaning
+abbrev pub meaning : Command → CommandMeaning
 meaning (RunCommand run) = run_meaning run
 meaning (BootCommand boot) = boot_meaning boot
 meaning (CheckCommand image) = check_meaning image

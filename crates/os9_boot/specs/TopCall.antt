@@ -20,13 +20,13 @@ pub record GainsLine (line : List ℕ) (before after : Notes) : Type 0 where
   pub no_fault : after.err_faults ≡ before.err_faults
 
 -- the error stream failed, and gained the beginning of this line: all, some or none of it
-pub record LosesLine (line : List ℕ) (before after : Notes) : Type 0 where
+pub record LosesErrorLine (line : List ℕ) (before after : Notes) : Type 0 where
   pub gained : GainsPrefix before.err line after.err
   pub fault : Rose before.err_faults after.err_faults
 
 -- The line was reported: it is whole on the error stream, or that stream failed. No file was read or written.
 pub record Reports (line : List ℕ) (before after : Notes) : Type 0 where
-  pub told : GainsLine line before after ⊎ LosesLine line before after
+  pub told : GainsLine line before after ⊎ LosesErrorLine line before after
   pub read_kept : after.read ≡ before.read
   pub written_kept : after.written ≡ before.written
 

@@ -1,6 +1,6 @@
 -- The results of `vol` (this project's own; the tools are those of vol_tools).
 use Rattle.std.specs.Prelude.{◌≡◌, ◌≢◌, ◌⊎◌, ℕ, ⊤, Option, Some, None, List, [], ◌∷◌, slice_get, unwrap_or}
-use Rattle.os9_outer.specs.Host.{Files, file_contents, IfObserved}
+use Rattle.os9_outer.specs.Host.{HostFiles, file_contents, IfObserved}
 use Rattle.os9_outer.specs.Stream.{GainsPrefix, stream_with}
 use Rattle.os9_words.specs.declared.vol_words.Verb.{Verb}
 use Rattle.os9_words.specs.declared.vol_words.Verb.TheVariants.{Format, Put, Get, Mkdir, Delete, Dir, Repair}
@@ -11,7 +11,7 @@ use Rattle.rbf_model.specs.Volume.{DiskVolume, Vol, lost_clusters}
 use Rattle.vol_tools.specs.Image.{IsClean}
 use Rattle.vol_tools.specs.Clearing.{ClearsBits}
 use Rattle.vol_tools.specs.Blank.{blank_volume}
-use Rattle.vol_tools.specs.Refusals.{Refuses}
+use Rattle.vol_tools.specs.Refusals.{RefusesTool}
 use Rattle.vol_tools.specs.Tool.{Gives, Tool, put, get, mkdir, remove, list, repair}
 use Rattle.vol_tools.specs.Others.{KeepsOthersBy}
 use Rattle.vol_tools.specs.Tail.{KeepsTailBy}
@@ -72,7 +72,7 @@ tool_of Dir path bytes = Some (list path)
 tool_of Repair path bytes = Some repair
 
 -- the same over the contents of the files
-abbrev pub vol_tool : Files → VolWords → Option Tool
+abbrev pub vol_tool : HostFiles → VolWords → Option Tool
 vol_tool files vol = tool_of vol.verb (path_of vol) (file_contents files (file_of vol))
 
 -- the printed part of a tool's answer: the lines of `dir` and of `repair`
@@ -89,7 +89,7 @@ written_of verb answer image = image ∷ []
 
 -- a tool was used on the volume of an image, with this answer and the volume of another image, which has the same LSN
 -- 0, the same bits of the map without a whole cluster, and the same other sectors, if the tool must keep them
-pub record IsUsed (tool : Tool) (vol : VolWords) (old answer image : List ℕ) : Type 0 where
+pub record IsToolUsed (tool : Tool) (vol : VolWords) (old answer image : List ℕ) : Type 0 where
   pub before : DiskVolume
   pub was : Vol old before
   pub after : DiskVolume
@@ -110,8 +110,8 @@ ChangesBits Repair old image = ClearsLost old image
 ChangesBits verb old image = ⊤
 
 -- the tool of the verb was used
-pub record IsDone (tool : Tool) (vol : VolWords) (old answer image : List ℕ) : Type 0 where
-  pub used : IsUsed tool vol old answer image
+pub record IsToolDone (tool : Tool) (vol : VolWords) (old answer image : List ℕ) : Type 0 where
+  pub used : IsToolUsed tool vol old answer image
   pub bits : ChangesBits vol.verb old image
 
 -- a disk was formatted, and is clear outside its volume
@@ -123,9 +123,9 @@ pub record IsFormatted (vol : VolWords) (answer image : List ℕ) : Type 0 where
 -- the verb was done, with this answer, and has made this image
 abbrev pub MakesBy : Option Tool → VolWords → (old answer image : List ℕ) → Type 0
 MakesBy None vol old answer image = IsFormatted vol answer image
-MakesBy (Some tool) vol old answer image = IsDone tool vol old answer image
+MakesBy (Some tool) vol old answer image = IsToolDone tool vol old answer image
 
-pub record Makes (files : Files) (vol : VolWords) (out : List ℕ) (written : List (List ℕ)) : Type 0 where
+pub record DoesVolVerb (files : HostFiles) (vol : VolWords) (out : List ℕ) (written : List (List ℕ)) : Type 0 where
   pub answer : List ℕ
   pub image : List ℕ
   pub made : MakesBy (vol_tool files vol) vol (file_contents files vol.image) answer image
@@ -136,15 +136,15 @@ pub record Makes (files : Files) (vol : VolWords) (out : List ℕ) (written : Li
 abbrev pub RefusesBy : Option Tool → VolWords → List ℕ → ℕ → Type 0
 RefusesBy None vol old number = ⊥
 RefusesBy (Some tool) vol old number =
-    (before : DiskVolume) × (after : DiskVolume) × Vol old before × Refuses tool vol.start before after number
+    (before : DiskVolume) × (after : DiskVolume) × Vol old before × RefusesTool tool vol.start before after number
 
 -- ---- how it ends
 
 -- the verb was done, and `then_` holds for what it printed and wrote
-pub record MakesThen (files : Files) (vol : VolWords) (then_ : List ℕ → List (List ℕ) → Type 0) : Type 0 where
+pub record MakesThen (files : HostFiles) (vol : VolWords) (then_ : List ℕ → List (List ℕ) → Type 0) : Type 0 where
   pub out : List ℕ
   pub written : List (List ℕ)
-  pub makes : Makes files vol out written
+  pub makes : DoesVolVerb files vol out written
   pub rest : then_ out written
 
 -- its lines were printed, and its file was written
@@ -160,7 +160,7 @@ pub record PrintsAndStops (names : List (List ℕ)) (before after : World) (out 
   pub files : IfObserved (WritesUpTo 0 names written) before.files after.files
 
 -- the first of its lines were printed, and nothing was written
-pub record PrintsFirst (before after : World) (out : List ℕ) (written : List (List ℕ)) : Type 0 where
+pub record PrintsFirstLines (before after : World) (out : List ℕ) (written : List (List ℕ)) : Type 0 where
   pub output : GainsPrefix before.out out after.out
   pub files : after.files ≡ before.files
   pub some : out ≢ []
@@ -171,16 +171,16 @@ pub record IsUntouched (before after : World) : Type 0 where
   pub files : after.files ≡ before.files
 
 -- the result, by how it ends
-abbrev pub VolComesTo : Files → VolWords → World → World → End → Type 0
+abbrev pub VolComesTo : HostFiles → VolWords → World → World → End → Type 0
 VolComesTo files vol before after Ended =
     MakesThen files vol (PrintsAndWrites (vol_outputs vol) before after)
-VolComesTo files vol before after CannotWrite = MakesThen files vol (PrintsFirst before after)
+VolComesTo files vol before after CannotWrite = MakesThen files vol (PrintsFirstLines before after)
 VolComesTo files vol before after (CannotWriteImage number) =
     MakesThen files vol (PrintsAndStops (vol_outputs vol) before after)
 VolComesTo files vol before after CannotWriteFile =
     MakesThen files vol (PrintsAndStops (vol_outputs vol) before after)
 VolComesTo files vol before after NoMemory =
-    IsUntouched before after ⊎ MakesThen files vol (PrintsFirst before after)
+    IsUntouched before after ⊎ MakesThen files vol (PrintsFirstLines before after)
     ⊎ MakesThen files vol (PrintsAndStops (vol_outputs vol) before after)
 VolComesTo files vol before after (BadImage number fault) =
     IsFault (file_contents files vol.image) fault.rule fault.lsn

@@ -8,8 +8,8 @@ use Rattle.os9_words.specs.declared.vol_words.VolWords.{VolWords}
 use Rattle.boot_run.specs.Machine.{FailsToMount}
 use Rattle.boot_run.specs.World.{World}
 use Rattle.file_drives.specs.Drives.{drive_states, media_of}
-use Rattle.file_rules.specs.Files.{NoneFailed}
-use Rattle.boot_run.specs.FileNames.{IsFront}
+use Rattle.file_rules.specs.Files.{KeepsDriveFaults}
+use Rattle.boot_run.specs.FileNames.{AreFirstNames}
 use Rattle.boot_run.specs.Left.{ChangesOnly, IsSilent}
 use Rattle.boot_run.specs.declared.status.End.{End}
 use Rattle.boot_run.specs.declared.status.End.TheVariants.{Ended, CannotRead, CannotWrite, CannotWriteImage, CannotWriteFile, NoMemory, BadImage, DriveFailed, Refused}
@@ -66,7 +66,7 @@ VolMayEnd verb end = ⊥
 -- the terminals and the media are unchanged, and no drive has failed
 pub record LeavesQuiet (before after : World) : Type 0 where
   pub terminals : after.devices.terms ≡ before.devices.terms
-  pub none_failed : NoneFailed (drive_states before.devices.drives) (drive_states after.devices.drives)
+  pub none_failed : KeepsDriveFaults (drive_states before.devices.drives) (drive_states after.devices.drives)
   pub media_kept : media_of after.devices.drives ≡ media_of before.devices.drives
 
 -- and the output is unchanged, if the verb prints no lines
@@ -103,7 +103,7 @@ abbrev pub VolWrites : VolWords → End → List (List ℕ) → Type 0
 VolWrites vol Ended written = written ≡ vol_outputs vol
 VolWrites vol (CannotWriteImage number) written = written ≡ vol_outputs vol
 VolWrites vol CannotWriteFile written = written ≡ vol_outputs vol
-VolWrites vol NoMemory written = IsFront written (vol_outputs vol)
+VolWrites vol NoMemory written = AreFirstNames written (vol_outputs vol)
 VolWrites vol end written = written ≡ []
 
 -- the same in the host's notes

@@ -1,6 +1,6 @@
 -- The steps of `vol`: the files that it reads, what it makes of them, and what it prints and writes.
 use Rattle.std.specs.Prelude.{◌≡◌, ◌≢◌, ◌⊎◌, ℕ, ⊤, Some, List, [], OnOk, Result, Ok, Err}
-use Rattle.os9_outer.specs.Host.{Files, file_contents, IfObserved}
+use Rattle.os9_outer.specs.Host.{HostFiles, file_contents, IfObserved}
 use Rattle.os9_outer.specs.Stream.{GainsPrefix, stream_with}
 use Rattle.os9_words.specs.declared.vol_words.Verb.{Verb}
 use Rattle.os9_words.specs.declared.vol_words.Verb.TheVariants.{Put, Get}
@@ -10,7 +10,7 @@ use Rattle.rbf_check.specs.declared.faults.CheckFault.{CheckFault}
 use Rattle.vol_tools.specs.Tool.{Tool, repair}
 use Rattle.vol_tools.specs.UsesInTurn.{Use}
 use Rattle.file_drives.specs.Drives.{DriveView, drive_states, media_of}
-use Rattle.file_rules.specs.Files.{NoneFailed, OneFailed}
+use Rattle.file_rules.specs.Files.{KeepsDriveFaults, OneFailed}
 use Rattle.boot_run.specs.BootFile.{IsVolume}
 use Rattle.boot_run.specs.Images.{WritesAll, WritesUpTo}
 use Rattle.boot_run.specs.Ready.{AreEmptyAgain}
@@ -27,14 +27,14 @@ use Rattle.boot_run.specs.declared.status.End.{End}
 use Rattle.boot_run.specs.declared.status.End.TheVariants.{Ended, CannotWriteImage, CannotWriteFile, NoMemory, BadImage, DriveFailed, Refused}
 use Rattle.boot_run.specs.declared.status.Input.TheVariants.{File, Image}
 use Rattle.os9_boot.specs.VolLeft.{MayFail, MountsImage, ReadsInput, WritesImage}
-use Rattle.os9_boot.specs.Vol.{IsFormatted, IsUsed, ClearsLost, MakesBy, RefusesBy, file_of, path_of, printed_of, tool_of, vol_file_name, vol_outputs, written_of}
+use Rattle.os9_boot.specs.Vol.{IsFormatted, IsToolUsed, ClearsLost, MakesBy, RefusesBy, file_of, path_of, printed_of, tool_of, vol_file_name, vol_outputs, written_of}
 use Rattle.os9_boot.specs.declared.files.VolFiles.{VolFiles}
 use Rattle.os9_boot.specs.declared.made.Made.{Made}
 
 -- ---- the files
 
 -- the bytes that were read are those of the image, and of FILE of `put`
-pub record HasVolFiles (files : Files) (vol : VolWords) (read : VolFiles) : Type 0 where
+pub record HasVolFiles (files : HostFiles) (vol : VolWords) (read : VolFiles) : Type 0 where
   pub image : read.image.items ≡ file_contents files vol.image
   pub file : vol.verb ≡ Put → read.file.items ≡ file_contents files (file_of vol)
 
@@ -56,7 +56,7 @@ fault_end OutOfMemory = NoMemory
 
 -- a tool was used on an image in D0: its result, or why it ended
 abbrev pub UsesImage : Tool → VolWords → List ℕ → Result Made End → Type 0
-UsesImage tool vol old (Ok made) = IsUsed tool vol old made.answer.items made.image.items
+UsesImage tool vol old (Ok made) = IsToolUsed tool vol old made.answer.items made.image.items
 UsesImage tool vol old (Err (Refused number)) = RefusesBy (Some tool) vol old number
 UsesImage tool vol old (Err (DriveFailed drive number)) = drive ≡ 0
 UsesImage tool vol old (Err NoMemory) = ⊤
@@ -68,7 +68,7 @@ abbrev pub DrivesFail : {A : Type 0} → Result A End → List DriveView → Lis
 DrivesFail (Err (DriveFailed drive number)) before after =
     OneFailed drive number (drive_states before) (drive_states after)
 DrivesFail (Err (BadImage number fault)) before after = after ≡ before
-DrivesFail answer before after = NoneFailed (drive_states before) (drive_states after)
+DrivesFail answer before after = KeepsDriveFaults (drive_states before) (drive_states after)
 
 -- the drives afterwards: without images, as before
 pub record DrivesAfter {A : Type 0} (answer : Result A End) (before after : List DriveView) : Type 0 where
@@ -79,7 +79,7 @@ pub record DrivesAfter {A : Type 0} (answer : Result A End) (before after : List
 -- ---- what is made
 
 -- the drive of a well formed image has failed
-pub record FailsOn (verb : Verb) (image : List ℕ) (drive : ℕ) : Type 0 where
+pub record HasFailedDrive (verb : Verb) (image : List ℕ) (drive : ℕ) : Type 0 where
   pub may : MayFail verb drive
   pub volume : IsVolume image
 
@@ -89,7 +89,7 @@ pub record RefusesOf (vol : VolWords) (image bytes : List ℕ) (number : ℕ) : 
   pub refuses : RefusesBy (tool_of vol.verb (path_of vol) bytes) vol image number
 
 -- an image that is read is not well formed
-pub record HasFault (verb : Verb) (image : List ℕ) (number : ℕ) (fault : CheckFault) : Type 0 where
+pub record HasImageFault (verb : Verb) (image : List ℕ) (number : ℕ) (fault : CheckFault) : Type 0 where
   pub reads : ReadsInput verb (Image number)
   pub is : IsFault image fault.rule fault.lsn
 
@@ -97,9 +97,9 @@ pub record HasFault (verb : Verb) (image : List ℕ) (number : ℕ) (fault : Che
 abbrev pub MakesOf : VolWords → (image bytes : List ℕ) → Result Made End → Type 0
 MakesOf vol image bytes (Ok made) =
     MakesBy (tool_of vol.verb (path_of vol) bytes) vol image made.answer.items made.image.items
-MakesOf vol image bytes (Err (BadImage number fault)) = HasFault vol.verb image number fault
+MakesOf vol image bytes (Err (BadImage number fault)) = HasImageFault vol.verb image number fault
 MakesOf vol image bytes (Err (Refused number)) = RefusesOf vol image bytes number
-MakesOf vol image bytes (Err (DriveFailed drive number)) = FailsOn vol.verb image drive
+MakesOf vol image bytes (Err (DriveFailed drive number)) = HasFailedDrive vol.verb image drive
 MakesOf vol image bytes (Err NoMemory) = ⊤
 MakesOf vol image bytes (Err end) = ⊥
 
@@ -111,7 +111,7 @@ FormatsDisk vol (Err end) = ⊥
 
 -- the lost clusters were freed
 pub record IsMended (old answer image : List ℕ) : Type 0 where
-  pub used : (vol : VolWords) → IsUsed repair vol old answer image
+  pub used : (vol : VolWords) → IsToolUsed repair vol old answer image
   pub bits : ClearsLost old image
 
 -- the same; or the image was refused, or out of memory

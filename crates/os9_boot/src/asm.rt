@@ -6,7 +6,7 @@ ghost use Rattle.os9_words.specs.Notes.{notes_of};
 ghost use Rattle.boot_run.specs.World.{world_of};
 ghost use Rattle.os9_boot.specs.Asm.{MakesModule};
 ghost use Rattle.os9_boot.specs.AsmCall.{AsmCall, NotesAsm};
-ghost use Rattle.os9_boot.specs.AsmSteps.{NotesOut, RefusesSource, WritesOut};
+ghost use Rattle.os9_boot.specs.AsmSteps.{NotesOut, RefusesSource, WritesAsmOut};
 
 use asm6809::{AsmFault, assemble};
 use boot_run::input::read_input;
@@ -53,7 +53,7 @@ fn make_module(alloc: Global, source: &[u8]) -> Result<Vec<u8>, End>
 
 /// Writes a module as OUT.
 fn write_module<H: Host>(asm: &AsmWords, bytes: &[u8], host: &mut H) -> End
-    ensures wrote { (devices : Outside) → WritesOut asm.now bytes.now result
+    ensures wrote { (devices : Outside) → WritesAsmOut asm.now bytes.now result
         (world_of H.Host host.old devices) (world_of H.Host host.new devices) }
     ensures noted { NotesOut asm.now result (notes_of H.Host host.old) (notes_of H.Host host.new) }
 {

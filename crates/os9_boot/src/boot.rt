@@ -1,7 +1,7 @@
 //! `boot` and `run`: a machine is started on what files hold.
 
 ghost use Rattle.std.specs.Prelude.{◌≡◌, length};
-ghost use Rattle.boot_run.specs.Ready.{AreEmptyAgain, AreFree};
+ghost use Rattle.boot_run.specs.Ready.{AreEmptyAgain, DevicesAreFree};
 ghost use Rattle.boot_run.specs.World.{world_of};
 ghost use Rattle.os9_kernel.specs.Outside.{outside};
 ghost use Rattle.file_drives.specs.Drives.{drives_seen};
@@ -33,7 +33,7 @@ pub fn boot_images<H: Host>(
     host: &mut H,
     devices: &mut Devices,
 ) -> End
-    requires devices { AreFree (length boot.now.files)
+    requires devices { DevicesAreFree (length boot.now.files)
         (outside BlockDriver-box CharDriver-box devices.old) }
     requires words { IsCommand (Command.Boot boot.now) }
     ensures call { CommandCall (Command.Boot boot.now)
@@ -82,7 +82,7 @@ pub fn run_modules<H: Host>(
     host: &mut H,
     devices: &mut Devices,
 ) -> End
-    requires devices { AreFree 0 (outside BlockDriver-box CharDriver-box devices.old) }
+    requires devices { DevicesAreFree 0 (outside BlockDriver-box CharDriver-box devices.old) }
     requires words { IsCommand (Command.Run run.now) }
     ensures call { CommandCall (Command.Run run.now)
         (world_of H.Host host.old (outside BlockDriver-box CharDriver-box devices.old))

@@ -1,7 +1,7 @@
 //! Drives for a call of the program.
 
 ghost use Rattle.std.specs.Prelude.{◌≡◌, ◌+◌, All, None, OnOk, length};
-ghost use Rattle.boot_run.specs.Drives.{IsEmpty};
+ghost use Rattle.boot_run.specs.Drives.{IsEmptyDrive};
 ghost use Rattle.file_drives.specs.Drives.{drive_views};
 
 use os9_outer::drive::BlockDriver;
@@ -19,8 +19,8 @@ pub fn add_drive(
     requires { media drive ≡ None }
     ensures count { OnOk result
         (length drives.new.items ≡ length drives.old.items + 1) }
-    ensures empty { OnOk result (All IsEmpty (drive_views BlockDriver-box drives.old.items)
-        → All IsEmpty (drive_views BlockDriver-box drives.new.items)) }
+    ensures empty { OnOk result (All IsEmptyDrive (drive_views BlockDriver-box drives.old.items)
+        → All IsEmptyDrive (drive_views BlockDriver-box drives.new.items)) }
 {
     drives.push(drive)?;
     Ok(())

@@ -1,7 +1,7 @@
 //! A tool used on an image in D0.
 
 ghost use Rattle.std.specs.Prelude.{◌≡◌, ◌<◌, Some, slice_get, vec_len};
-ghost use Rattle.rbf_access.specs.Mounted.{IsSound};
+ghost use Rattle.rbf_access.specs.Mounted.{IsSoundMedia};
 ghost use Rattle.file_drives.specs.Drives.{boxed_seen, ChangesOneDrive, DriveView, lent_seen, drives_seen};
 ghost use Rattle.boot_run.specs.BootFile.{IsVolume};
 ghost use Rattle.boot_run.specs.Drives.{HaveRoom};
@@ -75,7 +75,7 @@ fn use_on_drive(
 ) -> Result<Vec<u8>, ToolFault>
     requires some { 0 < vec_len devices.old.drives }
     requires sound { (drive : DriveView) → slice_get (drives_seen BlockDriver-box devices.old)
-        0 ≡ Some drive → IsSound drive.media }
+        0 ≡ Some drive → IsSoundMedia drive.media }
     ensures drive { ChangesOneDrive
         (UsesDrive (at_time now tool.now) (λ bytes. bytes.items) result) 0
         (drives_seen BlockDriver-box devices.old) (drives_seen BlockDriver-box devices.new) }
@@ -92,7 +92,7 @@ fn use_in_box(
     tool: &ToolUse,
     now: TimePacket,
 ) -> Result<Vec<u8>, ToolFault>
-    requires { IsSound (media drive.old) }
+    requires { IsSoundMedia (media drive.old) }
     ensures { UsesDrive (at_time now tool.now) (λ bytes. bytes.items) result
         (boxed_seen BlockDriver-box drive.old) (boxed_seen BlockDriver-box drive.new) }
 {
@@ -106,7 +106,7 @@ fn use_lent(
     tool: &ToolUse,
     now: TimePacket,
 ) -> Result<Vec<u8>, ToolFault>
-    requires { IsSound (media drive.old) }
+    requires { IsSoundMedia (media drive.old) }
     ensures { UsesDrive (at_time now tool.now) (λ bytes. bytes.items) result
         (lent_seen BlockDriver-dyn drive.old) (lent_seen BlockDriver-dyn drive.new) }
 {

@@ -2,7 +2,7 @@
 
 ghost use Rattle.std.specs.Prelude.{◌≡◌, ℕ, List, Some, All, length};
 ghost use Rattle.os9_base.specs.Count.{Rose};
-ghost use Rattle.os9_outer.specs.Host.{Files};
+ghost use Rattle.os9_outer.specs.Host.{HostFiles};
 ghost use Rattle.os9_words.specs.Command.{command_of};
 ghost use Rattle.os9_words.specs.Notes.{Notes};
 ghost use Rattle.os9_words.specs.declared.command.Command.{Command};
@@ -15,10 +15,10 @@ ghost use Rattle.boot_run.specs.End.{status_number};
 ghost use Rattle.boot_run.specs.declared.status.End.{End};
 ghost use Rattle.boot_run.specs.declared.status.End.TheVariants.{Ended, TerminalFailed};
 ghost use Rattle.os9_debug.specs.Counts.{TerminalRose};
-ghost use Rattle.os9_debug.specs.OneCourse.{IsFaultless, ShowsOneCourse};
+ghost use Rattle.os9_debug.specs.OneCourse.{IsFaultlessDebug, ShowsOneCourse};
 ghost use Rattle.os9_boot.specs.Commands.{CommandCall};
 ghost use Rattle.os9_boot.specs.Completeness.{IsNoFault, NoneRose, TellsNoFault};
-ghost use Rattle.os9_boot.specs.Headline.{BootIsOneRun, IsAccepted, WritesByStatus};
+ghost use Rattle.os9_boot.specs.Headline.{BootIsOneRun, AcceptsRun, WritesByStatus};
 ghost use Rattle.os9_boot.specs.History.{output_names, outputs_of};
 ghost use Rattle.os9_boot.specs.TopCall.{TopCall};
 
@@ -39,12 +39,12 @@ pub fn calls_without_faults_tell_none()
 /// files that did not fail, over terminals with observed bytes, is one run of the machine; or
 /// memory was out, or a drive with an image failed and nothing of a run can be seen.
 pub fn a_boot_is_one_run()
-    ensures { (words : List (List ℕ)) (boot : RunWords) (files : Files) (before after : World)
+    ensures { (words : List (List ℕ)) (boot : RunWords) (files : HostFiles) (before after : World)
         (noted notes : Notes) (status : ℕ)
         → command_of words ≡ Some (Boot boot)
         → TopCall words before after noted notes status
         → before.files ≡ Some files → All IsObserved before.devices.terms
-        → IsAccepted files boot (length before.devices.terms) → ¬ Rose before.faults after.faults
+        → AcceptsRun files boot (length before.devices.terms) → ¬ Rose before.faults after.faults
         → BootIsOneRun files boot before after status }
 {}
 
@@ -63,11 +63,11 @@ pub fn a_boot_writes_its_images_once()
 /// no bytes were on a terminal, has shown the one run of its machine: command by command the state
 /// at the position to which the earlier commands have led, forwards or back.
 pub fn a_debug_shows_one_run()
-    ensures { (words : List (List ℕ)) (debug : DebugWords) (files : Files) (before after : World)
-        (noted notes : Notes) (status : ℕ)
-        → command_of words ≡ Some (Debug debug)
-        → TopCall words before after noted notes status → status ≡ status_number Ended
-        → IsFaultless files debug before after → ShowsOneCourse files debug before after }
+    ensures { (words : List (List ℕ)) (debug : DebugWords) (files : HostFiles)
+        (before after : World) (noted notes : Notes) (status : ℕ) → command_of words
+        ≡ Some (Debug debug) → TopCall words before after noted notes status → status
+        ≡ status_number Ended → IsFaultlessDebug files debug before after
+        → ShowsOneCourse files debug before after }
 {}
 
 /// A call reports a failed terminal only if that terminal's count of faults rose, and its status is

@@ -1,7 +1,7 @@
 //! The top call.
 
 ghost use Rattle.std.specs.Prelude.{◌≡◌, map, string_bytes};
-ghost use Rattle.boot_run.specs.Ready.{AreEmptyAgain, AreFree};
+ghost use Rattle.boot_run.specs.Ready.{AreEmptyAgain, DevicesAreFree};
 ghost use Rattle.boot_run.specs.World.{world_of};
 ghost use Rattle.os9_kernel.specs.Outside.{outside};
 ghost use Rattle.file_drives.specs.Drives.{drives_seen};
@@ -66,7 +66,7 @@ const NO_COMMAND: u8 = 1;
 /// The line that says why the call ended goes to the error stream: the whole of it, or that stream
 /// counts a fault.
 pub fn os9_main<H: Host>(alloc: Global, words: &[String], host: &mut H, devices: &mut Devices) -> u8
-    requires devices { AreFree (drives_for (map string_bytes words.now))
+    requires devices { DevicesAreFree (drives_for (map string_bytes words.now))
         (outside BlockDriver-box CharDriver-box devices.old) }
     ensures call { TopCall (map string_bytes words.now)
         (world_of H.Host host.old (outside BlockDriver-box CharDriver-box devices.old))
@@ -90,7 +90,7 @@ pub fn os9_main<H: Host>(alloc: Global, words: &[String], host: &mut H, devices:
 
 /// Does a command, and reports why it ended.
 fn do_command<H: Host>(alloc: Global, command: &Command, host: &mut H, devices: &mut Devices) -> u8
-    requires devices { AreFree (drives_of command.now)
+    requires devices { DevicesAreFree (drives_of command.now)
         (outside BlockDriver-box CharDriver-box devices.old) }
     requires words { IsCommand command.now }
     ensures call { CommandReport command.now
@@ -107,7 +107,7 @@ fn do_command<H: Host>(alloc: Global, command: &Command, host: &mut H, devices: 
 
 /// Does a command.
 fn perform<H: Host>(alloc: Global, command: &Command, host: &mut H, devices: &mut Devices) -> End
-    requires devices { AreFree (drives_of command.now)
+    requires devices { DevicesAreFree (drives_of command.now)
         (outside BlockDriver-box CharDriver-box devices.old) }
     requires words { IsCommand command.now }
     ensures call { CommandCall command.now

@@ -12,7 +12,7 @@ use Rattle.jiff_core.proofs.SignedLemmas.{signed_arith}
 use Rattle.jiff_core.proofs.CalendarLemmas.{day_count-epoch, days_from_civil-day_count, day_count-next_year, day_count-day_of_year, days_in_month_bounds}
 use Rattle.jiff_core.proofs.DateTimeLemmas.{civil_nanos-parts, civil_nanos-lt, civil_nanos_range, time_nanos_bound}
 use Rattle.os9_base.specs.declared.registers.TimePacket.{TimePacket}
-use Rattle.time_rules.specs.CivilTime.{is_leap, days_of_years, days_of_months, month_days, year_days, CivilTime, packet_time, time_packet, is_civil, IsAfter, day_number, second_number}
+use Rattle.time_rules.specs.CivilTime.{is_leap, days_of_years, days_of_months, month_days, year_days, CivilTime, packet_time, time_packet, is_civil, IsTimeAfter, day_number, second_number}
 use Rattle.os9_clock.specs.JiffTime.{civil_of}
 
 days_of_months-same : (year n : ℕ) → jiff_days_of_months (pos year) n ≡ days_of_months year n
@@ -195,7 +195,7 @@ can_add x seconds late early few =
 pub after-is : (t : TimePacket) (seconds : ℕ) (a b : DateTime) (packet : TimePacket) → IsYmd (pos (1900 + t.year))
     (pos t.month) (pos t.day) a.date → IsHms (pos t.hour) (pos t.minute) (pos t.second) (pos 0) a.time
     → civil_nanos b ≡ civil_nanos a +ℤ (pos seconds *ℤ pos 1_000_000_000) → packet ≡ time_packet (civil_of b)
-    → IsAfter t seconds packet
+    → IsTimeAfter t seconds packet
 after-is t seconds a b packet date time later given =
     let from_a : pos 1900 ≤ℤ a.date.year = omega (arith, signed_arith, date.0) in
     let after : civil_nanos a ≤ℤ civil_nanos b = omega (arith, signed_arith) in

@@ -1,6 +1,6 @@
 ghost use Rattle.std.specs.Prelude.{◌≡◌, ◌<◌, ◌+◌, ◌*◌, ◌%◌, true, pos, ◌≤ℤ◌};
 ghost use Rattle.time_rules.specs.CivilTime as model;
-ghost use Rattle.time_rules.specs.CivilTime.{day_number, is_time_packet, IsAfter, packet_time, second_number, time_packet};
+ghost use Rattle.time_rules.specs.CivilTime.{day_number, is_time_packet, IsTimeAfter, packet_time, second_number, time_packet};
 ghost use Rattle.os9_clock.specs.JiffTime.{civil_of};
 ghost use Rattle.jiff.specs.Words.{IsYmd, IsHms};
 
@@ -31,7 +31,7 @@ pub fn is_time(t: TimePacket) -> bool
 /// Manual, F$Time). Its year counts from 1900 and wraps around after 2155 (this project's own).
 pub fn time_at(base: TimePacket, seconds: u32) -> TimePacket
     requires { is_time_packet base ≡ true }
-    ensures { IsAfter base seconds result }
+    ensures { IsTimeAfter base seconds result }
 {
     let second = second_of_day(base) + u64::from(seconds);
     if second < SECONDS_PER_DAY {
@@ -66,7 +66,7 @@ fn on_day(base: TimePacket, second: u64) -> TimePacket
 // `time_at` for a time of a later day.
 fn on_later_day(base: TimePacket, seconds: u32) -> TimePacket
     requires { is_time_packet base ≡ true }
-    ensures { IsAfter base seconds result }
+    ensures { IsTimeAfter base seconds result }
 {
     let later = civil_time(base)
         .checked_add(SignedDuration::from_secs(i64::from(seconds)))

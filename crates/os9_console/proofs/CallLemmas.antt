@@ -3,7 +3,7 @@ use Rattle.std.proofs.Common.{◌≡◌, ◌⊎◌, ◌==◌, ℕ, Bool, true, f
 use Rattle.std.specs.Prelude.{IfSome, if◌then◌else◌}
 use Rattle.std.proofs.lemmas.Bool.{eqb-true}
 use Rattle.lock_model.specs.declared.history.Entry.{Entry}
-use Rattle.os9_outer.specs.Host.{Files, IfObserved}
+use Rattle.os9_outer.specs.Host.{HostFiles, IfObserved}
 use Rattle.machine_model.specs.declared.ends.BootFault.{BootFault}
 use Rattle.machine_model.specs.declared.ends.BootFault.TheVariants.{OutOfMemory, BadModule as BadModuleFault, NoFirst as NoFirstFault, TooLarge as TooLargeFault}
 use Rattle.boot_run.specs.Loaded.{HasNoKeys}
@@ -21,14 +21,14 @@ use Rattle.boot_run.specs.declared.machine.RunEnd.{RunEnd}
 use Rattle.boot_run.specs.declared.machine.RunEnd.TheVariants as Run
 use Rattle.boot_run.proofs.ChangeLemmas.{same-changes}
 use Rattle.boot_run.specs.End.{boot_end, run_file_name}
-use Rattle.boot_run.specs.Fails.{FailsAsTold}
+use Rattle.boot_run.specs.Fails.{FailsAsReported}
 use Rattle.boot_run.specs.Stops.{StopsAtRead}
 use Rattle.boot_run.specs.declared.status.End.{End}
 use Rattle.boot_run.specs.declared.status.End.TheVariants.{Ended, Living, CannotRead, CannotWrite, CannotWriteImage, NoMemory, BadImage, BadText, BadBounds, CannotWriteFile, Refused, BadSource, TerminalFailed}
 use Rattle.os9_boot.specs.Boots.{IfAllObserved, MachineComesTo, RunsUnwritten}
 use Rattle.os9_boot.specs.History.{Outputs, output_bytes, output_names, outputs_of}
 use Rattle.os9_boot.specs.Images.{LackBootFile, RefusesImages}
-use Rattle.os9_boot.specs.BootLeft.{LeavesDevices}
+use Rattle.os9_boot.specs.BootLeft.{CommandLeavesDevices}
 use Rattle.os9_boot.specs.Written.{EndsBoot, StopsAt, WritesBack, end_unwritten}
 use Rattle.os9_boot.proofs.BootCallLemmas.{kept-counts, still-silent, still-undone}
 use Rattle.os9_boot.proofs.MachineLemmas.{EndsSo, IsOfMachine, RunFails, machine-ends}
@@ -36,12 +36,12 @@ use Rattle.console_run.specs.Typed.{kept_keys, kept_slices}
 use Rattle.console_run.specs.declared.typed.Typed.{Typed}
 use Rattle.console_run.specs.Keyboard.{KeyboardState}
 use Rattle.console_run.specs.Lines.{KeepsLines}
-use Rattle.console_run.specs.Session.{AsksKeyboard, HasSession, IsPartTo, StopsFor, StopsSession}
+use Rattle.console_run.specs.Session.{AsksKeyboard, HasTypedSession, IsPartTo, StopsFor, StopsConsoleSession}
 use Rattle.console_run.specs.TypedTurn.{TypedTurn}
 use Rattle.console_run.proofs.SessionLemmas.{runs-first}
 use Rattle.console_run.specs.declared.session.SessionEnd.TheVariants.{LineLost, OfRun}
 use Rattle.console_run.specs.declared.turns.Stop.{Stop}
-use Rattle.os9_console.specs.Call.{ConsoleCall, ConsoleComesTo, ConsoleMayEnd, EndsAsSession, EndsUnwritten, EndsWithoutMemory, LeavesKeyboard, MachineIsSession, SetsUpSession, StopsUnwritten, WasSession}
+use Rattle.os9_console.specs.Call.{ConsoleCall, ConsoleComesTo, ConsoleMayEnd, EndsAsSession, EndsUnwritten, ConsoleWithoutMemory, LeavesKeyboard, MachineIsSession, SetsUpSession, StopsUnwritten, WasSession}
 use Rattle.os9_console.specs.Images.{LeavesSession, RunsConsole, StopsMidway}
 use Rattle.os9_console.proofs.StopLemmas.{all-observed}
 
@@ -76,9 +76,9 @@ console-stopped boot typed keyboard before after NoMemory lines same = out-of-me
 console-stopped boot typed keyboard before after end lines stops = absurd stops
 
 -- what follows of the images that were read
-of-files : (told : Option Files) (boot : RunWords) (images : List (List ℕ)) (fact : Files → Type 0)
+of-files : (told : Option HostFiles) (boot : RunWords) (images : List (List ℕ)) (fact : HostFiles → Type 0)
     → IfSome told (λ files. images ≡ images_of files boot.files)
-    → ((files : Files) → images ≡ images_of files boot.files → fact files) → IfSome told fact
+    → ((files : HostFiles) → images ≡ images_of files boot.files → fact files) → IfSome told fact
 of-files None boot images fact has follows = tt
 of-files (Some files) boot images fact has follows = follows files has
 
@@ -110,7 +110,7 @@ console-refused boot typed keyboard before after end images lines same has refus
 
 -- ---- a machine ran
 
-fails-as : (boot : RunWords) (before after : World) (end : End) → RunFails (outputs_of boot) end before after → FailsAsTold (run_file_name boot) end before after
+fails-as : (boot : RunWords) (before after : World) (end : End) → RunFails (outputs_of boot) end before after → FailsAsReported (run_file_name boot) end before after
 fails-as boot before after (CannotRead input) failed = absurd failed
 fails-as boot before after CannotWrite failed = failed
 fails-as boot before after (CannotWriteImage number) failed = failed
@@ -144,7 +144,7 @@ leaves-then : (setup : Setup) (images : List (List ℕ)) (history : List Entry) 
 leaves-then setup images history typed before mid after turns t out devices it = record {
   s = it.s;
   starts = it.starts;
-  session = subst (λ (stream : Option (List ℕ)). HasSession turns it.s t typed before.out stream) (sym out) it.session;
+  session = subst (λ (stream : Option (List ℕ)). HasTypedSession turns it.s t typed before.out stream) (sym out) it.session;
   terminals = ap (λ (devices : Outside). devices.terms) devices ∙ it.terminals;
   drives = ap (λ (devices : Outside). drive_states devices.drives) devices ∙ it.drives;
   volumes = it.volumes;
@@ -153,8 +153,8 @@ leaves-then setup images history typed before mid after turns t out devices it =
 
 stops-then : (setup : Setup) (images : List (List ℕ)) (history : List Entry) (typed : Typed) (lives : Bool) (stop : Stop)
     (from to : KeyboardState) (before mid after : World) → after.out ≡ mid.out → after.devices ≡ mid.devices
-    → StopsSession (LeavesSession setup images history typed before mid) lives stop from to before mid
-    → StopsSession (LeavesSession setup images history typed before after) lives stop from to before after
+    → StopsConsoleSession (LeavesSession setup images history typed before mid) lives stop from to before mid
+    → StopsConsoleSession (LeavesSession setup images history typed before after) lives stop from to before after
 stops-then setup images history typed lives stop from to before mid after out devices it = record {
   turns = it.turns;
   t = it.t;
@@ -171,7 +171,7 @@ module _ (boot : RunWords) (typed : Typed) (setup : Setup) (from to : KeyboardSt
 
   -- it was a session; where memory was out, what came of the machine is said beside it
   abbrev WasSo : End → Type 0
-  WasSo NoMemory = EndsWithoutMemory boot typed from to before after
+  WasSo NoMemory = ConsoleWithoutMemory boot typed from to before after
   WasSo end = WasSession setup (outputs_of boot) typed from to before after end
 
   console-comes : (end : End) → IsOfMachine end → EndsSo setup (outputs_of boot) before after end → WasSo end → ConsoleComesTo boot typed from to before after end
@@ -205,7 +205,7 @@ module _ (boot : RunWords) (typed : Typed) (file : List ℕ) (old images : List 
   written-from names bytes number wrote = subst (λ files. IfObserved (WritesUpTo number names bytes) files after.files) still wrote
 
   -- it ran to its end, and its images were written
-  ends-as : (lives : Bool) → (All IsObserved before.devices.terms → StopsSession (LeavesSession setup images history typed
+  ends-as : (lives : Bool) → (All IsObserved before.devices.terms → StopsConsoleSession (LeavesSession setup images history typed
       before mid) lives Stop.Over from to before mid) → after.out ≡ mid.out → after.devices ≡ mid.devices
       → IfObserved (WritesAll (output_names outputs) (output_bytes outputs images history)) mid.files after.files
       → All IsObserved before.devices.terms → EndsAsSession setup outputs typed lives from to before after
@@ -217,7 +217,7 @@ module _ (boot : RunWords) (typed : Typed) (file : List ℕ) (old images : List 
   }
 
   -- or up to one
-  ends-part : (lives : Bool) → (All IsObserved before.devices.terms → StopsSession (LeavesSession setup images history typed
+  ends-part : (lives : Bool) → (All IsObserved before.devices.terms → StopsConsoleSession (LeavesSession setup images history typed
       before mid) lives Stop.Over from to before mid) → after.out ≡ mid.out → after.devices ≡ mid.devices → (number : ℕ)
       → IfObserved (WritesUpTo number (output_names outputs) (output_bytes outputs images history)) mid.files after.files
       → All IsObserved before.devices.terms → EndsUnwritten setup outputs typed number from to before after
@@ -355,7 +355,7 @@ module _ (outputs : Outputs) (bytes : List (List ℕ)) (from to : KeyboardState)
   keyboard-left Run.OutputFailed kept (is, same) = subst (λ end. LeavesKeyboard end from to) (sym is) tt
   keyboard-left Run.NoMemory kept (is, same) = subst (λ end. LeavesKeyboard end from to) (sym is) tt
 
-sets-up : (told : Option Files) (boot : RunWords) (typed : Typed) (file : List ℕ) (images : List (List ℕ))
+sets-up : (told : Option HostFiles) (boot : RunWords) (typed : Typed) (file : List ℕ) (images : List (List ℕ))
     → length images ≡ length boot.files → All IsVolume images → IsBootFile images file
     → IfSome told (λ files. images ≡ images_of files boot.files) → SetsUpSession told boot typed (boot_setup boot file
     images typed)
@@ -387,7 +387,7 @@ console-ended boot typed file images new history from to before mid after end an
       may = may-end (outputs_of boot) before after answer it.kind it.host;
       keyboard = keyboard-left (outputs_of boot) (output_bytes (outputs_of boot) new history) from to mid after answer end ran.keyboard ends;
       lines = ran.lines;
-      devices = subst (λ count. LeavesDevices count before after answer) many it.devices;
+      devices = subst (λ count. CommandLeavesDevices count before after answer) many it.devices;
       host = fails-as boot before after answer it.host;
       files = it.files;
     }

@@ -1,9 +1,9 @@
 -- The names of the files that a session reads and writes.
 use Rattle.std.proofs.Common.{◌≡◌, ℕ, List, [], refl, sym, ap, ◌∙◌, append-nil}
-use Rattle.os9_words.specs.Notes.{HasRead, HasWritten, Notes, having_written}
+use Rattle.os9_words.specs.Notes.{HasReadFiles, HasWritten, Notes, having_written}
 use Rattle.os9_words.specs.declared.command.RunWords.{RunWords}
 use Rattle.boot_run.specs.End.{run_file_name}
-use Rattle.boot_run.specs.Noted.{NotesFiles, Reads}
+use Rattle.boot_run.specs.Noted.{NotesNamedFiles, ReadsInputs}
 use Rattle.boot_run.specs.Stops.{NotesStop}
 use Rattle.boot_run.specs.declared.status.End.{End}
 use Rattle.boot_run.specs.declared.status.End.TheVariants.{CannotRead, NoMemory}
@@ -17,7 +17,7 @@ still-written notes = λ i. record notes { written = sym (append-nil notes.writt
 
 -- the reads of its images stopped
 pub notes-stopped : (boot : RunWords) (end : End) (first next : Notes) → NotesStop (run_file_name boot) boot.files end
-    first next → NotesFiles (run_file_name boot) boot.files (BootWrites (outputs_of boot)) end first next
+    first next → NotesNamedFiles (run_file_name boot) boot.files (BootWrites (outputs_of boot)) end first next
 notes-stopped boot (CannotRead input) first next stopped = record {
   read = stopped.read;
   reads = stopped.stops;
@@ -34,15 +34,15 @@ notes-stopped boot NoMemory first next stopped = record {
 }
 notes-stopped boot end first next stopped = absurd stopped.stops
 
-all-read : (boot : RunWords) (end : End) → IsBehindReads end → Reads (run_file_name boot) boot.files end boot.files
+all-read : (boot : RunWords) (end : End) → IsBehindReads end → ReadsInputs (run_file_name boot) boot.files end boot.files
 all-read boot (CannotRead input) behind = absurd behind
 all-read boot NoMemory behind = ([], sym (append-nil boot.files))
 all-read boot end behind = refl
 
 -- all images were read, and then these were written
-pub notes-after : (boot : RunWords) (end : End) (first mid next : Notes) → IsBehindReads end → HasRead boot.files
+pub notes-after : (boot : RunWords) (end : End) (first mid next : Notes) → IsBehindReads end → HasReadFiles boot.files
     first mid → (written : List (List ℕ)) → BootWrites (outputs_of boot) end written → HasWritten written mid next
-    → NotesFiles (run_file_name boot) boot.files (BootWrites (outputs_of boot)) end first next
+    → NotesNamedFiles (run_file_name boot) boot.files (BootWrites (outputs_of boot)) end first next
 notes-after boot end first mid next behind read written writes noted = record {
   read = boot.files;
   reads = all-read boot end behind;

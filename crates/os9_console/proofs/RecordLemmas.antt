@@ -3,7 +3,7 @@ use Rattle.std.proofs.Common.{◌≡◌, ◌⊎◌, ℕ, true, Some, None, Optio
 use Rattle.std.specs.Prelude.{Ok, Err, Result, bytes_eq, unwrap_or, if◌then◌else◌}
 use Rattle.std.proofs.lemmas.Bool.{false≢true}
 use Rattle.os9_base.specs.Count.{Rose}
-use Rattle.os9_outer.specs.Host.{Files, IfObserved, KeepsOrHoldsPrefix}
+use Rattle.os9_outer.specs.Host.{HostFiles, IfObserved, KeepsOrHoldsPrefix}
 use Rattle.os9_outer.specs.declared.host.HostFault.{HostFault}
 use Rattle.os9_outer.specs.declared.host.HostFault.TheVariants as Host
 use Rattle.os9_words.specs.Notes.{HasWritten, Notes, having_written}
@@ -17,7 +17,7 @@ use Rattle.boot_run.specs.declared.status.End.TheVariants.{Ended, Living}
 use Rattle.boot_run.specs.declared.status.Input.TheVariants.{Script, Slices}
 use Rattle.console_run.specs.declared.typed.Typed.{Typed}
 use Rattle.console_run.specs.Texts.{FitsTexts, GiveSession}
-use Rattle.os9_console.specs.Record.{HasWrittenRecord, Records, RecordsSession, WritesPartly, is_recorded}
+use Rattle.os9_console.specs.Record.{HasWrittenRecord, RecordsIfAsked, RecordsSession, WritesPartly, is_recorded}
 use Rattle.os9_console.specs.Words.{record_names}
 use Rattle.os9_console.specs.declared.record.Recording.{Recording}
 use Rattle.os9_console.specs.declared.record.Recording.TheVariants.{NoMemory, Unwritten, Written}
@@ -26,16 +26,16 @@ use Rattle.os9_console.specs.declared.words.ConsoleWords.{ConsoleWords}
 -- ---- two files are written
 
 module _ (first second one two : List ℕ) where
-  both-written : (before mid after : Option Files) → IfObserved (WritesAll (first ∷ []) (one ∷ [])) before mid
+  both-written : (before mid after : Option HostFiles) → IfObserved (WritesAll (first ∷ []) (one ∷ [])) before mid
       → IfObserved (WritesAll (second ∷ []) (two ∷ [])) mid after
       → IfObserved (WritesAll (first ∷ second ∷ []) (one ∷ two ∷ [])) before after
-  both-written None mid after wrote next = subst (λ (files : Option Files). IfObserved (WritesAll (second ∷ []) (two ∷ [])) files after) wrote next
+  both-written None mid after wrote next = subst (λ (files : Option HostFiles). IfObserved (WritesAll (second ∷ []) (two ∷ [])) files after) wrote next
   both-written (Some before) None after wrote next = absurd wrote
   both-written (Some before) (Some mid) None wrote next = absurd next
   both-written (Some before) (Some mid) (Some after) wrote next = λ name.
       next name ∙ ap (λ (at : Option (List ℕ)). if bytes_eq name second then Some two else at) (wrote name)
 
-  first-part : (before after : Option Files) → IfObserved (WritesUpTo 0 (first ∷ []) (one ∷ [])) before after → IfObserved (WritesUpTo 0 (first ∷ second ∷ []) (one ∷ two ∷ [])) before after
+  first-part : (before after : Option HostFiles) → IfObserved (WritesUpTo 0 (first ∷ []) (one ∷ [])) before after → IfObserved (WritesUpTo 0 (first ∷ second ∷ []) (one ∷ two ∷ [])) before after
   first-part None after wrote = wrote
   first-part (Some before) None wrote = wrote
   first-part (Some before) (Some after) wrote = record {
@@ -47,10 +47,10 @@ module _ (first second one two : List ℕ) where
     part = wrote.part;
   }
 
-  second-part : (before mid after : Option Files) → IfObserved (WritesAll (first ∷ []) (one ∷ [])) before mid
+  second-part : (before mid after : Option HostFiles) → IfObserved (WritesAll (first ∷ []) (one ∷ [])) before mid
       → IfObserved (WritesUpTo 0 (second ∷ []) (two ∷ [])) mid after → IfObserved (WritesUpTo 1 (first ∷ second ∷ [])
       (one ∷ two ∷ [])) before after
-  second-part None mid after wrote next = subst (λ (files : Option Files). IfObserved (WritesUpTo 0 (second ∷ []) (two ∷ [])) files after) wrote next
+  second-part None mid after wrote next = subst (λ (files : Option HostFiles). IfObserved (WritesUpTo 0 (second ∷ []) (two ∷ [])) files after) wrote next
   second-part (Some before) None after wrote next = absurd wrote
   second-part (Some before) (Some mid) None wrote next = absurd next
   second-part (Some before) (Some mid) (Some after) wrote next = record {
@@ -167,7 +167,7 @@ asked-at words end (inr is) asked = ap (is_recorded words) is ∙ asked
 
 pub recorded-so : (words : ConsoleWords) (typed : Typed) (end : End) (recording : Recording) (before after : World)
     → is_recorded words end ≡ true → RecordsSession words.boot typed recording before after → IsSilent before after
-    → Records words typed end recording before after
+    → RecordsIfAsked words typed end recording before after
 recorded-so words typed end recording before after asked it silent = record {
   unasked = λ none. absurd (false≢true (sym none ∙ asked));
   asked = λ yes. it;

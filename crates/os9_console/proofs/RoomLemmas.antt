@@ -9,7 +9,7 @@ use Rattle.os9_words.specs.declared.command.Command.TheVariants.{Run, Boot, Chec
 use Rattle.os9_words.specs.Command.{command_of, most_images}
 use Rattle.os9_words.proofs.CommandLemmas.{is-complete}
 use Rattle.boot_run.specs.Drives.{HaveRoom}
-use Rattle.boot_run.specs.Ready.{AreFree}
+use Rattle.boot_run.specs.Ready.{DevicesAreFree}
 use Rattle.os9_kernel.specs.Outside.{Outside}
 use Rattle.os9_console.specs.Words.{console_options, drives_for, overwrites, replay_words, session_of}
 use Rattle.os9_console.specs.declared.words.ConsoleWords.{ConsoleWords}
@@ -39,7 +39,7 @@ few-drives words = by (words_give console_options words)
     by (Some given) = of-command given (command_of (replay_words given)) refl
 
 -- devices with as many drives as a boot may have images are free for any words
-pub console-free : (words : List (List ℕ)) (devices : Outside) → AreUnloaded devices.terms → HaveRoom most_images devices.drives → AreFree (drives_for words) devices
+pub console-free : (words : List (List ℕ)) (devices : Outside) → AreUnloaded devices.terms → HaveRoom most_images devices.drives → DevicesAreFree (drives_for words) devices
 console-free words devices unloaded room = record {
   terminals = unloaded;
   room = record { enough = omega (arith, few-drives words, room.enough); few = room.few; empty = room.empty };

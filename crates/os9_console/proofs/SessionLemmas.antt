@@ -4,7 +4,7 @@ use Rattle.lock_model.specs.declared.history.Entry.{Entry}
 use Rattle.rbf_model.specs.Volume.{Vol}
 use Rattle.os9_outer.specs.TerminalState.{TerminalState}
 use Rattle.boot_run.specs.Loaded.{loaded}
-use Rattle.file_rules.specs.Files.{DriveState, NoneFailed}
+use Rattle.file_rules.specs.Files.{DriveState, KeepsDriveFaults}
 use Rattle.file_drives.specs.Drives.{drive_states, media_of}
 use Rattle.file_drives.proofs.DriveLemmas.{media-there}
 use Rattle.machine_model.specs.Start.{Starts}
@@ -17,14 +17,14 @@ use Rattle.os9_kernel.specs.Outside.{Outside}
 use Rattle.boot_run.specs.Machine.{IsUnrun, Setup, StartsLoaded, boot_of}
 use Rattle.boot_run.specs.World.{World}
 use Rattle.boot_run.specs.declared.machine.RunEnd.TheVariants.{Ended, Living, NoMemory, OutputFailed}
-use Rattle.boot_run.specs.Drives.{IsEmpty, TakesImages, holding}
+use Rattle.boot_run.specs.Drives.{IsEmptyDrive, TakesImages, holding}
 use Rattle.boot_run.specs.Outcome.{IsImageOf}
 use Rattle.boot_run.proofs.DriveLemmas.{counts-holding, counts-without, media-without}
 use Rattle.console_run.specs.Typed.{kept_keys, kept_slices}
 use Rattle.console_run.specs.declared.typed.Typed.{Typed}
 use Rattle.console_run.specs.Kept.{load_of}
 use Rattle.console_run.specs.Keyboard.{KeyboardState}
-use Rattle.console_run.specs.Session.{IsPartTo, IsSessionTo, LeadsSession, StopsSession, StopsWithin, untyped}
+use Rattle.console_run.specs.Session.{IsPartTo, IsSessionTo, LeadsSession, StopsConsoleSession, StopsWithin, untyped}
 use Rattle.console_run.specs.TypedTurn.{TypedTurn}
 use Rattle.console_run.specs.declared.session.SessionEnd.{SessionEnd}
 use Rattle.console_run.specs.declared.session.SessionEnd.TheVariants.{LineLost, OfRun}
@@ -73,8 +73,8 @@ module _ (setup : Setup) (typed : Typed) (before ran : World) (inside left : Out
       recorded = it.recorded;
     }
 
-  stopped : (lives : Bool) (stop : Stop) (from to : KeyboardState) → StopsSession (LeadsSession setup typed history held ran)
-      lives stop from to held ran → StopsSession (LeavesSession setup new history typed before after) lives stop from to before
+  stopped : (lives : Bool) (stop : Stop) (from to : KeyboardState) → StopsConsoleSession (LeadsSession setup typed history held ran)
+      lives stop from to held ran → StopsConsoleSession (LeavesSession setup new history typed before after) lives stop from to before
       after
   stopped lives stop from to it = record {
     turns = it.turns;
@@ -92,7 +92,7 @@ module _ (setup : Setup) (typed : Typed) (before ran : World) (inside left : Out
   session-between (LineLost end) from to it = stopped true Stop.LineLost from to it
 
   module _ (enough : length setup.images ≤ length before.devices.drives)
-      (many : length ran.devices.drives ≡ length before.devices.drives) (empty : All IsEmpty before.devices.drives) where
+      (many : length ran.devices.drives ≡ length before.devices.drives) (empty : All IsEmptyDrive before.devices.drives) where
     within : (from to : KeyboardState) → StopsWithin setup typed from to held ran → StopsMidway setup typed new from to before after
     within from to it = record {
       s = it.s;
@@ -105,9 +105,9 @@ module _ (setup : Setup) (typed : Typed) (before ran : World) (inside left : Out
     unrun it = record {
       out = it.out;
       terminals = terms_left ∙ it.terminals ∙ terms_put;
-      none_failed = subst (λ (states : List DriveState). NoneFailed states (drive_states left.drives))
+      none_failed = subst (λ (states : List DriveState). KeepsDriveFaults states (drive_states left.drives))
           (ap drive_states put ∙ counts-holding setup.images before.devices.drives)
-          (subst (NoneFailed (drive_states inside.drives)) (sym (ap drive_states taken.left ∙ counts-without ran.devices.drives)) it.none_failed);
+          (subst (KeepsDriveFaults (drive_states inside.drives)) (sym (ap drive_states taken.left ∙ counts-without ran.devices.drives)) it.none_failed);
       media_kept = ap media_of taken.left ∙ media-without before.devices.drives ran.devices.drives empty many;
     }
 

@@ -35,7 +35,7 @@ use Rattle.console_run.specs.declared.typed.TheConstants.{SLICE}
 use Rattle.console_run.specs.declared.typed.Typed.{Typed}
 use Rattle.console_run.specs.Kept.{load_of}
 use Rattle.console_run.specs.Keyboard.{KeyboardState}
-use Rattle.console_run.specs.Session.{HasPart, with_bytes}
+use Rattle.console_run.specs.Session.{HasPartOfSession, with_bytes}
 use Rattle.console_run.specs.Turn.{StopsTurn}
 
 -- the bytes of all terminals are observed, or not
@@ -151,7 +151,7 @@ module _ (boot : Boot) (s : State) (starts : Starts boot s) (ran : World) (new :
 
   -- a part of a session from where it started
   pub part-again : (typed : Typed) (from to : KeyboardState) (before : World) (inside : Outside)
-      → HasPart s typed from to (record before { devices = inside }) ran → HasPart s typed from to before again
+      → HasPartOfSession s typed from to (record before { devices = inside }) ran → HasPartOfSession s typed from to before again
   part-again typed from to before inside it = record {
     turns = it.turns;
     states = it.states;

@@ -5,7 +5,7 @@ use Rattle.os9_words.specs.Lines.{no_memory_line, words_line}
 use Rattle.os9_words.specs.Notes.{Notes, having_read, having_written}
 use Rattle.boot_run.specs.World.{World}
 use Rattle.boot_run.specs.End.{run_file_name, status_number}
-use Rattle.boot_run.specs.Noted.{NotesFiles}
+use Rattle.boot_run.specs.Noted.{NotesNamedFiles}
 use Rattle.boot_run.specs.declared.status.End.{End}
 use Rattle.boot_run.specs.declared.status.End.TheVariants.{NoMemory}
 use Rattle.os9_boot.specs.FileNames.{BootWrites}
@@ -16,7 +16,7 @@ use Rattle.console_run.specs.Keyboard.{KeyboardState}
 use Rattle.console_run.specs.Lines.{KeepsLines}
 use Rattle.os9_console.specs.Call.{ConsoleCall}
 use Rattle.os9_console.proofs.CallLemmas.{out-of-memory}
-use Rattle.os9_console.specs.Record.{HasWrittenRecord, Records}
+use Rattle.os9_console.specs.Record.{HasWrittenRecord, RecordsIfAsked}
 use Rattle.os9_console.specs.TopCall.{ConsoleReport, NotesConsole, TopConsole, console_line, console_status}
 use Rattle.os9_console.specs.Words.{console_of}
 use Rattle.os9_console.specs.declared.record.Recording.{Recording}
@@ -25,7 +25,7 @@ use Rattle.os9_console.specs.declared.words.ConsoleWords.{ConsoleWords}
 
 -- the files of a session, and then those of its record
 notes-then : (words : ConsoleWords) (end : End) (recording : Recording) (noted half done : Notes)
-    → NotesFiles (run_file_name words.boot) words.boot.files (BootWrites (outputs_of words.boot)) end noted half
+    → NotesNamedFiles (run_file_name words.boot) words.boot.files (BootWrites (outputs_of words.boot)) end noted half
     → HasWrittenRecord words.boot recording half done → NotesConsole words.boot end recording noted done
 notes-then words end recording noted half done files (texts, records, wrote) =
     let read : Notes = having_read files.read noted in
@@ -43,8 +43,8 @@ notes-then words end recording noted half done files (texts, records, wrote) =
 pub console-reported : (words : ConsoleWords) (typed : Typed) (from to : KeyboardState) (before mid between after :
     World) (noted half done notes : Notes) (end : End) (recording : Recording) (status : ℕ) → after ≡ between
     → status ≡ console_status end recording
-    → ConsoleCall words.boot typed end from to before mid → NotesFiles (run_file_name words.boot) words.boot.files
-    (BootWrites (outputs_of words.boot)) end noted half → Records words typed end recording mid between
+    → ConsoleCall words.boot typed end from to before mid → NotesNamedFiles (run_file_name words.boot) words.boot.files
+    (BootWrites (outputs_of words.boot)) end noted half → RecordsIfAsked words typed end recording mid between
     → HasWrittenRecord words.boot recording half done
     → Reports (console_line words.boot end recording) done notes → ConsoleReport words from to before after noted notes status
 console-reported words typed from to before mid between after noted half done notes end recording status same is call files recorded wrote line = record {
@@ -53,7 +53,7 @@ console-reported words typed from to before mid between after noted half done no
   mid = mid;
   call = call;
   recording = recording;
-  recorded = subst (λ (world : World). Records words typed end recording mid world) (sym same) recorded;
+  recorded = subst (λ (world : World). RecordsIfAsked words typed end recording mid world) (sym same) recorded;
   status_is = is;
   done = done;
   files = notes-then words end recording noted half done files wrote;

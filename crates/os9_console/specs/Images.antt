@@ -10,7 +10,7 @@ use Rattle.boot_run.specs.Machine.{IsUnrun, Setup, StartsLoaded, setup_of}
 use Rattle.boot_run.specs.World.{World}
 use Rattle.console_run.specs.Typed.{kept_keys, kept_slices}
 use Rattle.console_run.specs.Keyboard.{KeyboardState}
-use Rattle.console_run.specs.Session.{AsksKeyboard, EndsAtLine, HasSession, IsPartTo, IsSessionTo, StopsWithin, run_end, untyped}
+use Rattle.console_run.specs.Session.{AsksKeyboard, EndsAtLine, HasTypedSession, IsPartTo, IsSessionTo, StopsWithin, run_end, untyped}
 use Rattle.console_run.specs.Lines.{KeepsLines}
 use Rattle.console_run.specs.TypedTurn.{TypedTurn}
 use Rattle.console_run.specs.declared.typed.Typed.{Typed}
@@ -28,7 +28,7 @@ pub record LeavesSession (setup : Setup) (images : List (List ℕ)) (history : L
     (before after : World) (turns : List TypedTurn) (t : State) : Type 0 where
   pub s : State
   pub starts : StartsLoaded (untyped setup) before s
-  pub session : HasSession turns s t typed before.out after.out
+  pub session : HasTypedSession turns s t typed before.out after.out
   pub terminals : after.devices.terms ≡ t.terms
   pub drives : drive_states after.devices.drives ≡ t.files.drives
   pub volumes : AreImagesOf t setup.images images

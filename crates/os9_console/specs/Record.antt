@@ -6,12 +6,12 @@ use Rattle.os9_words.specs.Notes.{HasWritten, Notes}
 use Rattle.boot_run.specs.Images.{WritesAll, WritesUpTo}
 use Rattle.boot_run.specs.World.{World, FailsToWriteFile, HasNoFault}
 use Rattle.boot_run.specs.End.{run_file_name}
-use Rattle.boot_run.specs.FileNames.{IsFront}
+use Rattle.boot_run.specs.FileNames.{AreFirstNames}
 use Rattle.boot_run.specs.declared.status.End.{End}
 use Rattle.boot_run.specs.declared.status.End.TheVariants.{Ended, Living}
 use Rattle.boot_run.specs.declared.status.Input.{Input}
 use Rattle.boot_run.specs.declared.status.Input.TheVariants.{Script}
-use Rattle.os9_boot.specs.BootLeft.{IsText}
+use Rattle.os9_boot.specs.BootLeft.{IsBootText}
 use Rattle.console_run.specs.declared.typed.Typed.{Typed}
 use Rattle.console_run.specs.Texts.{FitsTexts, GiveSession}
 use Rattle.os9_console.specs.Words.{record_names}
@@ -47,7 +47,7 @@ pub record WritesPartly (boot : RunWords) (typed : Typed) (number : ℕ) (before
 
 -- the host failed, and last at the write of this file of the record
 pub record FailsToRecord (boot : RunWords) (typed : Typed) (input : Input) (before after : World) : Type 0 where
-  pub text : IsText input
+  pub text : IsBootText input
   pub name : List ℕ
   pub named : run_file_name boot input ≡ Some name
   pub failed : FailsToWriteFile name before after
@@ -66,7 +66,8 @@ RecordsSession boot typed NoMemory before after =
 
 -- A session that ended so was recorded if it was to be, and else nothing was done; the output and the devices are as
 -- they were.
-pub record Records (words : ConsoleWords) (typed : Typed) (end : End) (recording : Recording) (before after : World)
+pub record RecordsIfAsked (words : ConsoleWords) (typed : Typed) (end : End) (recording : Recording)
+    (before after : World)
     : Type 0 where
   pub unasked : is_recorded words end ≡ false → (recording ≡ Unasked) × (after ≡ before)
   pub asked : is_recorded words end ≡ true → RecordsSession words.boot typed recording before after
@@ -78,7 +79,7 @@ pub record Records (words : ConsoleWords) (typed : Typed) (end : End) (recording
 abbrev pub RecordWrites : RunWords → Recording → List (List ℕ) → Type 0
 RecordWrites boot Written names = names ≡ record_names boot
 RecordWrites boot (Unwritten input) names = names ≡ take (suc (place_of input)) (record_names boot)
-RecordWrites boot NoMemory names = IsFront names (record_names boot)
+RecordWrites boot NoMemory names = AreFirstNames names (record_names boot)
 RecordWrites boot recording names = names ≡ []
 
 -- and they are noted

@@ -7,7 +7,7 @@ use Rattle.os9_words.specs.declared.command.RunWords.{RunWords}
 use Rattle.boot_run.specs.World.{World}
 use Rattle.boot_run.specs.End.{named_by, run_file_name, status_number}
 use Rattle.boot_run.specs.EndLines.{end_line}
-use Rattle.boot_run.specs.Noted.{Reads}
+use Rattle.boot_run.specs.Noted.{ReadsInputs}
 use Rattle.boot_run.specs.declared.status.End.{End}
 use Rattle.boot_run.specs.declared.status.Input.{Input}
 use Rattle.console_run.specs.Keyboard.{KeyboardState}
@@ -16,7 +16,7 @@ use Rattle.os9_boot.specs.FileNames.{BootWrites}
 use Rattle.os9_boot.specs.History.{outputs_of}
 use Rattle.os9_boot.specs.TopCall.{Reports, WordsReport}
 use Rattle.os9_console.specs.Call.{ConsoleCall}
-use Rattle.os9_console.specs.Record.{RecordWrites, Records}
+use Rattle.os9_console.specs.Record.{RecordWrites, RecordsIfAsked}
 use Rattle.os9_console.specs.Words.{console_of}
 use Rattle.os9_console.specs.declared.record.Recording.{Recording}
 use Rattle.os9_console.specs.declared.record.Recording.TheVariants.{TooLong, Unwritten, NoMemory}
@@ -49,7 +49,7 @@ console_line boot end recording = end_line (option_map_or (name_of boot) (named_
 -- session that is over are written, and then the files of its record.
 pub record NotesConsole (boot : RunWords) (end : End) (recording : Recording) (before after : Notes) : Type 0 where
   pub read : List (List ℕ)
-  pub reads : Reads (run_file_name boot) boot.files end read
+  pub reads : ReadsInputs (run_file_name boot) boot.files end read
   pub images : List (List ℕ)
   pub writes : BootWrites (outputs_of boot) end images
   pub texts : List (List ℕ)
@@ -65,7 +65,7 @@ pub record ConsoleReport (words : ConsoleWords) (from to : KeyboardState) (befor
   pub mid : World
   pub call : ConsoleCall words.boot typed end from to before mid
   pub recording : Recording
-  pub recorded : Records words typed end recording mid after
+  pub recorded : RecordsIfAsked words typed end recording mid after
   pub status_is : status ≡ console_status end recording
   pub done : Notes
   pub files : NotesConsole words.boot end recording noted done

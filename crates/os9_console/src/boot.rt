@@ -1,9 +1,9 @@
 //! A machine is booted on what files hold, and run as a person types.
 
 ghost use Rattle.std.specs.Prelude.{length};
-ghost use Rattle.boot_run.specs.Ready.{AreEmptyAgain, AreFree};
+ghost use Rattle.boot_run.specs.Ready.{AreEmptyAgain, DevicesAreFree};
 ghost use Rattle.boot_run.specs.End.{run_file_name};
-ghost use Rattle.boot_run.specs.Noted.{NotesFiles};
+ghost use Rattle.boot_run.specs.Noted.{NotesNamedFiles};
 ghost use Rattle.os9_console.specs.Call.{ConsoleCall};
 ghost use Rattle.console_run.specs.Typed.{IsUntyped};
 ghost use Rattle.console_run.specs.Keyboard.{keyboard_state};
@@ -38,14 +38,14 @@ pub(crate) fn boot_console<H: Host, K: Keyboard<H> + Drop>(
     devices: &mut Devices,
 ) -> End
     requires untyped { IsUntyped console.old.typed }
-    requires devices { AreFree (length boot.now.files)
+    requires devices { DevicesAreFree (length boot.now.files)
         (outside BlockDriver-box CharDriver-box devices.old) }
     requires words { IsBoot boot.now }
     ensures call { OnWorld (ConsoleCall boot.now console.new.typed result
         (keyboard_state K.Keyboard console.old.keyboard)
         (keyboard_state K.Keyboard console.new.keyboard))
         H.Host host.old host.new BlockDriver-box CharDriver-box devices.old devices.new }
-    ensures noted { NotesFiles (run_file_name boot.now) boot.now.files (BootWrites
+    ensures noted { NotesNamedFiles (run_file_name boot.now) boot.now.files (BootWrites
         (outputs_of boot.now)) result (notes_of H.Host host.old) (notes_of H.Host host.new) }
     ensures drives { AreEmptyAgain (drives_seen BlockDriver-box devices.old)
         (drives_seen BlockDriver-box devices.new) }

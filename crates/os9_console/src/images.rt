@@ -3,7 +3,7 @@
 ghost use Rattle.std.specs.Prelude.{◌≡◌, All, length};
 ghost use Rattle.os9_kernel.specs.Outside.{outside};
 ghost use Rattle.boot_run.specs.BootFile.{IsVolume};
-ghost use Rattle.boot_run.specs.Ready.{AreFree, CanStart};
+ghost use Rattle.boot_run.specs.Ready.{DevicesAreFree, IsValidStart};
 ghost use Rattle.boot_run.specs.Machine.{history_left};
 ghost use Rattle.boot_run.specs.World.{OnWorld};
 ghost use Rattle.os9_console.specs.Images.{session_setup, RunsConsole};
@@ -32,9 +32,9 @@ pub(crate) fn run_on_images<H: Host, K: Keyboard<H> + Drop>(
     devices: &mut Devices,
 ) -> SessionOutcome
     requires untyped { IsUntyped console.old.typed }
-    requires devices { AreFree (length images.old)
+    requires devices { DevicesAreFree (length images.old)
         (outside BlockDriver-box CharDriver-box devices.old) }
-    requires start { CanStart start.now }
+    requires start { IsValidStart start.now }
     requires volumes { All IsVolume images.old }
     ensures run { OnWorld (RunsConsole (session_setup start.now images.old console.new.typed)
         console.new.typed images.new (history_left result.records) result.end

@@ -5,7 +5,7 @@ ghost use Rattle.boot_run.specs.World.{world_of};
 ghost use Rattle.boot_run.specs.Left.{IsSilent};
 ghost use Rattle.os9_kernel.specs.Outside.{Outside};
 ghost use Rattle.os9_words.specs.Notes.{notes_of};
-ghost use Rattle.os9_console.specs.Record.{HasWrittenRecord, Records, RecordsSession};
+ghost use Rattle.os9_console.specs.Record.{HasWrittenRecord, RecordsIfAsked, RecordsSession};
 ghost use Rattle.console_run.specs.Texts.{FitsTexts, GiveSession};
 
 use crate::words::ConsoleWords;
@@ -39,7 +39,7 @@ struct Record {
     slices: Vec<u8>,
 }
 
-/// Records a session that ended so, if the words say so and its images are written.
+/// RecordsIfAsked a session that ended so, if the words say so and its images are written.
 pub(crate) fn record_session<H: Host>(
     alloc: Global,
     words: &ConsoleWords,
@@ -48,7 +48,7 @@ pub(crate) fn record_session<H: Host>(
     host: &mut H,
 ) -> Recording
     requires { IsSome words.now.boot.script }
-    ensures recorded { (devices : Outside) → Records words.now typed.now end result
+    ensures recorded { (devices : Outside) → RecordsIfAsked words.now typed.now end result
         (world_of H.Host host.old devices) (world_of H.Host host.new devices) }
     ensures noted { HasWrittenRecord words.now.boot result
         (notes_of H.Host host.old) (notes_of H.Host host.new) }

@@ -1,7 +1,7 @@
 //! The top call.
 
 ghost use Rattle.std.specs.Prelude.{length, map, string_bytes};
-ghost use Rattle.boot_run.specs.Ready.{AreEmptyAgain, AreFree};
+ghost use Rattle.boot_run.specs.Ready.{AreEmptyAgain, DevicesAreFree};
 ghost use Rattle.os9_console.specs.TopCall.{ConsoleReport, TopConsole};
 ghost use Rattle.os9_console.specs.Words.{drives_for};
 ghost use Rattle.console_run.specs.Typed.{IsUntyped};
@@ -57,7 +57,7 @@ pub fn console_main<H: Host, K: Keyboard<H> + Drop>(
     devices: &mut Devices,
 ) -> u8
     requires untyped { IsUntyped console.old.typed }
-    requires devices { AreFree (drives_for (map string_bytes words.now))
+    requires devices { DevicesAreFree (drives_for (map string_bytes words.now))
         (outside BlockDriver-box CharDriver-box devices.old) }
     ensures call { OnNotedCall (λ before after noted notes. TopConsole (map string_bytes words.now)
         (keyboard_state K.Keyboard console.old.keyboard)
@@ -87,7 +87,7 @@ fn do_console<H: Host, K: Keyboard<H> + Drop>(
     devices: &mut Devices,
 ) -> u8
     requires untyped { IsUntyped console.old.typed }
-    requires devices { AreFree (length words.now.boot.files)
+    requires devices { DevicesAreFree (length words.now.boot.files)
         (outside BlockDriver-box CharDriver-box devices.old) }
     requires words { IsBoot words.now.boot }
     ensures call { OnNotedCall (λ before after noted notes. ConsoleReport words.now

@@ -13,14 +13,14 @@ use Rattle.boot_run.specs.Dropped.{CanBeTaken, LosesKeys}
 use Rattle.machine_model.specs.Console.{terminals_emptied, without_bytes}
 use Rattle.machine_model.specs.Terminals.{OnlyGains, TerminalsOnlyGain}
 use Rattle.run_laws.specs.Faults.{NotFailed}
-use Rattle.os9_debug.specs.Machine.{HasNoBytes, HasTick}
+use Rattle.os9_debug.specs.Machine.{HasNoBytes, HasKeyTick}
 
 -- ---- keys
 
-keys-taken : (number : ℕ) (keys : List ScriptKey) → All HasTick keys → All CanBeTaken (keys_for number keys)
+keys-taken : (number : ℕ) (keys : List ScriptKey) → All HasKeyTick keys → All CanBeTaken (keys_for number keys)
 keys-taken number keys ticks =
     All-map CanBeTaken (λ (key : ScriptKey). record { tick = key.tick; byte = key.byte }) (filter (λ key. nat_eq key.term number) keys)
-    (All-filter (λ (key : ScriptKey). nat_eq key.term number) HasTick keys ticks)
+    (All-filter (λ (key : ScriptKey). nat_eq key.term number) HasKeyTick keys ticks)
 
 rest-taken : (used keys : List Key) → All CanBeTaken (used ++ keys) → All CanBeTaken keys
 rest-taken [] keys all = all
@@ -69,7 +69,7 @@ same-again keys x y z taken no_keys no_bytes gains loses none =
 
 -- ---- all of them
 
-pub unloaded-again : (number : ℕ) (keys : List ScriptKey) (a b c : List TerminalState) → All HasTick keys
+pub unloaded-again : (number : ℕ) (keys : List ScriptKey) (a b c : List TerminalState) → All HasKeyTick keys
     → TerminalsOnlyGain (loaded_from number keys a) b → AllZip LosesKeys b c → All HasNoKeys (terminals_emptied c)
 unloaded-again number keys [] [] [] ticks gains loses = All-nil HasNoKeys
 unloaded-again number keys [] [] (z ∷ c) ticks gains loses = absurd loses
@@ -92,7 +92,7 @@ loaded-again number keys (x ∷ a) (y ∷ b) [] gains loses = absurd loses
 loaded-again number keys (x ∷ a) (y ∷ b) (z ∷ c) gains loses =
     (gains-again (keys_for number keys) x y z gains.0 loses.0, loaded-again (suc number) keys a b c gains.1 loses.1)
 
-pub first-again : (number : ℕ) (keys : List ScriptKey) (a b c : List TerminalState) → All HasTick keys
+pub first-again : (number : ℕ) (keys : List ScriptKey) (a b c : List TerminalState) → All HasKeyTick keys
     → All HasNoKeys a → All HasNoBytes a → TerminalsOnlyGain (loaded_from number keys a) b → AllZip LosesKeys b c
     → AllZip NotFailed a (terminals_emptied c) → terminals_emptied c ≡ a
 first-again number keys [] [] [] ticks no_keys no_bytes gains loses none = refl

@@ -1,7 +1,7 @@
 -- From the steps of `debug` to how it ends.
 use Rattle.std.proofs.Common.{◌≡◌, ℕ, Option, Some, None, Result, Ok, Err, List, length, ◌⊎◌, inl, inr, refl, sym, ap, subst, ◌∙◌}
 use Rattle.std.specs.Prelude.{IfSome}
-use Rattle.os9_outer.specs.Host.{Files}
+use Rattle.os9_outer.specs.Host.{HostFiles}
 use Rattle.script_text.specs.declared.script.ScriptKey.{ScriptKey}
 use Rattle.script_text.specs.Script.{keys_of}
 use Rattle.script_text.specs.Slices.{slices_of}
@@ -10,7 +10,7 @@ use Rattle.os9_words.specs.declared.debug_words.DebugWords.{DebugWords}
 use Rattle.boot_run.specs.World.{World, HasNoFault}
 use Rattle.debug_run.specs.Commands.{commands_of}
 use Rattle.debug_run.specs.declared.command.Command.{Command}
-use Rattle.os9_debug.specs.Session.{FailsToPrint, PrintsSome, SessionCall, StopsAtTerminal}
+use Rattle.os9_debug.specs.Session.{FailsToPrint, PrintsSome, DebugSessionCall, StopsAtTerminal}
 use Rattle.os9_debug.specs.declared.machine.Machine.{Machine}
 use Rattle.os9_debug.specs.declared.machine.SessionFault.{SessionFault}
 use Rattle.os9_debug.specs.declared.machine.SessionFault.TheVariants as Fault
@@ -28,7 +28,7 @@ use Rattle.os9_debug.specs.declared.files.DebugFiles.{DebugFiles}
 
 -- ---- worlds
 
-of-any : (told : Option Files) (fact : Files → Type 0) → ((files : Files) → fact files) → IfSome told fact
+of-any : (told : Option HostFiles) (fact : HostFiles → Type 0) → ((files : HostFiles) → fact files) → IfSome told fact
 of-any None fact holds = tt
 of-any (Some files) fact holds = holds files
 
@@ -66,10 +66,10 @@ module _ (debug : DebugWords) (before after : World) where
 -- ---- the files were read
 
 module _ (debug : DebugWords) (before : World) (read : DebugFiles) (has : IfSome before.files (λ files. HasDebugFiles files debug read)) where
-  of-files : (fact : Files → Type 0) → ((files : Files) → HasDebugFiles files debug read → fact files) → IfSome before.files fact
+  of-files : (fact : HostFiles → Type 0) → ((files : HostFiles) → HasDebugFiles files debug read → fact files) → IfSome before.files fact
   of-files fact follows = by before.files has
     where
-      by : (told : Option Files) → IfSome told (λ files. HasDebugFiles files debug read) → IfSome told fact
+      by : (told : Option HostFiles) → IfSome told (λ files. HasDebugFiles files debug read) → IfSome told fact
       by None has = tt
       by (Some files) has = follows files has
 
@@ -109,7 +109,7 @@ module _ (debug : DebugWords) (before : World) (read : DebugFiles) (has : IfSome
     -- ---- the texts were accepted
 
     module _ (keys : List ScriptKey) (slices : List ℕ) (given : keys_of (length before.devices.terms) read.script.items ≡ Ok keys) (cut : slices_of read.slices.items ≡ Ok slices) where
-      texts : (files : Files) → HasDebugFiles files debug read → HaveTexts files debug.run (length before.devices.terms) keys slices
+      texts : (files : HostFiles) → HasDebugFiles files debug read → HaveTexts files debug.run (length before.devices.terms) keys slices
       texts files has = record { script = rw (← has.script) given; slice_text = rw (← has.slices) cut }
 
       -- the commands were refused
@@ -137,7 +137,7 @@ module _ (debug : DebugWords) (before : World) (read : DebugFiles) (has : IfSome
           commands) (blocks : machine.blocks ≡ debug.run.blocks) (time : machine.time ≡ debug.run.start)
           (file : machine.file.now ≡ read.modules.items) (keys_are : machine.keys.now ≡ keys)
           (slices_are : machine.slices.now ≡ slices) (after : World) where
-        had : (then_ : Machine → List Command → Type 0) → then_ machine commands → (files : Files) → HasDebugFiles files debug read → SessionThen files debug (length before.devices.terms) then_
+        had : (then_ : Machine → List Command → Type 0) → then_ machine commands → (files : HostFiles) → HasDebugFiles files debug read → SessionThen files debug (length before.devices.terms) then_
         had then_ rest files has = record {
           machine = machine;
           commands = commands;
@@ -157,11 +157,11 @@ module _ (debug : DebugWords) (before : World) (read : DebugFiles) (has : IfSome
         }
 
         -- memory was out
-        lacks : (files : Files) → HasDebugFiles files debug read → (after.out ≡ before.out) ⊎ PrintsSome machine commands before after → DebugComesTo files debug before after NoMemory
+        lacks : (files : HostFiles) → HasDebugFiles files debug read → (after.out ≡ before.out) ⊎ PrintsSome machine commands before after → DebugComesTo files debug before after NoMemory
         lacks files has (inl same) = inl same
         lacks files has (inr some) = inr (had (λ machine commands. PrintsSome machine commands before after) some files has)
 
-        ended : (answer : Result (Unit {0}) SessionFault) → SessionCall machine commands answer before after → DebugCall debug before after (session_end answer)
+        ended : (answer : Result (Unit {0}) SessionFault) → DebugSessionCall machine commands answer before after → DebugCall debug before after (session_end answer)
         ended (Ok value) call = record {
           comes = of-files (λ files. DebugComesTo files debug before after Ended) (had (PrintsWhole before after) (call.starts, call.prints));
           may = tt;
@@ -223,4 +223,4 @@ module _ (debug : DebugWords) (before : World) (read : DebugFiles) (has : IfSome
         pub session-ended : (end : End) → HadSession machine commands end mid after → DebugCall debug before after end
         session-ended end it =
             subst (λ (end : End). DebugCall debug before after end) (sym it.ends)
-            (ended it.answer (subst (λ (world : World). SessionCall machine commands it.answer world after) same it.call))
+            (ended it.answer (subst (λ (world : World). DebugSessionCall machine commands it.answer world after) same it.call))

@@ -1,7 +1,7 @@
 -- The files of a session, which are those of a run and the commands.
 use Rattle.std.proofs.Common.{◌≡◌, ℕ, Option, Some, None, List, [], ◌∷◌, slice_get}
 use Rattle.std.specs.Prelude.{IfSome}
-use Rattle.os9_outer.specs.Host.{Files, file_contents}
+use Rattle.os9_outer.specs.Host.{HostFiles, file_contents}
 use Rattle.os9_words.specs.Notes.{Notes}
 use Rattle.os9_words.specs.declared.debug_words.DebugWords.{DebugWords}
 use Rattle.boot_run.specs.World.{World}
@@ -37,7 +37,7 @@ module _ (debug : DebugWords) where
       by end stops = absurd stops
 
 -- the four files were read
-pub has-files : (told : Option Files) (debug : DebugWords) (read : DebugFiles) (name : List ℕ)
+pub has-files : (told : Option HostFiles) (debug : DebugWords) (read : DebugFiles) (name : List ℕ)
     → slice_get debug.run.files 0 ≡ Some name → IfSome told (λ files. read.script.items ≡ script_of files debug.run)
     → IfSome told (λ files. read.slices.items ≡ file_contents files debug.run.slices)
     → IfSome told (λ files. read.commands.items ≡ file_contents files debug.commands)

@@ -13,7 +13,7 @@ use Rattle.debug_run.specs.declared.command.Command.{Command}
 use Rattle.debug_run.specs.declared.command.Command.TheVariants.{To, Back, Regs, Mem, Dis}
 use Rattle.debug_run.specs.declared.command.Span.{Span}
 use Rattle.debug_run.specs.Devices.{Unfailed}
-use Rattle.debug_run.specs.Moves.{HasGone}
+use Rattle.debug_run.specs.Moves.{HasReachedEvent}
 use Rattle.debug_run.specs.Position.{IsAt}
 use Rattle.debug_run.specs.declared.position.Position.{Position}
 use Rattle.debug_run.specs.declared.position.Step.{Step}
@@ -90,7 +90,7 @@ pub can-go : {Value : Type 0} (value : Value) (machine : Machine) (command : Com
 can-go value machine command old new before after (first, can, at) moved = (first, can, moved.stays first can at)
 
 module _ {Value : Type 0} (value : Value) (machine : Machine) (k : ℕ) (old mid new : Position) (before between after : Outside) (moved : MovesOn machine (To k) old mid (Ok value) before between) where
-  pub moves-on : (step : Step) → HasGone k machine.slices.now mid new (Ok step) between after → MovesOn machine (To k) old new (Ok step) before after
+  pub moves-on : (step : Step) → HasReachedEvent k machine.slices.now mid new (Ok step) between after → MovesOn machine (To k) old new (Ok step) before after
   moves-on step gone = record {
     stays = λ first can at.
         let there = moved.stays first can at in
@@ -107,7 +107,7 @@ module _ {Value : Type 0} (value : Value) (machine : Machine) (k : ℕ) (old mid
     may_fail = tt;
   }
 
-  pub at-end : HasGone k machine.slices.now mid new (Ok End) between after → IsAtEnd k machine old new before after
+  pub at-end : HasReachedEvent k machine.slices.now mid new (Ok End) between after → IsAtEnd k machine old new before after
   at-end gone = record {
     short = gone.short refl;
     last = λ first can at bare unfailed course is.

@@ -1,10 +1,10 @@
 -- The files that a session reads, as its host notes them.
 use Rattle.std.proofs.Common.{◌≡◌, ℕ, List, [], refl, sym, ◌∙◌, append-nil}
-use Rattle.os9_words.specs.Notes.{HasRead, Notes, having_read, having_written}
+use Rattle.os9_words.specs.Notes.{HasReadFiles, Notes, having_read, having_written}
 use Rattle.os9_words.specs.declared.debug_words.DebugWords.{DebugWords}
 use Rattle.machine_model.specs.declared.ends.BootFault.TheVariants.{OutOfMemory, BadModule as BadModuleFault, NoFirst as NoFirstFault, TooLarge as TooLargeFault}
 use Rattle.std.specs.Prelude.{Result, Ok, Err}
-use Rattle.boot_run.specs.Noted.{Reads}
+use Rattle.boot_run.specs.Noted.{ReadsInputs}
 use Rattle.boot_run.specs.Reading.{RefusesTexts}
 use Rattle.boot_run.specs.Stops.{NotesStop}
 use Rattle.boot_run.specs.declared.status.End.{End}
@@ -19,7 +19,7 @@ use Rattle.os9_debug.specs.Steps.{RefusesCommands, session_end}
 
 module _ (debug : DebugWords) (first next : Notes) where
   -- no file was written behind what was read
-  none-behind : (read : List (List ℕ)) → HasRead read first next → next ≡ having_written [] (having_read read first)
+  none-behind : (read : List (List ℕ)) → HasReadFiles read first next → next ≡ having_written [] (having_read read first)
   none-behind read noted = noted.is ∙ (written-none (having_read read first)).is
 
   -- a file could not be read
@@ -45,12 +45,12 @@ module _ (debug : DebugWords) (first next : Notes) where
   IsBehindReads (CannotRead input) = ⊥
   IsBehindReads end = Unit {0}
 
-  all-read : (end : End) → IsBehindReads end → Reads (debug_file_name debug) (debug_inputs debug) end (debug_inputs debug)
+  all-read : (end : End) → IsBehindReads end → ReadsInputs (debug_file_name debug) (debug_inputs debug) end (debug_inputs debug)
   all-read (CannotRead input) behind = absurd behind
   all-read NoMemory behind = ([], sym (append-nil (debug_inputs debug)))
   all-read end behind = refl
 
-  module _ (read : HasRead (debug_inputs debug) first next) where
+  module _ (read : HasReadFiles (debug_inputs debug) first next) where
     notes-read : (end : End) → IsBehindReads end → NotesDebug debug end first next
     notes-read end behind = record {
       read = debug_inputs debug;

@@ -3,7 +3,7 @@ use Rattle.std.proofs.Common.{◌≡◌, ℕ, suc, true, Option, Some, List, [],
 use Rattle.std.specs.Prelude.{IfSome}
 use Rattle.os9_base.specs.declared.registers.TimePacket.{TimePacket}
 use Rattle.time_rules.specs.CivilTime.{is_time_packet}
-use Rattle.os9_outer.specs.Host.{Files}
+use Rattle.os9_outer.specs.Host.{HostFiles}
 use Rattle.os9_outer.specs.TerminalState.{TerminalState}
 use Rattle.script_text.specs.declared.script.ScriptKey.{ScriptKey}
 use Rattle.boot_run.specs.Loaded.{loaded_from}
@@ -14,15 +14,16 @@ use Rattle.os9_debug.specs.Machine.{boot_of}
 use Rattle.boot_run.specs.declared.status.End.TheVariants.{Ended}
 use Rattle.os9_debug.specs.Call.{DebugCall}
 use Rattle.os9_debug.specs.Debug.{DebugComesTo, PrintsWhole, SessionThen}
-use Rattle.os9_debug.specs.OneCourse.{IsFaultless, ShowsOneCourse}
+use Rattle.os9_debug.specs.OneCourse.{IsFaultlessDebug, ShowsOneCourse}
 
 count-loaded : (number : ℕ) (keys : List ScriptKey) (terms : List TerminalState) → length (loaded_from number keys terms) ≡ length terms
 count-loaded number keys [] = refl
 count-loaded number keys (terminal ∷ terms) = ap suc (count-loaded (suc number) keys terms)
 
-pub shows-one : (files : Files) (debug : DebugWords) (before after : World) → IsFaultless files debug before after → DebugCall debug before after Ended → ShowsOneCourse files debug before after
+pub shows-one : (files : HostFiles) (debug : DebugWords) (before after : World) → IsFaultlessDebug files debug before
+    after → DebugCall debug before after Ended → ShowsOneCourse files debug before after
 shows-one files debug before after none call =
-    by (subst (λ (told : Option Files). IfSome told (λ files. DebugComesTo files debug before after Ended)) none.observed call.comes)
+    by (subst (λ (told : Option HostFiles). IfSome told (λ files. DebugComesTo files debug before after Ended)) none.observed call.comes)
   where
     by : SessionThen files debug (length before.devices.terms) (PrintsWhole before after) → ShowsOneCourse files debug before after
     by it =

@@ -8,7 +8,7 @@ use Rattle.os9_outer.specs.Stream.{GainsPrefix, stream_with}
 use Rattle.std.proofs.lemmas.List.{drop_all, take-append-drop, take_all}
 use Rattle.device_table.proofs.StreamLemmas.{appended-nothing, appended-twice}
 use Rattle.os9_words.proofs.Prefixes.{GainsPrefix-front, GainsPrefix-then}
-use Rattle.machine_model.specs.ProcessStart.{Refuses}
+use Rattle.machine_model.specs.ProcessStart.{RefusesBoot}
 use Rattle.machine_model.specs.declared.ends.BootFault.{BootFault}
 use Rattle.os9_kernel.specs.Outside.{Outside}
 use Rattle.boot_run.specs.World.{FailsToWrite, HasNoFault, World}
@@ -21,7 +21,7 @@ use Rattle.debug_run.specs.declared.position.Position.{Position}
 use Rattle.os9_debug.specs.Counts.{NoneFell}
 use Rattle.os9_debug.specs.Machine.{CanStart, HasNoBytes, HasStart, InCourse, boot_of}
 use Rattle.os9_debug.specs.Moves.{FailsToMove, FailsToStart, HasShown, IsPositionOf, LeadsBack, MayFailSo, MovesOn}
-use Rattle.os9_debug.specs.Session.{CanFail, PrintsAll, PrintsFirst, SessionCall, ShowsTheCourse, StopsSession, position_behind}
+use Rattle.os9_debug.specs.Session.{CanFail, PrintsAll, PrintsFrontInCourse, DebugSessionCall, ShowsTheCourse, StopsDebugSession, position_behind}
 use Rattle.os9_debug.specs.declared.machine.Machine.{Machine}
 use Rattle.os9_debug.specs.declared.machine.SessionFault.{SessionFault}
 use Rattle.os9_debug.specs.declared.machine.SessionFault.TheVariants.{Refused, TerminalFailed, OutputFailed, NoMemory}
@@ -177,7 +177,7 @@ module _ (machine : Machine) (commands : List Command) (before : World) (between
   pub so-far-part : {Value : Type 0} (value : Value) (command : Command) (new : Position) (line : List ℕ)
       (after : World) → drop i commands ≡ command ∷ drop (i + 1) commands → MovesOn machine command position new
       (Ok value) between after.devices → HasShown machine command position new line between after.devices
-      → GainsPrefix now line after.out → InCourse machine before.devices after.devices (PrintsFirst machine commands
+      → GainsPrefix now line after.out → InCourse machine before.devices after.devices (PrintsFrontInCourse machine commands
       before after)
   so-far-part value command new line after next moved shown gained = λ bare unfailed course is.
       let (line_is, place) = shown before.devices can at bare unfailed course is in
@@ -189,7 +189,7 @@ module _ (machine : Machine) (commands : List Command) (before : World) (between
       (after : World) → drop i commands ≡ command ∷ drop (i + 1) commands → MovesOn machine command position new
       (Ok value) between after.devices → HasShown machine command position new line between after.devices
       → GainsPrefix now line after.out → line ≢ [] → InCourse machine before.devices after.devices
-      (λ course. PrintsFirst machine commands before after course × (printed_from course 0 commands ≢ []))
+      (λ course. PrintsFrontInCourse machine commands before after course × (printed_from course 0 commands ≢ []))
   so-far-breaks value command new line after next moved shown gained more = λ bare unfailed course is.
       let (line_is, place) = shown before.devices can at bare unfailed course is in (
         so-far-part value command new line after next moved shown gained bare unfailed course is,
@@ -200,9 +200,9 @@ module _ (machine : Machine) (commands : List Command) (before : World) (between
 
   -- a command failed
   pub so-far-stops : (command : Command) → drop i commands ≡ command ∷ drop (i + 1) commands
-      → ((fault : BootFault) → ¬ Refuses machine.file.now machine.blocks fault) → HasStart machine before.devices
+      → ((fault : BootFault) → ¬ RefusesBoot machine.file.now machine.blocks fault) → HasStart machine before.devices
       → (fault : SessionFault) (after : World) → after.out ≡ now → FailsToMove machine between after.devices fault
-      → MayFailSo command position.events fault → StopsSession machine commands before after fault
+      → MayFailSo command position.events fault → StopsDebugSession machine commands before after fault
   so-far-stops command next accepted starts (Refused fault) after out fails may = absurd (accepted fault fails)
   so-far-stops command next accepted starts (TerminalFailed n) after out fails may = record {
     starts = starts;
@@ -234,7 +234,7 @@ module _ (machine : Machine) (commands : List Command) (before : World) (between
 
 -- the machine did not start
 pub start-stops : (machine : Machine) (commands : List Command) (world : World) (devices : Outside)
-    (fault : SessionFault) → FailsToStart machine world.devices devices fault → StopsSession machine commands world
+    (fault : SessionFault) → FailsToStart machine world.devices devices fault → StopsDebugSession machine commands world
     (record world { devices = devices }) fault
 start-stops machine commands world devices (Refused fault) fails =
     (fails.0, ap (λ (devices : Outside). let after : World = record world { devices = devices } in after) fails.1)
@@ -250,7 +250,7 @@ move-no-output machine before after fault fails is = subst (FailsToMove machine 
 
 module _ (machine : Machine) (commands : List Command) (before after : World) (files : after.files ≡ before.files) where
   pub session-done : {Value : Type 0} (value : Value) → HasStart machine before.devices → HasNoFault before after
-      → PrintsAll machine commands before after → SessionCall machine commands (Ok value) before after
+      → PrintsAll machine commands before after → DebugSessionCall machine commands (Ok value) before after
   session-done value starts none prints = record {
     prints = prints;
     starts = starts;
@@ -261,7 +261,7 @@ module _ (machine : Machine) (commands : List Command) (before after : World) (f
   }
 
   pub session-stopped : {Value : Type 0} (fault : SessionFault) → fault ≢ OutputFailed → HasNoFault before after
-      → StopsSession machine commands before after fault → SessionCall {Value = Value} machine commands (Err fault)
+      → StopsDebugSession machine commands before after fault → DebugSessionCall {Value = Value} machine commands (Err fault)
       before after
   session-stopped fault other none stops = record {
     prints = tt;
@@ -273,8 +273,8 @@ module _ (machine : Machine) (commands : List Command) (before after : World) (f
   }
 
   pub session-output : {Value : Type 0} → FailsToWrite before after → HasStart machine before.devices
-      → InCourse machine before.devices after.devices (λ course. PrintsFirst machine commands before after course ×
-      (printed_from course 0 commands ≢ [])) → SessionCall {Value = Value} machine commands (Err OutputFailed) before
+      → InCourse machine before.devices after.devices (λ course. PrintsFrontInCourse machine commands before after course ×
+      (printed_from course 0 commands ≢ [])) → DebugSessionCall {Value = Value} machine commands (Err OutputFailed) before
       after
   session-output failed begun prints = record {
     prints = tt;
@@ -292,7 +292,7 @@ count-loaded number keys [] = refl
 count-loaded number keys (terminal ∷ terms) = ap suc (count-loaded (suc number) keys terms)
 
 pub shows-one : {Value : Type 0} (value : Value) (machine : Machine) (commands : List Command) (before after : World)
-    → CanStart machine before.devices → SessionCall machine commands (Ok value) before after
+    → CanStart machine before.devices → DebugSessionCall machine commands (Ok value) before after
     → All HasNoBytes before.devices.terms → Unfailed before.devices after.devices → CanFail machine before.devices
     → ShowsTheCourse machine commands before after
 shows-one value machine commands before after can call bare unfailed rise =

@@ -9,13 +9,13 @@ use Rattle.os9_base.specs.declared.registers.TimePacket.{TimePacket}
 use Rattle.time_rules.specs.CivilTime.{is_time_packet}
 use Rattle.os9_outer.specs.TerminalState.{TerminalState, fault_counts}
 use Rattle.file_drives.specs.Drives.{DriveView, drive_states}
-use Rattle.script_text.specs.Script.{AreKeys, IsKey}
+use Rattle.script_text.specs.Script.{AreKeys, IsScriptKey}
 use Rattle.script_text.specs.declared.script.ScriptKey.{ScriptKey}
 use Rattle.boot_run.specs.Dropped.{FailsAt}
 use Rattle.os9_words.specs.declared.command.RunWords.{RunWords}
 use Rattle.os9_words.specs.Command.{IsRun}
-use Rattle.boot_run.specs.Drives.{IsEmpty, without_media}
-use Rattle.boot_run.specs.Ready.{AreEmptyAgain, AreFree}
+use Rattle.boot_run.specs.Drives.{IsEmptyDrive, without_media}
+use Rattle.boot_run.specs.Ready.{AreEmptyAgain, DevicesAreFree}
 use Rattle.boot_run.proofs.DriveLemmas.{counts-without, empty-without, given-back}
 use Rattle.os9_kernel.specs.Outside.{Outside}
 use Rattle.run_laws.specs.Faults.{NoDriveFailed, NotFailed}
@@ -25,8 +25,8 @@ use Rattle.debug_run.specs.Prints.{printed_from}
 use Rattle.debug_run.specs.declared.command.Command.{Command}
 use Rattle.debug_run.specs.Devices.{Unfailed}
 use Rattle.os9_debug.specs.Counts.{FailedOnce, RoseOnce, TerminalRose}
-use Rattle.os9_debug.specs.Machine.{CanStart, HasTick, InCourse}
-use Rattle.os9_debug.specs.Session.{FailsToPrint, PrintsFirst, PrintsSome, SessionCall, StopsSession}
+use Rattle.os9_debug.specs.Machine.{CanStart, HasKeyTick, InCourse}
+use Rattle.os9_debug.specs.Session.{FailsToPrint, PrintsFrontInCourse, PrintsSome, DebugSessionCall, StopsDebugSession}
 use Rattle.os9_debug.specs.declared.machine.Machine.{Machine}
 use Rattle.os9_debug.specs.declared.machine.SessionFault.{SessionFault}
 use Rattle.os9_debug.specs.declared.machine.SessionFault.TheVariants.{Refused, TerminalFailed, OutputFailed, NoMemory}
@@ -34,12 +34,12 @@ use Rattle.os9_debug.proofs.Starting.{no-volumes}
 
 -- ---- it can be had
 
-ticks : (terminals : ℕ) (keys : List ScriptKey) → AreKeys terminals keys → All HasTick keys
-ticks terminals keys are = All-weaker (IsKey terminals) HasTick (λ key is. let early = is.early in omega (arith, early)) keys are.each
+ticks : (terminals : ℕ) (keys : List ScriptKey) → AreKeys terminals keys → All HasKeyTick keys
+ticks terminals keys are = All-weaker (IsScriptKey terminals) HasKeyTick (λ key is. let early = is.early in omega (arith, early)) keys are.each
 
 pub can-start : (machine : Machine) (run : RunWords) (terminals : ℕ) (devices : Outside) → IsRun run
     → machine.blocks ≡ run.blocks → machine.time ≡ run.start → AreKeys terminals machine.keys.now
-    → length machine.slices.now < LAST_TICK → AreFree 0 devices → CanStart machine devices
+    → length machine.slices.now < LAST_TICK → DevicesAreFree 0 devices → CanStart machine devices
 can-start machine run terminals devices is blocks time keys few free = record {
   can_run = record {
     least = subst (λ (count : ℕ). 8 ≤ count) (sym blocks) is.machine.blocks.0;
@@ -59,11 +59,11 @@ can-start machine run terminals devices is blocks time keys few free = record {
 pub empty-again : (before mid after : List DriveView) → length mid ≡ length before → after ≡ map without_media mid → AreEmptyAgain before after
 empty-again before mid after many gone = record {
   as_many = ap length gone ∙ length-map mid without_media ∙ many;
-  empty = subst (λ (drives : List DriveView). All IsEmpty drives) (sym gone) (empty-without mid);
+  empty = subst (λ (drives : List DriveView). All IsEmptyDrive drives) (sym gone) (empty-without mid);
 }
 
 module _ (machine : Machine) (commands : List Command) (before mid : World) (left : Outside)
-    (empty : All IsEmpty before.devices.drives) (gone : left.drives ≡ map without_media mid.devices.drives)
+    (empty : All IsEmptyDrive before.devices.drives) (gone : left.drives ≡ map without_media mid.devices.drives)
     (terms : left.terms ≡ mid.devices.terms) where
   abbrev after : World
   after = record mid { devices = left }
@@ -102,17 +102,17 @@ module _ (machine : Machine) (commands : List Command) (before mid : World) (lef
   in-course fact holds = λ bare none course is. holds bare (unfailed none) course is
 
   prints-some : PrintsSome machine commands before mid → PrintsSome machine commands before after
-  prints-some it = (it.0, in-course (PrintsFirst machine commands before mid) it.1)
+  prints-some it = (it.0, in-course (PrintsFrontInCourse machine commands before mid) it.1)
 
   fails-to-print : FailsToPrint machine commands before mid → FailsToPrint machine commands before after
   fails-to-print it =
-      (it.0, in-course (λ course. PrintsFirst machine commands before mid course × (printed_from course 0 commands ≢ [])) it.1)
+      (it.0, in-course (λ course. PrintsFrontInCourse machine commands before mid course × (printed_from course 0 commands ≢ [])) it.1)
 
   unless-kept : (mid.out ≡ before.out) ⊎ PrintsSome machine commands before mid → (after.out ≡ before.out) ⊎ PrintsSome machine commands before after
   unless-kept (inl same) = inl same
   unless-kept (inr it) = inr (prints-some it)
 
-  stops : (fault : SessionFault) → StopsSession machine commands before mid fault → StopsSession machine commands before after fault
+  stops : (fault : SessionFault) → StopsDebugSession machine commands before mid fault → StopsDebugSession machine commands before after fault
   stops (Refused fault) it = (it.0, same it.1)
   stops (TerminalFailed n) it = record {
     starts = it.starts;
@@ -128,7 +128,7 @@ module _ (machine : Machine) (commands : List Command) (before mid : World) (lef
   stops OutputFailed it = fails-to-print it
   stops NoMemory it = unless-kept it
 
-  pub emptied : {Value : Type 0} (answer : Result Value SessionFault) → SessionCall machine commands answer before mid → SessionCall machine commands answer before after
+  pub emptied : {Value : Type 0} (answer : Result Value SessionFault) → DebugSessionCall machine commands answer before mid → DebugSessionCall machine commands answer before after
   emptied (Ok value) call = record {
     prints = λ bare none course is. call.prints bare (unfailed none) course is;
     starts = call.starts;

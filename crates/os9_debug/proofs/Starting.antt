@@ -8,10 +8,10 @@ use Rattle.os9_outer.specs.TerminalState.{TerminalState}
 use Rattle.script_text.specs.declared.script.ScriptKey.{ScriptKey}
 use Rattle.boot_run.specs.Loaded.{HasNoKeys, loaded, loaded_from}
 use Rattle.boot_run.specs.Dropped.{LosesKeys}
-use Rattle.file_rules.specs.Files.{DriveState, NoneFailed as NoDriveHasFailed}
+use Rattle.file_rules.specs.Files.{DriveState, KeepsDriveFaults as NoDriveHasFailed}
 use Rattle.file_drives.specs.Drives.{DriveView, drive_state, drive_states}
 use Rattle.cold_start.specs.Start.{FailsAmong, HaveImages, HaveVolumes, StartsDrives}
-use Rattle.file_state.specs.Tie.{StandsFor}
+use Rattle.file_state.specs.Tie.{RepresentsFiles}
 use Rattle.machine_model.specs.Console.{terminals_emptied}
 use Rattle.machine_model.specs.Terminals.{TerminalsOnlyGain}
 use Rattle.machine_model.specs.declared.ends.BootFault.{BootFault}
@@ -24,8 +24,8 @@ use Rattle.machine_model.proofs.Drives.{drives-same}
 use Rattle.machine_model.proofs.Starts.{starts-one}
 use Rattle.lock_laws.proofs.OpenRuns.{start-open}
 use Rattle.os9_kernel.specs.Outside.{Outside}
-use Rattle.os9_kernel.specs.Starting.{IsAccepted, IsStarted, StartIsRefused, WhereRefused, drive_fault}
-use Rattle.os9_kernel.specs.Tie.{Represents, Stands}
+use Rattle.os9_kernel.specs.Starting.{AcceptsBootFile, IsStarted, StartIsRefused, WhereRefused, drive_fault}
+use Rattle.os9_kernel.specs.Tie.{Represents, RepresentsSomeState}
 use Rattle.os9_kernel.specs.declared.kernel.Kernel.{Kernel}
 use Rattle.os9_kernel.specs.declared.new.StartError.{StartError}
 use Rattle.os9_kernel.specs.declared.new.StartError.TheVariants.{Boot, Drive}
@@ -36,7 +36,7 @@ use Rattle.debug_run.specs.Devices.{DevicesGain, Unfailed}
 use Rattle.debug_run.specs.Position.{CanGoOn, IsAt}
 use Rattle.debug_run.specs.declared.position.Position.{Position}
 use Rattle.os9_debug.specs.Machine.{CanStart, HasNoBytes, boot_of, debug_config, loaded_devices, start_fault}
-use Rattle.os9_debug.specs.Moves.{FailsToMove, FailsToStart, HasCome, HasRestarted, HasStarted, IsBack, IsPositionOf}
+use Rattle.os9_debug.specs.Moves.{FailsToMove, FailsToStart, HasCome, HasRestarted, HasStartedMachine, IsBack, IsPositionOf}
 use Rattle.os9_debug.specs.declared.machine.Machine.{Machine}
 use Rattle.os9_debug.specs.declared.machine.SessionFault.{SessionFault}
 use Rattle.os9_debug.specs.declared.machine.SessionFault.TheVariants.{Refused, TerminalFailed, OutputFailed, NoMemory}
@@ -107,7 +107,7 @@ module _ (machine : Machine) (kernel : Kernel) (before started after : Outside) 
   unfolding begun was
   tied = record {
     processes = begins.2.processes;
-    files = subst (λ (views : List DriveView). StandsFor kernel.machine.files views was.files) (sym drives) begins.2.files;
+    files = subst (λ (views : List DriveView). RepresentsFiles kernel.machine.files views was.files) (sym drives) begins.2.files;
     is = λ i. record (begins.2.is i) { terms = after.terms };
     run = start-open (boot_with machine (drive_states started.drives) after.terms) begun starts
         (omega (arith, count, can.can_run.terminals.some)) (omega (arith, count, can.can_run.terminals.few))
@@ -117,11 +117,11 @@ module _ (machine : Machine) (kernel : Kernel) (before started after : Outside) 
   }
 
   pub has-started : (position : Position)
-      → ((slices : List ℕ) (devices : Outside) → Stands kernel devices → length slices < LAST_TICK → CanGoOn slices position devices)
+      → ((slices : List ℕ) (devices : Outside) → RepresentsSomeState kernel devices → length slices < LAST_TICK → CanGoOn slices position devices)
       → ((boot : Begun) (slices : List ℕ) (course : Course) (devices : Outside) → boot.images ≡ []
       → (is : IsCourse boot slices course) → Represents kernel devices course.start → IsAt course is.last slices
       position devices)
-      → position.events ≡ 0 → IsAccepted (debug_config machine) machine.file.now → HasStarted machine (Ok position) before after
+      → position.events ≡ 0 → AcceptsBootFile (debug_config machine) machine.file.now → HasStartedMachine machine (Ok position) before after
   has-started position goes at first accepted = record {
     terminals = terms;
     drives = ap drive_states drives ∙ none_failed;
@@ -137,21 +137,21 @@ module _ (machine : Machine) (kernel : Kernel) (before started after : Outside) 
 
 -- ---- it does not start
 
-pub no-start : (machine : Machine) (fault : SessionFault) (before after : Outside) → FailsToStart machine before after fault → HasStarted machine (Err fault) before after
+pub no-start : (machine : Machine) (fault : SessionFault) (before after : Outside) → FailsToStart machine before after fault → HasStartedMachine machine (Err fault) before after
 no-start machine fault before after fails =
     record { terminals = tt; drives = tt; goes_on = tt; at = tt; first = tt; starts = tt; accepted = tt; fails = fails }
 
 pub start-refused : (machine : Machine) (error : StartError) (fault : BootFault) (before after : Outside)
     → error ≡ Boot fault → StartIsRefused (debug_config machine) machine.file.now error → WhereRefused error
     (after ≡ before) → after.terms ≡ before.terms → StartsDrives {A = Kernel} 0 (drive_fault (Err error))
-    before.drives after.drives → HasStarted machine (Err (start_fault fault)) before after
+    before.drives after.drives → HasStartedMachine machine (Err (start_fault fault)) before after
 start-refused machine error fault before after is refused same terms drives =
     by fault (subst (StartIsRefused (debug_config machine) machine.file.now) is refused) (subst (λ (error : StartError). WhereRefused error (after ≡ before)) is same)
     (subst (λ (error : StartError). StartsDrives {A = Kernel} 0 (drive_fault (Err error)) before.drives after.drives) is drives)
   where
     by : (fault : BootFault) → StartIsRefused (debug_config machine) machine.file.now (Boot fault)
         → WhereRefused (Boot fault) (after ≡ before) → StartsDrives {A = Kernel} 0 (drive_fault (Err (Boot fault)))
-        before.drives after.drives → HasStarted machine (Err (start_fault fault)) before after
+        before.drives after.drives → HasStartedMachine machine (Err (start_fault fault)) before after
     by OutOfMemory refused same drives =
         no-start machine NoMemory before after (fell-kept before after terms drives.moves)
     by (BadModule at error) refused same drives =
@@ -226,7 +226,7 @@ module _ (machine : Machine) (before dropped emptied after : Outside) (taken : A
       (subst (λ (terms : List TerminalState). AllZip NotFailed first.terms terms) none
       (loaded-none 0 machine.keys.now first.terms emptied.terms (subst (λ (terms : List TerminalState). AllZip NotFailed first.terms terms) terms unfailed.terminals)))
 
-  is-back : (position : Position) → HasStarted machine (Ok position) emptied after → (first : Outside)
+  is-back : (position : Position) → HasStartedMachine machine (Ok position) emptied after → (first : Outside)
       → CanStart machine first → DevicesGain (loaded_devices machine first) before → IsBack machine first position
       before after
   is-back position started first can gains = record {
@@ -265,7 +265,7 @@ module _ (machine : Machine) (before dropped emptied after : Outside) (taken : A
   fails-again NoMemory fails =
       fell-then before emptied after (fell-emptied before dropped emptied taken none (sym same)) fails
 
-  pub has-restarted : (answer : Result Position SessionFault) → HasStarted machine answer emptied after → HasRestarted machine answer before after
+  pub has-restarted : (answer : Result Position SessionFault) → HasStartedMachine machine answer emptied after → HasRestarted machine answer before after
   has-restarted (Ok position) started = record {
     back = is-back position started;
     goes_on = started.goes_on;
@@ -281,7 +281,7 @@ no-restart machine fault before after fails = record { back = tt; goes_on = tt; 
 
 -- ---- the first position
 
-pub first-position : (machine : Machine) (position : Position) (before after : Outside) → HasStarted machine (Ok position) before after → IsPositionOf machine before position after
+pub first-position : (machine : Machine) (position : Position) (before after : Outside) → HasStartedMachine machine (Ok position) before after → IsPositionOf machine before position after
 first-position machine position before after started = record {
   gains = record {
     terminals = subst (TerminalsOnlyGain (loaded machine.keys.now before.terms)) (sym started.terminals) (gain-same (loaded machine.keys.now before.terms));

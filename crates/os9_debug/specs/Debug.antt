@@ -1,9 +1,9 @@
 -- What `debug` does (this project's own; what a session shows is in Session.antt).
 use Rattle.std.specs.Prelude.{◌≡◌, ◌⊎◌, ℕ, ⊤, Option, Some, Ok, Err, List, ◌∷◌, ◌++◌, length, slice_get}
-use Rattle.os9_outer.specs.Host.{Files, file_contents}
+use Rattle.os9_outer.specs.Host.{HostFiles, file_contents}
 use Rattle.script_text.specs.declared.script.ScriptKey.{ScriptKey}
 use Rattle.script_text.specs.Script.{keys_of}
-use Rattle.machine_model.specs.ProcessStart.{Refuses}
+use Rattle.machine_model.specs.ProcessStart.{RefusesBoot}
 use Rattle.machine_model.specs.declared.ends.BootFault.{BootFault}
 use Rattle.os9_words.specs.declared.debug_words.DebugWords.{DebugWords}
 use Rattle.boot_run.specs.World.{World}
@@ -35,7 +35,8 @@ debug_inputs debug = script_names debug.run ++ debug.run.slices ∷ debug.comman
 -- ---- the session
 
 -- a session of these commands over this machine: that of the files and the words, with this number of terminals
-pub record HasSession (files : Files) (debug : DebugWords) (terminals : ℕ) (machine : Machine) (commands : List Command)
+pub record HasDebugSession (files : HostFiles) (debug : DebugWords) (terminals : ℕ) (machine : Machine)
+    (commands : List Command)
     : Type 0 where
   pub texts : HaveTexts files debug.run terminals machine.keys.now machine.slices.now
   pub commands_are : commands_of (file_contents files debug.commands) ≡ Ok commands
@@ -46,27 +47,28 @@ pub record HasSession (files : Files) (debug : DebugWords) (terminals : ℕ) (ma
   pub time : machine.time ≡ debug.run.start
 
 -- there is such a session, with this outcome
-pub record SessionThen (files : Files) (debug : DebugWords) (terminals : ℕ) (then_ : Machine → List Command → Type 0)
+pub record SessionThen (files : HostFiles) (debug : DebugWords) (terminals : ℕ) (then_ : Machine → List Command
+    → Type 0)
     : Type 0 where
   pub machine : Machine
   pub commands : List Command
-  pub has : HasSession files debug terminals machine commands
+  pub has : HasDebugSession files debug terminals machine commands
   pub rest : then_ machine commands
 
 -- ---- a text is refused
 
 -- the script and the slice text are accepted, and the commands are refused: their first bad line
-pub record BreaksCommands (files : Files) (debug : DebugWords) (terminals line : ℕ) : Type 0 where
+pub record BreaksCommands (files : HostFiles) (debug : DebugWords) (terminals line : ℕ) : Type 0 where
   pub keys : List ScriptKey
   pub slices : List ℕ
   pub texts : HaveTexts files debug.run terminals keys slices
   pub refused : commands_of (file_contents files debug.commands) ≡ Err line
 
 -- the script; or after an accepted script the slice text; or after both the commands
-abbrev pub RefusesText : Files → DebugWords → (terminals : ℕ) → Input → (line : ℕ) → Type 0
-RefusesText files debug terminals Script line = keys_of terminals (script_of files debug.run) ≡ Err line
-RefusesText files debug terminals Commands line = BreaksCommands files debug terminals line
-RefusesText files debug terminals input line =
+abbrev pub RefusesDebugText : HostFiles → DebugWords → (terminals : ℕ) → Input → (line : ℕ) → Type 0
+RefusesDebugText files debug terminals Script line = keys_of terminals (script_of files debug.run) ≡ Err line
+RefusesDebugText files debug terminals Commands line = BreaksCommands files debug terminals line
+RefusesDebugText files debug terminals input line =
     BreaksSlices terminals line (script_of files debug.run) (file_contents files debug.run.slices)
 
 -- ---- how it ends
@@ -79,15 +81,15 @@ PrintsWhole before after machine commands =
 -- the boot file is refused, and the end says why
 abbrev pub EndsRefused : End → Machine → List Command → Type 0
 EndsRefused end machine commands =
-    (fault : BootFault) × Refuses machine.file.now machine.blocks fault × (end ≡ boot_end fault)
+    (fault : BootFault) × RefusesBoot machine.file.now machine.blocks fault × (end ≡ boot_end fault)
 
 -- its outcome, by its end
-abbrev pub DebugComesTo : Files → DebugWords → World → World → End → Type 0
+abbrev pub DebugComesTo : HostFiles → DebugWords → World → World → End → Type 0
 DebugComesTo files debug before after Ended =
     SessionThen files debug (length before.devices.terms) (PrintsWhole before after)
 DebugComesTo files debug before after (CannotRead input) = ⊤
 DebugComesTo files debug before after (BadText input line) =
-    RefusesText files debug (length before.devices.terms) input line
+    RefusesDebugText files debug (length before.devices.terms) input line
 DebugComesTo files debug before after CannotWrite =
     SessionThen files debug (length before.devices.terms)
     (λ machine commands. FailsToPrint machine commands before after)

@@ -11,11 +11,11 @@ use Rattle.boot_run.specs.declared.status.Input.TheVariants.{Script, Slices, Com
 -- ---- how it may end
 
 -- its words name three texts
-abbrev pub IsText : Input → Type 0
-IsText Script = ⊤
-IsText Slices = ⊤
-IsText Commands = ⊤
-IsText input = ⊥
+abbrev pub IsDebugText : Input → Type 0
+IsDebugText Script = ⊤
+IsDebugText Slices = ⊤
+IsDebugText Commands = ⊤
+IsDebugText input = ⊥
 
 -- it mounts and checks no image, and writes no file
 abbrev pub DebugMayEnd : End → Type 0
@@ -23,7 +23,7 @@ DebugMayEnd Ended = ⊤
 DebugMayEnd (CannotRead input) = ⊤
 DebugMayEnd CannotWrite = ⊤
 DebugMayEnd NoMemory = ⊤
-DebugMayEnd (BadText input line) = IsText input
+DebugMayEnd (BadText input line) = IsDebugText input
 DebugMayEnd (BadModule at error) = ⊤
 DebugMayEnd NoFirst = ⊤
 DebugMayEnd TooLarge = ⊤

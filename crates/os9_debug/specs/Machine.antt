@@ -24,13 +24,13 @@ abbrev pub debug_config : Machine → Config
 debug_config machine = record { blocks = machine.blocks; images = 0; time = machine.time }
 
 -- a key whose tick has 32 bits
-abbrev pub HasTick : ScriptKey → Type 0
-HasTick key = key.tick < 2 ^ 32
+abbrev pub HasKeyTick : ScriptKey → Type 0
+HasKeyTick key = key.tick < 2 ^ 32
 
 -- what it needs to be started on these devices: those of any run, without images
 pub record CanStart (machine : Machine) (devices : Outside) : Type 0 where
   pub can_run : CanRun (debug_config machine) machine.slices.now devices
-  pub ticks : All HasTick machine.keys.now
+  pub ticks : All HasKeyTick machine.keys.now
 
 -- the devices, once the terminals are loaded with their keys
 abbrev pub loaded_devices : Machine → Outside → Outside

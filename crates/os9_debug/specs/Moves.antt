@@ -3,7 +3,7 @@ use Rattle.std.specs.Prelude.{◌≡◌, ℕ, ◌-◌, ◌<◌, ⊤, Result, All
 use Rattle.os9_base.specs.Cells.{Cells}
 use Rattle.boot_run.specs.Loaded.{loaded}
 use Rattle.boot_run.specs.Dropped.{FailsAt}
-use Rattle.machine_model.specs.ProcessStart.{Refuses}
+use Rattle.machine_model.specs.ProcessStart.{RefusesBoot}
 use Rattle.machine_model.specs.declared.ends.BootFault.{BootFault}
 use Rattle.file_drives.specs.Drives.{drive_states}
 use Rattle.machine_model.specs.State.{State}
@@ -27,13 +27,14 @@ use Rattle.os9_debug.specs.declared.machine.SessionFault.TheVariants.{Refused, T
 -- the boot file is refused, and the devices are unchanged; or memory was out, and no count of faults fell
 abbrev pub FailsToStart : Machine → Outside → Outside → SessionFault → Type 0
 FailsToStart machine before after (Refused fault) =
-    Refuses machine.file.now machine.blocks fault × (after ≡ before)
+    RefusesBoot machine.file.now machine.blocks fault × (after ≡ before)
 FailsToStart machine before after (TerminalFailed n) = ⊥
 FailsToStart machine before after OutputFailed = ⊥
 FailsToStart machine before after NoMemory = NoneFell before after
 
 -- a machine was started on these devices, and its terminals are loaded; the position is the first of its course
-pub record HasStarted (machine : Machine) (answer : Result Position SessionFault) (before after : Outside) : Type 0
+pub record HasStartedMachine (machine : Machine) (answer : Result Position SessionFault) (before after : Outside) : Type
+    0
   where
     pub terminals : OnOk answer (after.terms ≡ loaded machine.keys.now before.terms)
     pub drives : OnOk answer (drive_states after.drives ≡ drive_states before.drives)
@@ -42,7 +43,7 @@ pub record HasStarted (machine : Machine) (answer : Result Position SessionFault
         → IsAt course is.last machine.slices.now position after)
     pub first : IfOk answer (λ position. position.events ≡ 0)
     pub starts : OnOk answer (HasStart machine before)
-    pub accepted : OnOk answer ((fault : BootFault) → ¬ Refuses machine.file.now machine.blocks fault)
+    pub accepted : OnOk answer ((fault : BootFault) → ¬ RefusesBoot machine.file.now machine.blocks fault)
     pub fails : IfErr answer (FailsToStart machine before after)
 
 -- the machine was started on some devices, and the terminals and drives have only gained since
@@ -67,7 +68,7 @@ IsUnderWay machine position devices =
 
 -- why a move fails: the boot file is refused, a terminal failed, or memory was out and no count of faults fell
 abbrev pub FailsToMove : Machine → Outside → Outside → SessionFault → Type 0
-FailsToMove machine before after (Refused fault) = Refuses machine.file.now machine.blocks fault
+FailsToMove machine before after (Refused fault) = RefusesBoot machine.file.now machine.blocks fault
 FailsToMove machine before after (TerminalFailed n) =
     FailsAt n before.terms after.terms × (after.drives ≡ before.drives)
 FailsToMove machine before after OutputFailed = ⊥

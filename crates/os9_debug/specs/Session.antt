@@ -2,7 +2,7 @@
 use Rattle.std.specs.Prelude.{◌≡◌, ◌≢◌, ◌⊎◌, ℕ, All, Result, Some, Err, IfErr, OnOk, List, [], take, fold, slice_get}
 use Rattle.os9_outer.specs.Stream.{GainsPrefix, stream_with}
 use Rattle.boot_run.specs.Dropped.{FailsAt}
-use Rattle.machine_model.specs.ProcessStart.{Refuses}
+use Rattle.machine_model.specs.ProcessStart.{RefusesBoot}
 use Rattle.machine_model.specs.Start.{Starts}
 use Rattle.machine_model.specs.State.{State}
 use Rattle.run_laws.specs.Faults.{CanRise}
@@ -25,22 +25,22 @@ PrintsAll machine commands before after = InCourse machine before.devices after.
     after.out ≡ stream_with before.out (printed_from course 0 commands))
 
 -- the output gained the first of it
-abbrev pub PrintsFirst : Machine → List Command → World → World → Course → Type 0
-PrintsFirst machine commands before after course =
+abbrev pub PrintsFrontInCourse : Machine → List Command → World → World → Course → Type 0
+PrintsFrontInCourse machine commands before after course =
     GainsPrefix before.out (printed_from course 0 commands) after.out
 
 -- the machine starts, and the output gained the first of it
 abbrev pub PrintsSome : Machine → List Command → World → World → Type 0
 PrintsSome machine commands before after =
     HasStart machine before.devices
-    × InCourse machine before.devices after.devices (PrintsFirst machine commands before after)
+    × InCourse machine before.devices after.devices (PrintsFrontInCourse machine commands before after)
 
 -- the machine starts, the commands show something, and the output gained the first of it
 abbrev pub FailsToPrint : Machine → List Command → World → World → Type 0
 FailsToPrint machine commands before after =
     HasStart machine before.devices
     × InCourse machine before.devices after.devices (λ course.
-    PrintsFirst machine commands before after course × (printed_from course 0 commands ≢ []))
+    PrintsFrontInCourse machine commands before after course × (printed_from course 0 commands ≢ []))
 
 -- the position to which the commands lead, one after another from the first position
 abbrev pub position_behind : Course → List Command → ℕ
@@ -63,20 +63,20 @@ pub record StopsAtTerminal (n : ℕ) (machine : Machine) (commands : List Comman
       × LeadsBack next (position_behind course (take done commands))
 
 -- why a session stopped before its last command was done, and what is left
-abbrev pub StopsSession : Machine → List Command → World → World → SessionFault → Type 0
-StopsSession machine commands before after (Refused fault) =
-    Refuses machine.file.now machine.blocks fault × (after ≡ before)
-StopsSession machine commands before after (TerminalFailed n) = StopsAtTerminal n machine commands before after
-StopsSession machine commands before after OutputFailed = FailsToPrint machine commands before after
-StopsSession machine commands before after NoMemory =
+abbrev pub StopsDebugSession : Machine → List Command → World → World → SessionFault → Type 0
+StopsDebugSession machine commands before after (Refused fault) =
+    RefusesBoot machine.file.now machine.blocks fault × (after ≡ before)
+StopsDebugSession machine commands before after (TerminalFailed n) = StopsAtTerminal n machine commands before after
+StopsDebugSession machine commands before after OutputFailed = FailsToPrint machine commands before after
+StopsDebugSession machine commands before after NoMemory =
     (after.out ≡ before.out) ⊎ PrintsSome machine commands before after
 
 -- a session was had
-pub record SessionCall {Value : Type 0} (machine : Machine) (commands : List Command)
+pub record DebugSessionCall {Value : Type 0} (machine : Machine) (commands : List Command)
     (answer : Result Value SessionFault) (before after : World) : Type 0 where
   pub prints : OnOk answer (PrintsAll machine commands before after)
   pub starts : OnOk answer (HasStart machine before.devices)
-  pub stops : IfErr answer (StopsSession machine commands before after)
+  pub stops : IfErr answer (StopsDebugSession machine commands before after)
   -- the host failed, and last at a write to the output; at every other end it did not fail
   pub output_fault : answer ≡ Err OutputFailed → FailsToWrite before after
   pub no_fault : answer ≢ Err OutputFailed → HasNoFault before after

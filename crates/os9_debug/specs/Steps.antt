@@ -1,11 +1,11 @@
 -- The steps of `debug`: its files, its commands and the session.
 use Rattle.std.specs.Prelude.{◌≡◌, ⊤, ℕ, Some, Result, Ok, Err, List, slice_get}
-use Rattle.os9_outer.specs.Host.{Files, file_contents}
+use Rattle.os9_outer.specs.Host.{HostFiles, file_contents}
 use Rattle.os9_words.specs.declared.debug_words.DebugWords.{DebugWords}
 use Rattle.boot_run.specs.World.{World}
 use Rattle.debug_run.specs.Commands.{commands_of}
 use Rattle.debug_run.specs.declared.command.Command.{Command}
-use Rattle.os9_debug.specs.Session.{SessionCall}
+use Rattle.os9_debug.specs.Session.{DebugSessionCall}
 use Rattle.os9_debug.specs.declared.machine.Machine.{Machine}
 use Rattle.os9_debug.specs.declared.machine.SessionFault.{SessionFault}
 use Rattle.os9_debug.specs.declared.machine.SessionFault.TheVariants as Fault
@@ -17,7 +17,7 @@ use Rattle.boot_run.specs.declared.status.Input.TheVariants.{Commands}
 use Rattle.os9_debug.specs.declared.files.DebugFiles.{DebugFiles}
 
 -- the bytes that were read are those of the files that the words name
-pub record HasDebugFiles (files : Files) (debug : DebugWords) (read : DebugFiles) : Type 0 where
+pub record HasDebugFiles (files : HostFiles) (debug : DebugWords) (read : DebugFiles) : Type 0 where
   pub script : read.script.items ≡ script_of files debug.run
   pub slices : read.slices.items ≡ file_contents files debug.run.slices
   pub commands : read.commands.items ≡ file_contents files debug.commands
@@ -42,4 +42,4 @@ session_end (Err Fault.NoMemory) = NoMemory
 pub record HadSession (machine : Machine) (commands : List Command) (end : End) (before after : World) : Type 0 where
   pub answer : Result (Unit {0}) SessionFault
   pub ends : end ≡ session_end answer
-  pub call : SessionCall machine commands answer before after
+  pub call : DebugSessionCall machine commands answer before after

@@ -4,7 +4,7 @@ ghost use Rattle.os9_words.specs.Notes.{notes_of};
 ghost use Rattle.file_drives.specs.Drives.{drives_seen};
 ghost use Rattle.os9_words.specs.Command.{IsRun};
 ghost use Rattle.os9_kernel.specs.Outside.{outside};
-ghost use Rattle.boot_run.specs.Ready.{AreEmptyAgain, AreFree};
+ghost use Rattle.boot_run.specs.Ready.{AreEmptyAgain, DevicesAreFree};
 ghost use Rattle.boot_run.specs.World.{OnWorld};
 ghost use Rattle.os9_debug.specs.Call.{DebugCall, NotesDebug};
 
@@ -34,7 +34,7 @@ pub fn do_debug<H: Host>(
     host: &mut H,
     devices: &mut Devices,
 ) -> End
-    requires devices { AreFree 0 (outside BlockDriver-box CharDriver-box devices.old) }
+    requires devices { DevicesAreFree 0 (outside BlockDriver-box CharDriver-box devices.old) }
     requires words { IsRun debug.now.run }
     ensures call { OnWorld (λ before after. DebugCall debug.now before after result)
         H.Host host.old host.new BlockDriver-box CharDriver-box devices.old devices.new }

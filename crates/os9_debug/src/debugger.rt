@@ -6,7 +6,7 @@ ghost use Rattle.os9_words.specs.Notes.{notes_of};
 ghost use Rattle.os9_words.specs.Streams.{WritesOut};
 ghost use Rattle.boot_run.specs.World.{OnWorld};
 ghost use Rattle.os9_debug.specs.Machine.{CanStart};
-ghost use Rattle.os9_debug.specs.Session.{SessionCall};
+ghost use Rattle.os9_debug.specs.Session.{DebugSessionCall};
 
 use crate::commands::obey;
 use crate::machine::{Machine, SessionFault, start};
@@ -45,8 +45,8 @@ pub fn debug<H: Host>(
     devices: &mut Devices,
 ) -> Result<(), SessionFault>
     requires { CanStart machine.now (outside BlockDriver-box CharDriver-box devices.old) }
-    ensures call { OnWorld (SessionCall machine.now commands.now result) H.Host host.old host.new
-        BlockDriver-box CharDriver-box devices.old devices.new }
+    ensures call { OnWorld (DebugSessionCall machine.now commands.now result) H.Host host.old
+        host.new BlockDriver-box CharDriver-box devices.old devices.new }
     ensures notes_kept { notes_of H.Host host.new ≡ notes_of H.Host host.old }
     ensures terminals { vec_len devices.new.terms ≡ vec_len devices.old.terms }
     ensures drives { vec_len devices.new.drives ≡ vec_len devices.old.drives }

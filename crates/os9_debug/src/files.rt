@@ -2,7 +2,7 @@
 
 ghost use Rattle.std.specs.Prelude.{◌≡◌, IfErr, IfOk, IfSome, Ok, OnOk, length};
 ghost use Rattle.os9_kernel.specs.Outside.{Outside};
-ghost use Rattle.os9_words.specs.Notes.{HasRead, notes_of};
+ghost use Rattle.os9_words.specs.Notes.{HasReadFiles, notes_of};
 ghost use Rattle.boot_run.specs.World.{world_of};
 ghost use Rattle.debug_run.specs.Commands.{commands_of};
 ghost use Rattle.boot_run.specs.Stops.{NotesStop, StopsAtRead};
@@ -50,7 +50,7 @@ pub(crate) fn read_files<H: Host>(
     ensures ended { IfErr result (λ end. (devices : Outside) → StopsAtRead
         (debug_file_name debug.now)
         (world_of H.Host host.old devices) (world_of H.Host host.new devices) end) }
-    ensures noted { OnOk result (HasRead (debug_inputs debug.now)
+    ensures noted { OnOk result (HasReadFiles (debug_inputs debug.now)
         (notes_of H.Host host.old) (notes_of H.Host host.new)) }
     ensures stopped { IfErr result (λ end. NotesStop (debug_file_name debug.now)
         (debug_inputs debug.now) end (notes_of H.Host host.old) (notes_of H.Host host.new)) }

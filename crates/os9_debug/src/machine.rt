@@ -3,7 +3,7 @@
 ghost use Rattle.std.specs.Prelude.{◌≡◌, vec_len};
 ghost use Rattle.os9_kernel.specs.Outside.{OnDevices, outside};
 ghost use Rattle.os9_debug.specs.Machine.{CanStart, start_fault};
-ghost use Rattle.os9_debug.specs.Moves.{HasRestarted, HasStarted, HasCome};
+ghost use Rattle.os9_debug.specs.Moves.{HasRestarted, HasStartedMachine, HasCome};
 
 use boot_run::{drop_keys, load_keys};
 use debug_run::{Position, empty_terminals};
@@ -61,7 +61,7 @@ pub(crate) fn start(
     devices: &mut Devices,
 ) -> Result<Position, SessionFault>
     requires { CanStart machine.now (outside BlockDriver-box CharDriver-box devices.old) }
-    ensures started { OnDevices (HasStarted machine.now result)
+    ensures started { OnDevices (HasStartedMachine machine.now result)
         BlockDriver-box CharDriver-box devices.old devices.new }
     ensures terminals { vec_len devices.new.terms ≡ vec_len devices.old.terms }
     ensures drives { vec_len devices.new.drives ≡ vec_len devices.old.drives }

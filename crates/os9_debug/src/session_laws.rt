@@ -5,7 +5,7 @@ ghost use Rattle.boot_run.specs.World.{World};
 ghost use Rattle.debug_run.specs.declared.command.Command.{Command};
 ghost use Rattle.debug_run.specs.Devices.{Unfailed};
 ghost use Rattle.os9_debug.specs.Machine.{CanStart, HasNoBytes};
-ghost use Rattle.os9_debug.specs.Session.{CanFail, SessionCall, ShowsTheCourse};
+ghost use Rattle.os9_debug.specs.Session.{CanFail, DebugSessionCall, ShowsTheCourse};
 ghost use Rattle.os9_debug.specs.declared.machine.Machine.{Machine};
 
 /// A finished session shows the one course of its machine: command by command, whether the position
@@ -14,7 +14,7 @@ ghost use Rattle.os9_debug.specs.declared.machine.Machine.{Machine};
 pub fn a_session_shows_the_one_course()
     ensures { (machine : Machine) (commands : List Command) (before after : World)
         → CanStart machine before.devices
-        → SessionCall machine commands (Ok (tt {0})) before after
+        → DebugSessionCall machine commands (Ok (tt {0})) before after
         → All HasNoBytes before.devices.terms → Unfailed before.devices after.devices
         → CanFail machine before.devices → ShowsTheCourse machine commands before after }
 {}

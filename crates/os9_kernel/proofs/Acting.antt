@@ -2,12 +2,12 @@
 use Rattle.std.proofs.Common.{◌≡◌, ℕ, Some, option_map, List, refl, sym, ap, ◌∙◌, subst}
 use Rattle.os9_base.specs.declared.registers.Pid.{Pid}
 use Rattle.os9_outer.specs.TerminalState.{TerminalState}
-use Rattle.proc_model.specs.Records.{IsLiving, IsProcess}
+use Rattle.proc_model.specs.Records.{IsLiving, IsProcessNumber}
 use Rattle.proc_model.specs.Processes.{Processes}
 use Rattle.proc_model.specs.Ready.{Act as MachineAct, act_of}
 use Rattle.file_rules.specs.Files.{Files}
-use Rattle.file_state.specs.Tie.{StandsFor}
-use Rattle.proc_state.specs.Tie.{Represents as RepresentsProcesses}
+use Rattle.file_state.specs.Tie.{RepresentsFiles}
+use Rattle.proc_state.specs.Tie.{RepresentsProcesses}
 use Rattle.time_rules.specs.declared.clock.Clock.{Clock}
 use Rattle.machine_model.specs.declared.ends.EventEnd.{EventEnd}
 use Rattle.machine_model.specs.ProcessEvent.{cost_of}
@@ -25,7 +25,8 @@ use Rattle.os9_kernel.proofs.Looking.{looks_again, never-looked}
 use Rattle.os9_kernel.proofs.Represented.{act-tied}
 
 -- the process that was chosen does this next
-pub does-next : (kernel : Kernel) (p : Pid) (act : Act) → kernel.chosen ≡ Some p → IsProcess p.0 → IsGoing kernel → next_of kernel.machine.processes p.0 ≡ act_in_machine act → DoesNext kernel p act
+pub does-next : (kernel : Kernel) (p : Pid) (act : Act) → kernel.chosen ≡ Some p → IsProcessNumber p.0
+    → IsGoing kernel → next_of kernel.machine.processes p.0 ≡ act_in_machine act → DoesNext kernel p act
 does-next kernel p act chosen process (q, is, lives) next =
     let same : q ≡ p = cc in
     record { chosen = chosen; process = process; lives = subst (λ (r : Pid). IsLiving kernel.machine.processes.table r.0) same lives; next = next }
@@ -59,7 +60,7 @@ module _ (old : Kernel) (p : Pid) (act : Act) (next : DoesNext old p act) (befor
   -- the kernel then, with this clock and these terminals
   pub represents-then : (new : Kernel) → IsLooked new → IsKnown new → (after : Outside) (processes : Processes) (files : Files) (clock : Clock)
       (terms : List TerminalState) → new.chosen ≡ old.chosen → RepresentsProcesses new.machine.processes processes
-      → StandsFor new.machine.files after.drives files → clock ≡ new.clock → terms ≡ after.terms
+      → RepresentsFiles new.machine.files after.drives files → clock ≡ new.clock → terms ≡ after.terms
       → IsRunOpen (record s { processes = processes; files = files; clock = clock; terms = terms }) → Represents new after
       (record s { processes = processes; files = files; clock = clock; terms = terms })
   represents-then new looked known after processes files clock terms same there stands clock_is terms_are open_then = record {
@@ -80,7 +81,7 @@ module _ (old : Kernel) (p : Pid) (act : Act) (next : DoesNext old p act) (befor
 
   pub event-then : (new : Kernel) (after : Outside) (end : EventEnd) (processes : Processes) (files : Files) (clock : Clock)
       (terms : List TerminalState) → new.chosen ≡ old.chosen → RepresentsProcesses new.machine.processes processes
-      → StandsFor new.machine.files after.drives files → clock ≡ new.clock → terms ≡ after.terms
+      → RepresentsFiles new.machine.files after.drives files → clock ≡ new.clock → terms ≡ after.terms
       → (Event s end (record s { processes = processes; files = files; clock = clock; terms = terms }) → IsKnown new)
       → Acts (act_in_machine act) s p.0 end (record s { processes = processes; files = files; clock = clock; terms = terms })
       → (t : State) × Event s end t
@@ -92,14 +93,14 @@ module _ (old : Kernel) (p : Pid) (act : Act) (next : DoesNext old p act) (befor
 
   -- where the clock and the devices are as they were
   pub represents-here : (new : Kernel) → IsLooked new → IsKnown new → (processes : Processes) (files : Files) → new.chosen ≡ old.chosen
-      → new.clock ≡ old.clock → RepresentsProcesses new.machine.processes processes → StandsFor new.machine.files before.drives files
+      → new.clock ≡ old.clock → RepresentsProcesses new.machine.processes processes → RepresentsFiles new.machine.files before.drives files
       → IsRunOpen (record s { processes = processes; files = files }) → Represents new before
       (record s { processes = processes; files = files })
   represents-here new looked known processes files same clock there stands open_then =
       represents-then new looked known before processes files s.clock s.terms same there stands (clock-is ∙ sym clock) terms-are open_then
 
   pub event-here : (new : Kernel) (end : EventEnd) (processes : Processes) (files : Files) → new.chosen ≡ old.chosen
-      → new.clock ≡ old.clock → RepresentsProcesses new.machine.processes processes → StandsFor new.machine.files before.drives files
+      → new.clock ≡ old.clock → RepresentsProcesses new.machine.processes processes → RepresentsFiles new.machine.files before.drives files
       → IsKnown new → Acts (act_in_machine act) s p.0 end (record s { processes = processes; files = files }) → (t : State) × Event s end t
       × Represents (looks_again new) before t
   event-here new end processes files same clock there stands known acts =

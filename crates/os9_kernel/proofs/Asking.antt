@@ -14,11 +14,11 @@ use Rattle.io_model.specs.Io.{Io, pending_at}
 use Rattle.io_model.specs.declared.io_call.IoCall.{IoCall}
 use Rattle.call_dispatch.proofs.RunningCalls.{may-attempt}
 use Rattle.call_laws.proofs.Codes.{attempts-code}
-use Rattle.proc_state.specs.Tie.{Represents}
+use Rattle.proc_state.specs.Tie.{RepresentsProcesses}
 use Rattle.proc_state.specs.declared.state.ProcState.{ProcState}
 use Rattle.file_laws.proofs.Codes.{code-there}
 use Rattle.file_laws.specs.Devices.{device_call}
-use Rattle.call_dispatch.specs.Attempts.{MayAttempt, MayAttemptAs}
+use Rattle.call_dispatch.specs.Attempts.{MayAttemptPathCall, MayAttemptAs}
 use Rattle.file_rules.specs.Codes.{path_call_of}
 use Rattle.file_rules.specs.declared.path_call.PathCall.{PathCall}
 use Rattle.file_state.specs.Asking.{IsPendingRequest, KeepsRequest}
@@ -54,8 +54,8 @@ module _ (s : State) (p code : ℕ) (call : PathCall) (running : IsRunning s) (n
       by_request (Some request) is =
           let it = running.requested p request is in record { kept = it.kept; owner = it.owner; covers = it.covers }
 
-  pub may-attempt-call : (processes : ProcState) (state : FileState) → p < 33 → Represents processes s.processes
-      → s.files.io ≡ state.io → s.files.records ≡ state.records → MayAttempt call processes state p (length s.terms)
+  pub may-attempt-call : (processes : ProcState) (state : FileState) → p < 33 → RepresentsProcesses processes s.processes
+      → s.files.io ≡ state.io → s.files.records ≡ state.records → MayAttemptPathCall call processes state p (length s.terms)
   may-attempt-call processes state process tied same records = record {
     attempt =
         subst (λ (io : Io). MayAttemptAs (device_call call) processes io p (length s.terms)) same (by_device (device_call call) refl);
@@ -72,8 +72,8 @@ module _ (s : State) (p code : ℕ) (call : PathCall) (running : IsRunning s) (n
 -- the process may attempt its call
 pub may-attempt-here : (old : Kernel) (p : Pid) (code : ℕ) → DoesNext old p (Attempt code) → (before : Outside)
     (s : State) → RepresentsState old before s → (call : PathCall) → path_call_of code ≡ Some call
-    → MayAttempt call old.machine.processes old.machine.files p.0 (length before.terms)
+    → MayAttemptPathCall call old.machine.processes old.machine.files p.0 (length before.terms)
 may-attempt-here old p code next before s tied call is_call =
-    subst (λ (terms : List TerminalState). MayAttempt call old.machine.processes old.machine.files p.0 (length terms)) (terms-are old p (Attempt code) next before s tied)
+    subst (λ (terms : List TerminalState). MayAttemptPathCall call old.machine.processes old.machine.files p.0 (length terms)) (terms-are old p (Attempt code) next before s tied)
     (may-attempt-call s p.0 code call tied.run.locked.state.running (acts-so old p (Attempt code) next before s tied)
     is_call old.machine.processes old.machine.files next.process.1 tied.processes tied.files.io tied.files.records)

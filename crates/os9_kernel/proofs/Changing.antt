@@ -18,7 +18,7 @@ use Rattle.machine_model.specs.declared.ends.EventEnd.{EventEnd}
 use Rattle.machine_model.specs.Event.{Event}
 use Rattle.machine_model.specs.Services.{on_paths, service_of}
 use Rattle.machine_model.specs.State.{State}
-use Rattle.os9_kernel.specs.Changes.{AsksToChange, BeginsAt, KeepsImages, KeepsUnasked, NoneAsks}
+use Rattle.os9_kernel.specs.Changes.{AsksToChange, BeginsEventAt, KeepsImages, KeepsUnasked, NoneAsks}
 use Rattle.os9_kernel.specs.Next.{DoesNext}
 use Rattle.os9_kernel.specs.Outside.{Outside}
 use Rattle.os9_kernel.specs.Tie.{Represents}
@@ -90,7 +90,7 @@ pub keeps-none : (leads : List State → State → Type 0) (states : List State)
 keeps-none leads states views drive none = refl
 
 -- one that began among the first began among all
-begins-more : (leads : List State → State → Type 0) (states more : List State) (at : State) → BeginsAt leads states at → BeginsAt leads (states ++ more) at
+begins-more : (leads : List State → State → Type 0) (states more : List State) (at : State) → BeginsEventAt leads states at → BeginsEventAt leads (states ++ more) at
 begins-more leads states more at it = record {
   first = it.first;
   there = it.there;

@@ -2,10 +2,10 @@
 use Rattle.std.proofs.Common.{◌≡◌, ℕ, ◌<◌, Option, Some, None, List, length, get_or, slice_get, sym, subst, arith}
 use Rattle.std.proofs.lemmas.Option.{same_Some, slice_get-get_or}
 use Rattle.rbf_model.specs.Volume.{DiskVolume}
-use Rattle.rbf_access.specs.Mounted.{Represents as MediaRepresents}
+use Rattle.rbf_access.specs.Mounted.{RepresentsVolume as MediaRepresents}
 use Rattle.rbf_access.specs.declared.volume.Volume.{Volume}
 use Rattle.file_drives.specs.Drives.{DriveView, drive_states, unused_drive}
-use Rattle.file_drives.specs.Mounted.{AgreesOnDrive, AreMounted, DriveHolds, kept_at, mounted_at}
+use Rattle.file_drives.specs.Mounted.{AgreesOnDrive, AreMounted, DriveHolds, disk_at, mounted_at}
 use Rattle.file_drives.proofs.MountedLemmas.{mounted-below}
 use Rattle.machine_model.specs.State.{State}
 use Rattle.os9_kernel.specs.Outside.{Outside}
@@ -30,7 +30,7 @@ drive-holds disks views volumes mounted n v is =
     record {
       view = view;
       is = there;
-      on = on-drive (kept_at disks n) view (mounted_at volumes n) v is (mounted.each n view there);
+      on = on-drive (disk_at disks n) view (mounted_at volumes n) v is (mounted.each n view there);
     }
 
 -- a state whose volumes are mounted on the drives

@@ -8,7 +8,7 @@ use Rattle.os9_base.specs.declared.errors.TheConstants.{E_MEMFUL}
 use Rattle.os9_base.specs.declared.registers.TimePacket.{TimePacket}
 use Rattle.proc_model.specs.declared.memory.TheConstants.{MOST_LINKS}
 use Rattle.proc_model.specs.Records.{IsLiving, free_process, record_at}
-use Rattle.proc_state.specs.Tie.{Comes, Represents}
+use Rattle.proc_state.specs.Tie.{ReturnsCallEnd, RepresentsProcesses}
 use Rattle.proc_state.specs.declared.state.ProcState.{ProcState}
 use Rattle.proc_model.specs.Attempts.{after_attempt}
 use Rattle.proc_model.specs.CallResult.{CallResult, done, refused, waits, ends}
@@ -91,14 +91,14 @@ goes-answers m p (Err number) result is = subst (IsOver Anything) (sym is) tt
 goes-answers m p (Ok file) result (Err number, loads, is) = subst (IsOver Anything) (sym is) tt
 goes-answers m p (Ok file) result (Ok loaded, loads, is) = subst (IsOver Anything) (sym is) (links-answers m p file loaded)
 
-answers-so : (m : Processes) (p : ℕ) (result : CallResult) (processes : ProcState) → IsOver Anything result → Comes m p result Wait processes → ⊥
+answers-so : (m : Processes) (p : ℕ) (result : CallResult) (processes : ProcState) → IsOver Anything result → ReturnsCallEnd m p result Wait processes → ⊥
 answers-so m p (done t) processes over (end, there) = let no : Wait ≡ Done = end in cc
 answers-so m p (refused number) processes over (end, there) = let no : Wait ≡ Error number = end in cc
 answers-so m p (waits t) processes over told = over
 answers-so m p (ends status) processes over told = over
 
 load-answers : (m : Processes) (asker : Asker) (old : Files) (terms p : ℕ) (result : CallResult) (new : Files)
-    (processes : ProcState) → LoadAttempts m asker old terms p result new → Comes m p result Wait processes → ⊥
+    (processes : ProcState) → LoadAttempts m asker old terms p result new → ReturnsCallEnd m p result Wait processes → ⊥
 load-answers m asker old terms p result new processes it told =
     answers-so m p result processes (goes-answers m p it.reading result it.comes) told
 
@@ -109,7 +109,7 @@ quiet-at : (m : Processes) (io : Io) → ArePending m io → (q : ℕ) → (IsLi
 quiet-at m io kept q gone None is = refl
 quiet-at m io kept q gone (Some call) is = absurd (gone (kept q call is).lives)
 
-number-tied : (t : Processes) (p : ℕ) (processes : ProcState) → Represents processes t → number_in_a processes.table p ≡ (regs_at t p).a
+number-tied : (t : Processes) (p : ℕ) (processes : ProcState) → RepresentsProcesses processes t → number_in_a processes.table p ≡ (regs_at t p).a
 number-tied t p processes there = sym (ap (λ (m : Processes). number_in_a m.records p) there.is)
 
 module _ (m : Processes) (io : Io) (p : ℕ) (processes : ProcState) (kept : ArePending m io) (long : length m.records ≡ 33) where
@@ -119,7 +119,7 @@ module _ (m : Processes) (io : Io) (p : ℕ) (processes : ProcState) (kept : Are
       let gone : IsLiving m.records child → ⊥ = (λ lives. none-some (record_at m.records child) (sym place.none ∙ living-record m.records child lives)) in
       record { process = omega (arith, place.within, long); quiet = quiet-at m io kept child gone (pending_at io child) refl }
 
-  child-by : (result : CallResult) → IsOver (Child m p) result → Comes m p result Done processes → MayBegin io (number_in_a processes.table p)
+  child-by : (result : CallResult) → IsOver (Child m p) result → ReturnsCallEnd m p result Done processes → MayBegin io (number_in_a processes.table p)
   child-by (done t) child (end, there) =
       free-begins (number_in_a processes.table p) (child.number ∙ ap Some (sym (number-tied t p processes there)))
   child-by (refused number) child (end, there) = let no : Done ≡ Error number = end in cc
@@ -140,7 +140,7 @@ child-begins Chain m was now terms p before after kept long lives is it = cc
 
 -- the files then are those of the machine
 fork-tied : (m : Processes) (p : ℕ) (left : Files) (processes : ProcState) (result : CallResult) (end : CallEnd)
-    → Comes m p result end processes → files_begun Fork end left p (number_in_a processes.table p) ≡ files_after_fork
+    → ReturnsCallEnd m p result end processes → files_begun Fork end left p (number_in_a processes.table p) ≡ files_after_fork
     left p result
 fork-tied m p left processes (done t) end (is, there) =
     ap (λ (end : CallEnd). files_begun Fork end left p (number_in_a processes.table p)) is
@@ -153,7 +153,7 @@ fork-tied m p left processes (ends status) end (is, there) =
     ap (λ (end : CallEnd). files_begun Fork end left p (number_in_a processes.table p)) is
 
 pub begun-tied : (call : LoadCall) (m : Processes) (p : ℕ) (left : Files) (processes : ProcState) (result : CallResult)
-    (end : CallEnd) → Comes m p result end processes → files_begun call end left p (number_in_a processes.table p) ≡
+    (end : CallEnd) → ReturnsCallEnd m p result end processes → files_begun call end left p (number_in_a processes.table p) ≡
     begun_on call left p result
 begun-tied Load m p left processes result end told = refl
 begun-tied Fork m p left processes result end told = fork-tied m p left processes result end told

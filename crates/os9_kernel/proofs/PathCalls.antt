@@ -17,7 +17,7 @@ use Rattle.file_rules.specs.Attempts.{FileAttempts, io_effect}
 use Rattle.file_rules.specs.Files.{Files}
 use Rattle.file_rules.specs.declared.path_call.PathCall.{PathCall}
 use Rattle.call_dispatch.specs.Dates.{IsTimeFor, sets_date}
-use Rattle.file_state.specs.Tie.{IsSound}
+use Rattle.file_state.specs.Tie.{AreSoundFiles}
 use Rattle.time_rules.proofs.Days.{same-packet}
 use Rattle.time_rules.proofs.Next.{later-packet}
 use Rattle.time_rules.specs.Clock.{IsClock, IsNow, seconds_since}
@@ -31,7 +31,7 @@ use Rattle.os9_kernel.specs.Tie.{Represents}
 -- ---- what an attempt asks for
 
 -- paths and directories are on what is there
-pub is-sound : (old : Kernel) (before : Outside) (s : State) → Represents old before s → IsSound old.machine.files before.drives
+pub is-sound : (old : Kernel) (before : Outside) (s : State) → Represents old before s → AreSoundFiles old.machine.files before.drives
 is-sound old before s tied = record { files = s.files; stands = tied.files; kinds = tied.run.locked.state.running.kinds }
 
 -- the clock was set to a civil time, and not after this tick

@@ -9,7 +9,7 @@ use Rattle.proc_model.specs.Attempts.{goes_on}
 use Rattle.proc_model.specs.Processes.{Processes, no_own, own_at}
 use Rattle.proc_model.specs.Ready.{act_of}
 use Rattle.proc_state.specs.declared.state.ProcState.{ProcState}
-use Rattle.proc_state.specs.Tie.{Represents}
+use Rattle.proc_state.specs.Tie.{RepresentsProcesses}
 use Rattle.machine_model.specs.Console.{terminals_emptied}
 use Rattle.machine_model.specs.State.{State}
 use Rattle.lock_laws.proofs.OpenRuns.{emptied-open}
@@ -21,26 +21,27 @@ use Rattle.os9_kernel.proofs.Columns.{living-within}
 pub use Rattle.name_calls.proofs.SameLemmas.{some-machine}
 
 -- there are 33 places for processes
-pub places-there : (processes : ProcState) (m : Processes) → Represents processes m → length m.records ≡ 33
+pub places-there : (processes : ProcState) (m : Processes) → RepresentsProcesses processes m → length m.records ≡ 33
 places-there processes m tied = ap (λ (s : Processes). length s.records) tied.is ∙ processes.numbers.places
 
 -- a process that lives has one of them
-pub living-few : (processes : ProcState) (m : Processes) → Represents processes m → (p : ℕ) → IsLiving m.records p → p < 33
+pub living-few : (processes : ProcState) (m : Processes) → RepresentsProcesses processes m → (p : ℕ) → IsLiving m.records p → p < 33
 living-few processes m tied p lives = omega (arith, living-within m.records p lives, places-there processes m tied)
 
 -- the tick stays where a change of the machine leaves it
-pub tick-kept : (old new : ProcState) (change : Processes → Processes) → ((m : Processes) → Represents old m → Represents new (change m)) → ((m : Processes) → (change m).tick ≡ m.tick) → new.tick
+pub tick-kept : (old new : ProcState) (change : Processes → Processes) → ((m : Processes) → RepresentsProcesses old m
+    → RepresentsProcesses new (change m)) → ((m : Processes) → (change m).tick ≡ m.tick) → new.tick
     ≡ old.tick
 tick-kept old new change ties keeps =
     let (m, tied) = some-machine old in
     sym (ap (λ (s : Processes). s.tick) (ties m tied).is) ∙ keeps m ∙ ap (λ (s : Processes). s.tick) tied.is
 
 -- what a process does next is what it does in the machine
-pub act-tied : (processes : ProcState) (m : Processes) → Represents processes m → (p : ℕ) → act_of m p ≡ next_of processes p
+pub act-tied : (processes : ProcState) (m : Processes) → RepresentsProcesses processes m → (p : ℕ) → act_of m p ≡ next_of processes p
 act-tied processes m tied p = ap (λ (s : Processes). act_of s p) tied.is
 
 -- a process that goes on has no call
-pub no-call : (new : ProcState) (t : Processes) (p : ℕ) (regs : Regs) → p < 33 → Represents new (goes_on t p regs) → (slice_index_or new.own.items p no_own).call ≡ None
+pub no-call : (new : ProcState) (t : Processes) (p : ℕ) (regs : Regs) → p < 33 → RepresentsProcesses new (goes_on t p regs) → (slice_index_or new.own.items p no_own).call ≡ None
 no-call new t p regs within tied =
     let own : Own = record (own_at t p) { call = None; until = None; woken = false } in
     let items : set t.own p own ≡ new.own.items = ap (λ (s : Processes). s.own) tied.is in

@@ -15,7 +15,7 @@ use Rattle.time_rules.specs.Codes.{time_call_of}
 use Rattle.time_rules.specs.declared.time_call.TimeCall.{TimeCall}
 use Rattle.machine_model.specs.Services.{Serves, Service, files_after_call, loads, on_processes, on_time, on_paths, no_call, service_of, with_files}
 use Rattle.machine_model.specs.State.{Rest, State}
-use Rattle.os9_kernel.specs.Services.{IsPlain}
+use Rattle.os9_kernel.specs.Services.{LoadsNothing}
 
 -- what is asked for by F$Load's code, or by the calls of a code
 abbrev served : Bool → Option ProcCall → Option TimeCall → Option PathCall → Service
@@ -47,7 +47,7 @@ module _ (code : ℕ) where
 
 -- a call on processes that loads nothing comes to what it is attempted as
 module _ (s : State) (now : TimePacket) (p : ℕ) (result : CallResult) (rest : Rest) where
-  pub serves-plain : (call : ProcCall) → IsPlain call → result ≡ attempted call s.processes p → rest ≡ with_files s (files_after_call s.files p result)
+  pub serves-plain : (call : ProcCall) → LoadsNothing call → result ≡ attempted call s.processes p → rest ≡ with_files s (files_after_call s.files p result)
       → Serves (on_processes call) s now p result rest
   serves-plain Call.Link plain is left = (is, left)
   serves-plain Call.UnLink plain is left = (is, left)

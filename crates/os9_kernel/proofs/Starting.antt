@@ -8,7 +8,7 @@ use Rattle.cold_start.specs.Start.{StartedOn, StartsDrives}
 use Rattle.cold_start.specs.declared.fault.StartFault.TheVariants.{OutOfMemory, Drive}
 use Rattle.file_state.specs.declared.state.FileState.{FileState}
 use Rattle.machine_model.specs.ProcessStart.{StartsProcesses, first_start, only_process}
-use Rattle.proc_state.specs.Tie.{Represents as RepresentsProcesses}
+use Rattle.proc_state.specs.Tie.{RepresentsProcesses}
 use Rattle.proc_state.specs.declared.state.ProcState.{ProcState}
 use Rattle.time_rules.specs.Clock.{first_clock}
 use Rattle.machine_model.specs.Start.{Starts}

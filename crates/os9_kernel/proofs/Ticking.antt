@@ -5,12 +5,12 @@ use Rattle.proc_model.specs.Processes.{Processes}
 use Rattle.io_model.specs.Arrivals.{Arrivals, ArrivesFrom, Desk}
 use Rattle.io_model.specs.Io.{Io}
 use Rattle.device_io.specs.Keys.{PollBreaks, desk}
-use Rattle.proc_state.specs.Tie.{Represents as RepresentsProcesses, processes_of}
+use Rattle.proc_state.specs.Tie.{RepresentsProcesses, processes_of}
 use Rattle.proc_state.specs.declared.state.ProcState.{ProcState}
 use Rattle.file_drives.specs.Drives.{DriveView}
 use Rattle.file_rules.specs.Files.{with_io}
 use Rattle.file_state.proofs.StateLemmas.{stands-with_io}
-use Rattle.file_state.specs.Tie.{StandsFor}
+use Rattle.file_state.specs.Tie.{RepresentsFiles}
 use Rattle.file_state.specs.declared.state.FileState.{FileState}
 use Rattle.proc_state.specs.Active.{AreActiveAt}
 use Rattle.machine_model.specs.Run.{BreaksTick, Tick, desk_of}
@@ -65,12 +65,12 @@ module _ (old : Kernel) (before : Outside) (s : State) (tied : Represents old be
       subst (λ n. Arrivals n (desk_of s) here) tick-is (subst (λ (from : Desk). Arrivals (ticks old + 1) from here) desk-is arrives) in
       let t : State = record s { processes = next; files = with_io s.files io; terms = after.terms } in
       let ticked : Tick s t = (here, arrivals, refl) in
-      let stands : StandsFor (with_keys old.machine.files io) before.drives (with_io s.files io) = stands-with_io old.machine.files before.drives s.files io io refl tied.files in (
+      let stands : RepresentsFiles (with_keys old.machine.files io) before.drives (with_io s.files io) = stands-with_io old.machine.files before.drives s.files io io refl tied.files in (
         t,
         ticked,
         record {
           processes = there;
-          files = subst (λ (views : List DriveView). StandsFor (with_keys old.machine.files io) views (with_io s.files io)) (sym drives) stands;
+          files = subst (λ (views : List DriveView). RepresentsFiles (with_keys old.machine.files io) views (with_io s.files io)) (sym drives) stands;
           is = λ i. record {
             processes = next;
             files = with_io s.files io;

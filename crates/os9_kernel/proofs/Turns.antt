@@ -6,11 +6,11 @@ use Rattle.machine_model.specs.declared.ends.EventEnd.{EventEnd}
 use Rattle.machine_model.specs.declared.ends.SliceEnd.TheVariants.{Idle, Ran}
 use Rattle.machine_model.specs.ProcessEvent.{cost_of}
 use Rattle.machine_model.specs.Event.{Event, cost}
-use Rattle.machine_model.specs.Run.{Steps, FirstSteps, Slice, Tick, Choose, is_going}
+use Rattle.machine_model.specs.Run.{SliceEvents, FirstSteps, Slice, Tick, Choose, is_going}
 use Rattle.machine_model.specs.State.{State}
 use Rattle.os9_kernel.specs.declared.act.Act.{Act}
 use Rattle.os9_kernel.specs.declared.kernel.Kernel.{Kernel}
-use Rattle.os9_kernel.specs.Calls.{HasEvent}
+use Rattle.os9_kernel.specs.Calls.{KernelEvent}
 use Rattle.os9_kernel.specs.Next.{DoesNext, HasTurn, act_in_machine}
 use Rattle.os9_kernel.specs.Outside.{Outside}
 use Rattle.os9_kernel.specs.Slice.{Instructions, IsTurn, last, more}
@@ -19,7 +19,7 @@ use Rattle.os9_kernel.proofs.Acting.{cost-is}
 
 -- an event that costs nothing is a turn
 pub turn-of : (left : ℕ) (old new : Kernel) (p : Pid) (act : Act) (next : DoesNext old p act)
-    → cost_of (act_in_machine act) ≡ 0 → (before after : Outside) (end : EventEnd) → HasEvent old new before after end
+    → cost_of (act_in_machine act) ≡ 0 → (before after : Outside) (end : EventEnd) → KernelEvent old new before after end
     → (end ≡ EventEnd.Ran → pending new < pending old) → HasTurn left old new before after
     (record { count = 0; end = end })
 turn-of left old new p act next free before after end event progress = record {
@@ -39,7 +39,7 @@ turn-of left old new p act next free before after end event progress = record {
 -- whatever goes on from m, with so many instructions left, goes on from s with n left, behind these states
 abbrev pub ContinuesFrom : ℕ → State → List State → ℕ → State → Type 0
 ContinuesFrom n s all left m =
-    (states : List State) (t : State) → Steps left m states t → Steps n s (all ++ states) t
+    (states : List State) (t : State) → SliceEvents left m states t → SliceEvents n s (all ++ states) t
 
 -- and the first steps from m, with so many instructions left, are first steps from s with n left
 abbrev pub BeginsFrom : ℕ → State → List State → ℕ → State → Type 0
@@ -52,7 +52,7 @@ pub record Turned (left : ℕ) (m : State) (rest : ℕ) (t : State) : Type 0 whe
   pub first : State
   pub event : Event m EventEnd.Ran first
   pub later : List State
-  pub steps : (states : List State) (u : State) → Steps rest t states u → Steps left m (first ∷ (later ++ states)) u
+  pub steps : (states : List State) (u : State) → SliceEvents rest t states u → SliceEvents left m (first ∷ (later ++ states)) u
   pub begun : (states : List State) (u : State) → FirstSteps rest t states u → FirstSteps left m (first ∷ (later ++ states)) u
 
 one-turned : (left : ℕ) (m t : State) → 0 < left → Event m EventEnd.Ran t → Turned left m (left - cost m) t
@@ -92,7 +92,7 @@ turned m t end count (inr done) is left some few = instructed done is left few
 -- from where the slice began
 pub turn-continues : (n left rest : ℕ) (s m t : State) (all : List State) (it : Turned left m rest t) → ContinuesFrom n s all left m → ContinuesFrom n s (all ++ (it.first ∷ it.later)) rest t
 turn-continues n left rest s m t all it so_far states u steps =
-    subst (λ states. Steps n s states u) (sym (append_assoc all (it.first ∷ it.later) states)) (so_far (it.first ∷ (it.later ++ states)) u (it.steps states u steps))
+    subst (λ states. SliceEvents n s states u) (sym (append_assoc all (it.first ∷ it.later) states)) (so_far (it.first ∷ (it.later ++ states)) u (it.steps states u steps))
 
 pub turn-begins : (n left rest : ℕ) (s m t : State) (all : List State) (it : Turned left m rest t) → BeginsFrom n s all left m → BeginsFrom n s (all ++ (it.first ∷ it.later)) rest t
 turn-begins n left rest s m t all it so_far states u steps =
@@ -100,7 +100,7 @@ turn-begins n left rest s m t all it so_far states u steps =
 
 -- a turn behind which it does not
 instructions-end : {m t : State} {end : EventEnd} {count : ℕ} → Instructions m count end t → is_going end ≡ false
-    → (left : ℕ) → count ≤ left → (first : State) × (later : List State) × Steps left m (first ∷ later) t
+    → (left : ℕ) → count ≤ left → (first : State) × (later : List State) × SliceEvents left m (first ∷ later) t
 instructions-end (last {t = t} {end = end} one event) over left few =
     (t, [], (omega (arith, few), end, event, rw over (refl, refl)))
 instructions-end (more {s = m} {m = next} one event rest) over left few =
@@ -108,15 +108,15 @@ instructions-end (more {s = m} {m = next} one event rest) over left few =
     (next, first ∷ later, (omega (arith, few), EventEnd.Ran, event, steps))
 
 pub turn-ends : (m t : State) (end : EventEnd) (count : ℕ) → IsTurn m count end t → is_going end ≡ false → (left : ℕ)
-    → 0 < left → count ≤ left → (first : State) × (later : List State) × Steps left m (first ∷ later) t
+    → 0 < left → count ≤ left → (first : State) × (later : List State) × SliceEvents left m (first ∷ later) t
 turn-ends m t end count (inl (none, free, event)) over left some few =
     (t, [], (some, end, event, rw over (refl, refl)))
 turn-ends m t end count (inr done) over left some few = instructions-end done over left few
 
 -- the slice is over where its instructions are executed
-pub used-up : (n left : ℕ) (s m : State) (all : List State) → left ≡ 0 → ContinuesFrom n s all left m → Steps n s all m
+pub used-up : (n left : ℕ) (s m : State) (all : List State) → left ≡ 0 → ContinuesFrom n s all left m → SliceEvents n s all m
 used-up n left s m all none so_far =
-    subst (λ states. Steps n s states m) (append-nil all) (so_far [] m (none, refl))
+    subst (λ states. SliceEvents n s states m) (append-nil all) (so_far [] m (none, refl))
 
 pub begun-here : (n left : ℕ) (s m : State) (all : List State) → 0 < left → BeginsFrom n s all left m → FirstSteps n s all m
 begun-here n left s m all some so_far =
@@ -132,17 +132,17 @@ slice-idle n s ticked chosen ticks chooses none =
       chosen,
       ticks,
       chooses,
-      subst (λ (who : Option ℕ). MatchOption who ((Idle ≡ Idle) × (nothing ≡ nothing) × (chosen ≡ chosen)) (λ p. (Idle ≡ Ran) × Steps n chosen nothing chosen)) (sym none) (refl, refl, refl),
+      subst (λ (who : Option ℕ). MatchOption who ((Idle ≡ Idle) × (nothing ≡ nothing) × (chosen ≡ chosen)) (λ p. (Idle ≡ Ran) × SliceEvents n chosen nothing chosen)) (sym none) (refl, refl, refl),
     )
 
 -- somebody was
-pub slice-ran : (n p : ℕ) (s ticked chosen t : State) (states : List State) → Tick s ticked → Choose ticked chosen → chosen.chosen ≡ Some p → Steps n chosen states t → Slice n s states Ran t
+pub slice-ran : (n p : ℕ) (s ticked chosen t : State) (states : List State) → Tick s ticked → Choose ticked chosen → chosen.chosen ≡ Some p → SliceEvents n chosen states t → Slice n s states Ran t
 slice-ran n p s ticked chosen t states ticks chooses some steps = (
   ticked,
   chosen,
   ticks,
   chooses,
-  subst (λ (who : Option ℕ). MatchOption who ((Ran ≡ Idle) × (states ≡ []) × (t ≡ chosen)) (λ p. (Ran ≡ Ran) × Steps n chosen states t)) (sym some) (refl, steps),
+  subst (λ (who : Option ℕ). MatchOption who ((Ran ≡ Idle) × (states ≡ []) × (t ≡ chosen)) (λ p. (Ran ≡ Ran) × SliceEvents n chosen states t)) (sym some) (refl, steps),
 )
 
 done-some : {m t : State} {end : EventEnd} {count : ℕ} → Instructions m count end t → 0 < count

@@ -10,8 +10,8 @@ use Rattle.os9_sched.specs.Schedule.{Schedule, after_wait}
 use Rattle.os9_sched.specs.declared.member.Standing.TheVariants.{Resting}
 use Rattle.os9_sched.specs.declared.member.Wait.{Wait as Waiting}
 use Rattle.proc_model.specs.Records.{IsLiving, record_at, is_waiting}
-use Rattle.proc_calls.specs.Telling.{WaitsFor}
-use Rattle.proc_state.specs.Tie.{Comes}
+use Rattle.proc_calls.specs.Telling.{SchedulesWait}
+use Rattle.proc_state.specs.Tie.{ReturnsCallEnd}
 use Rattle.proc_state.specs.declared.state.ProcState.{ProcState}
 use Rattle.proc_model.specs.Processes.{Processes}
 use Rattle.proc_model.specs.Ready.{attempts, next_act}
@@ -53,7 +53,7 @@ rests-at s p wait within =
 
 -- what is waited for is what the scheduler has
 pub rests-so : (wait : Option Waiting) (before after : ProcState) (p : ℕ) → IsLiving before.table p
-    → is_waiting (record_at before.table p).life ≡ false → IfSome wait (λ wait. WaitsFor before after p wait)
+    → is_waiting (record_at before.table p).life ≡ false → IfSome wait (λ wait. SchedulesWait before after p wait)
     → IfSome wait (λ wait. wait_at (member_of after.sched.members p) ≡ Some wait)
 rests-so None before after p lives first waits = tt
 rests-so (Some wait) before after p lives first waits =
@@ -61,10 +61,10 @@ rests-so (Some wait) before after p lives first waits =
     ∙ rests-at before.sched p wait (member-within before p lives)
 
 -- an attempt of a call on a path that waits leaves the records
-pub records-kept : (m : Processes) (p : ℕ) (effect : IoEffect) (processes : ProcState) → Comes m p (result_of m p effect) Wait processes → processes.table ≡ m.records
+pub records-kept : (m : Processes) (p : ℕ) (effect : IoEffect) (processes : ProcState) → ReturnsCallEnd m p (result_of m p effect) Wait processes → processes.table ≡ m.records
 records-kept m p effect processes came = by effect.end came
   where
-    by : (end : IoEnd) → Comes m p (result_by end m p effect) Wait processes → processes.table ≡ m.records
+    by : (end : IoEnd) → ReturnsCallEnd m p (result_by end m p effect) Wait processes → processes.table ≡ m.records
     by (answers regs) came = let e : Wait ≡ Done = came.0 in cc
     by (fails number) came = let e : Wait ≡ Error number = came.0 in cc
     by (keeps kept) came = sym (ap (λ (m : Processes). m.records) came.1.is)

@@ -8,7 +8,7 @@ use Rattle.machine_model.specs.Run.{BeginsSlice, BreaksTick, Slice, Tick}
 use Rattle.machine_model.specs.State.{State}
 use Rattle.os9_kernel.specs.declared.kernel.Kernel.{Kernel}
 use Rattle.os9_kernel.specs.Breaks.{BreaksEvent}
-use Rattle.os9_kernel.specs.Causes.{WaitsInCall}
+use Rattle.os9_kernel.specs.Causes.{ChosenWaitsInCall}
 use Rattle.os9_kernel.specs.Changes.{KeepsImages, KeepsUnasked}
 use Rattle.os9_kernel.specs.DriverCalls.{CallsWithin}
 use Rattle.os9_kernel.specs.Outside.{Outside}
@@ -16,11 +16,11 @@ use Rattle.os9_kernel.specs.Tie.{Represents, IsGoing, ticks}
 use Rattle.os9_kernel.specs.Volumes.{HoldsVolumes}
 
 -- an event that was not done, since memory is out: it is broken off
-abbrev pub BreaksOff : Kernel → Outside → Outside → Type 0
-BreaksOff old before after = (s : State) → Represents old before s → BreaksEvent s after
+abbrev pub BreaksOffEvent : Kernel → Outside → Outside → Type 0
+BreaksOffEvent old before after = (s : State) → Represents old before s → BreaksEvent s after
 
 -- a tick
-pub record HasTick (old new : Kernel) (before after : Outside) (result : Result (Unit {0}) OutOfMemory) : Type 0
+pub record KernelTick (old new : Kernel) (before after : Outside) (result : Result (Unit {0}) OutOfMemory) : Type 0
   where
     -- it is one of the machine
     pub step : IsOk result → (s : State) → Represents old before s
@@ -32,15 +32,15 @@ pub record HasTick (old new : Kernel) (before after : Outside) (result : Result 
     pub count : ticks new ≡ ticks old + 1
 
 -- an event
-pub record HasEvent (old new : Kernel) (before after : Outside) (end : EventEnd) : Type 0
+pub record KernelEvent (old new : Kernel) (before after : Outside) (end : EventEnd) : Type 0
   where
     -- it is one of the machine
     pub step : end ≢ EventEnd.NoMemory → (s : State) → Represents old before s
         → (t : State) × Event s end t × Represents new after t
-    pub memory : end ≡ EventEnd.NoMemory → BreaksOff old before after
+    pub memory : end ≡ EventEnd.NoMemory → BreaksOffEvent old before after
     -- the chosen process still lives, if it goes on
     pub going : end ≡ EventEnd.Ran → IsGoing new
-    pub waits : end ≡ EventEnd.Waits → WaitsInCall old new
+    pub waits : end ≡ EventEnd.Waits → ChosenWaitsInCall old new
     pub count : end ≢ EventEnd.NoMemory → ticks new ≡ ticks old
     -- it calls the drives within its bounds, and keeps the images that it does not ask to change, even if memory is out
     pub calls : CallsWithin old before after
@@ -54,7 +54,7 @@ StopsSlice n s after =
     ⊎ ((states : List State) × (t : State) × BeginsSlice n s states t × BreaksEvent t after)
 
 -- a slice of `n` instructions
-pub record HasSlice (n : ℕ) (old new : Kernel) (before after : Outside) (end : SliceEnd) : Type 0
+pub record KernelSlice (n : ℕ) (old new : Kernel) (before after : Outside) (end : SliceEnd) : Type 0
   where
     -- it is one of the machine
     pub step : end ≢ SliceEnd.NoMemory → (s : State) → Represents old before s

@@ -29,7 +29,7 @@ wait_for kernel code p =
     (awaited kernel.machine.files p)
 
 -- The chosen process waits in its call. Since the first attempt of the call, the scheduler has what it waits for.
-pub record WaitsInCall (old new : Kernel) : Type 0 where
+pub record ChosenWaitsInCall (old new : Kernel) : Type 0 where
   pub p : Pid
   pub chosen : old.chosen ≡ Some p
   pub code : ℕ

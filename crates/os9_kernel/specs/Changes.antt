@@ -43,7 +43,7 @@ KeepsUnasked old before after =
 
 -- Events left these states, and one of them began in this one: first the states that lead to it, and then the state to
 -- which the event leads.
-pub record BeginsAt (leads : List State → State → Type 0) (states : List State) (at : State) : Type 0 where
+pub record BeginsEventAt (leads : List State → State → Type 0) (states : List State) (at : State) : Type 0 where
   pub first : List State
   pub there : leads first at
   pub next : State
@@ -54,7 +54,7 @@ pub record BeginsAt (leads : List State → State → Type 0) (states : List Sta
 
 -- none of them asks for a change of the volume in this drive
 abbrev pub NoneAsks : (List State → State → Type 0) → List State → ℕ → Type 0
-NoneAsks leads states drive = (at : State) → BeginsAt leads states at → ¬ AsksToChange drive at
+NoneAsks leads states drive = (at : State) → BeginsEventAt leads states at → ¬ AsksToChange drive at
 
 -- the image in a drive is unchanged if none of them asks for a change of its volume
 abbrev pub KeepsImages : (List State → State → Type 0) → List State → List DriveView → List DriveView → Type 0

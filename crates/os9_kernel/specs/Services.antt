@@ -22,11 +22,11 @@ service_in_machine (Path call) = on_paths call
 service_in_machine Unknown = no_call
 
 -- a call on processes and modules that loads nothing
-abbrev pub IsPlain : ProcCall → Type 0
-IsPlain Call.Fork = ⊥
-IsPlain Call.Chain = ⊥
-IsPlain call = ⊤
+abbrev pub LoadsNothing : ProcCall → Type 0
+LoadsNothing Call.Fork = ⊥
+LoadsNothing Call.Chain = ⊥
+LoadsNothing call = ⊤
 
 abbrev pub IsPlainService : Service → Type 0
-IsPlainService (Process call) = IsPlain call
+IsPlainService (Process call) = LoadsNothing call
 IsPlainService service = ⊤

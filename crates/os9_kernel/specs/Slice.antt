@@ -3,7 +3,7 @@ use Rattle.std.specs.Prelude.{◌≡◌, ◌≢◌, ◌⊎◌, ℕ, ◌+◌, Lis
 use Rattle.machine_model.specs.declared.ends.EventEnd.{EventEnd}
 use Rattle.machine_model.specs.declared.ends.SliceEnd.{SliceEnd}
 use Rattle.machine_model.specs.Event.{Event, cost}
-use Rattle.machine_model.specs.Run.{Steps, FirstSteps}
+use Rattle.machine_model.specs.Run.{SliceEvents, FirstSteps}
 use Rattle.machine_model.specs.State.{State}
 use Rattle.os9_kernel.specs.declared.kernel.Kernel.{Kernel}
 use Rattle.os9_kernel.specs.Breaks.{BreaksEvent}
@@ -22,11 +22,11 @@ abbrev pub IsTurn : State → ℕ → EventEnd → State → Type 0
 IsTurn s count end t = ((count ≡ 0) × (cost s ≡ 0) × Event s end t) ⊎ Instructions s count end t
 
 -- the events of a slice with `left` instructions left
-pub record HasEvents (left : ℕ) (old new : Kernel) (before after : Outside) (end : SliceEnd) : Type 0
+pub record KernelEvents (left : ℕ) (old new : Kernel) (before after : Outside) (end : SliceEnd) : Type 0
   where
     -- they are those of the machine
     pub step : end ≢ SliceEnd.NoMemory → (s : State) → Represents old before s
-        → (states : List State) × (t : State) × Steps left s states t × Represents new after t
+        → (states : List State) × (t : State) × SliceEvents left s states t × Represents new after t
         × KeepsImages (FirstSteps left s) states before.drives after.drives
     pub ran : end ≢ SliceEnd.NoMemory → end ≡ SliceEnd.Ran
     -- memory is out: the event after the first of them is broken off

@@ -1,6 +1,6 @@
 -- The start of a kernel.
 use Rattle.std.specs.Prelude.{◌≡◌, ◌≢◌, ℕ, ⊤, Result, Ok, Err, IfErr, IfOk, List, OnOk}
-use Rattle.machine_model.specs.ProcessStart.{Refuses}
+use Rattle.machine_model.specs.ProcessStart.{RefusesBoot}
 use Rattle.machine_model.specs.declared.ends.BootFault.{BootFault}
 use Rattle.machine_model.specs.declared.ends.BootFault.TheVariants.{OutOfMemory}
 use Rattle.file_drives.specs.Drives.{drive_states}
@@ -33,13 +33,13 @@ IsStarted config file images devices kernel =
     (s : State) × Starts (boot_of config file images devices) s × Represents kernel devices s
 
 -- the boot file is not refused
-abbrev pub IsAccepted : Config → List ℕ → Type 0
-IsAccepted config file = (fault : BootFault) → ¬ Refuses file config.blocks fault
+abbrev pub AcceptsBootFile : Config → List ℕ → Type 0
+AcceptsBootFile config file = (fault : BootFault) → ¬ RefusesBoot file config.blocks fault
 
 -- why a start fails: the boot file is refused, or a drive failed and it is not; or memory was out
 abbrev pub StartIsRefused : Config → List ℕ → StartError → Type 0
-StartIsRefused config file (Boot fault) = fault ≢ OutOfMemory → Refuses file config.blocks fault
-StartIsRefused config file (Drive drive number) = IsAccepted config file
+StartIsRefused config file (Boot fault) = fault ≢ OutOfMemory → RefusesBoot file config.blocks fault
+StartIsRefused config file (Drive drive number) = AcceptsBootFile config file
 
 -- the fact holds if the boot file is refused
 abbrev pub WhereRefused : StartError → Type 0 → Type 0
@@ -58,7 +58,7 @@ pub record KernelStarts (config : Config) (file : List ℕ) (result : Result Ker
   -- with the images that were in the first drives
   pub stands : (images : List (List ℕ)) → HaveImages config.images images before.drives
       → IfOk result (IsStarted config file images after)
-  pub accepted : OnOk result (IsAccepted config file)
+  pub accepted : OnOk result (AcceptsBootFile config file)
   pub refused : IfErr result (StartIsRefused config file)
   pub drives : StartsDrives config.images (drive_fault result) before.drives after.drives
   -- no slice was begun

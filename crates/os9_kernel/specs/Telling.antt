@@ -4,10 +4,10 @@ use Rattle.os9_base.specs.declared.call.CallEnd.{CallEnd}
 use Rattle.proc_model.specs.Attempts.{after_attempt, attempt_end}
 use Rattle.proc_model.specs.CallResult.{CallResult}
 use Rattle.proc_model.specs.Processes.{Processes}
-use Rattle.proc_state.specs.Tie.{Comes, Represents}
+use Rattle.proc_state.specs.Tie.{ReturnsCallEnd, RepresentsProcesses}
 use Rattle.proc_state.specs.declared.state.ProcState.{ProcState}
 
 -- whatever result a call with this end had, its process now has it
-abbrev pub TellsEnd : CallEnd → ℕ → ProcState → ProcState → Type 0
-TellsEnd end p old new = (m : Processes) (call : CallResult) → Comes m p call end old
-    → Represents new (after_attempt m p call) × (end ≡ attempt_end call)
+abbrev pub ReportsCallEnd : CallEnd → ℕ → ProcState → ProcState → Type 0
+ReportsCallEnd end p old new = (m : Processes) (call : CallResult) → ReturnsCallEnd m p call end old
+    → RepresentsProcesses new (after_attempt m p call) × (end ≡ attempt_end call)

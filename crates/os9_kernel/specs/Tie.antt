@@ -7,8 +7,8 @@ use Rattle.proc_model.specs.IoReady.{has_io}
 use Rattle.os9_sched.specs.declared.member.Cause.{Cause}
 use Rattle.file_rules.specs.Locking.{wait_cause}
 use Rattle.proc_state.specs.declared.state.ProcState.{ProcState}
-use Rattle.proc_state.specs.Tie.{Represents as RepresentsProcesses}
-use Rattle.file_state.specs.Tie.{StandsFor}
+use Rattle.proc_state.specs.Tie.{RepresentsProcesses}
+use Rattle.file_state.specs.Tie.{RepresentsFiles}
 use Rattle.machine_model.specs.State.{State}
 use Rattle.lock_laws.specs.Living.{IsRunOpen}
 use Rattle.proc_state.specs.Active.{AreActiveAt}
@@ -36,7 +36,7 @@ IsKnown kernel =
 -- equal, it is a state of a run, and what the kernel knows of those who are Ready is so.
 pub record Represents (kernel : Kernel) (devices : Outside) (s : State) : Type 0 where
   pub processes : RepresentsProcesses kernel.machine.processes s.processes
-  pub files : StandsFor kernel.machine.files devices.drives s.files
+  pub files : RepresentsFiles kernel.machine.files devices.drives s.files
   pub is : s
       ≡ record {
         processes = s.processes;
@@ -50,12 +50,12 @@ pub record Represents (kernel : Kernel) (devices : Outside) (s : State) : Type 0
   pub known : IsKnown kernel
 
 -- a kernel with these devices represents a state
-abbrev pub Stands : Kernel → Outside → Type 0
-Stands kernel devices = (s : State) × Represents kernel devices s
+abbrev pub RepresentsSomeState : Kernel → Outside → Type 0
+RepresentsSomeState kernel devices = (s : State) × Represents kernel devices s
 
 -- a kernel with some devices represents a state
 abbrev pub HasState : Kernel → Type 0
-HasState kernel = (devices : Outside) × Stands kernel devices
+HasState kernel = (devices : Outside) × RepresentsSomeState kernel devices
 
 -- the chosen process lives
 abbrev pub IsGoing : Kernel → Type 0
@@ -64,6 +64,10 @@ IsGoing kernel = (p : Pid) × (kernel.chosen ≡ Some p) × IsLiving kernel.mach
 -- the instructions that the chosen process has executed since it was chosen
 abbrev pub executed : Kernel → ℕ
 executed kernel = kernel.executed
+
+-- the signal that a process has received and that is not delivered yet
+abbrev pub signal_at : Kernel → ℕ → Option ℕ
+signal_at kernel p = (record_at kernel.machine.processes.table p).signal
 
 -- the number of slices begun
 abbrev pub ticks : Kernel → ℕ

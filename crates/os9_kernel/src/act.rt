@@ -1,7 +1,7 @@
 //! What a process does next.
 
 ghost use Rattle.std.specs.Prelude.{◌≡◌};
-ghost use Rattle.proc_model.specs.Records.{IsLiving, IsProcess};
+ghost use Rattle.proc_model.specs.Records.{IsLiving, IsProcessNumber};
 ghost use Rattle.os9_kernel.specs.Next.{act_in_machine, next_of};
 
 use crate::kernel::Kernel;
@@ -25,7 +25,7 @@ impl Kernel {
     pub(crate) fn act(&self, p: Pid) -> Act
         requires { IsLiving self.now.machine.processes.table p.0 }
         ensures next { next_of self.now.machine.processes p.0 ≡ act_in_machine result }
-        ensures process { IsProcess p.0 }
+        ensures process { IsProcessNumber p.0 }
     {
         let waits = self.machine.processes.table.life(p) == Some(Life::Waiting);
         let call = self.machine.processes.own[p.0 as usize].call;

@@ -3,14 +3,14 @@
 ghost use Rattle.std.specs.Prelude.{◌≡◌, ◌<◌, List};
 ghost use Rattle.file_drives.specs.Drives.{DriveView};
 ghost use Rattle.file_rules.specs.Files.{Files};
-ghost use Rattle.file_state.specs.Tie.{StandsFor};
+ghost use Rattle.file_state.specs.Tie.{RepresentsFiles};
 ghost use Rattle.machine_model.specs.Services.{no_call, on_processes, service_of};
-ghost use Rattle.os9_kernel.specs.Calls.{HasEvent};
+ghost use Rattle.os9_kernel.specs.Calls.{KernelEvent};
 ghost use Rattle.os9_kernel.specs.Ends.{event_end_of};
 ghost use Rattle.os9_kernel.specs.Next.{DoesNext};
 ghost use Rattle.os9_kernel.specs.Outside.{Outside};
 ghost use Rattle.os9_kernel.specs.Paths.{files_then};
-ghost use Rattle.os9_kernel.specs.Services.{IsPlain};
+ghost use Rattle.os9_kernel.specs.Services.{LoadsNothing};
 ghost use Rattle.os9_kernel.specs.Tie.{HasState, IsKnown, executed, pending};
 
 use crate::act::Act;
@@ -27,9 +27,9 @@ impl Kernel {
     pub(crate) fn process_call(&mut self, p: Pid, code: u8, call: ProcCall) -> EventEnd
         requires next { DoesNext self.old p (Act.Attempt code) }
         requires serves { service_of code ≡ on_processes call }
-        requires plain { IsPlain call }
+        requires plain { LoadsNothing call }
         requires stands { HasState self.old }
-        ensures event { (devices : Outside) → HasEvent self.old self.new devices devices result }
+        ensures event { (devices : Outside) → KernelEvent self.old self.new devices devices result }
         ensures progress { result ≡ EventEnd.Ran → pending self.new < pending self.old }
         ensures executed { executed self.new ≡ executed self.old }
     {
@@ -44,8 +44,8 @@ impl Kernel {
     fn follow(&mut self, p: Pid, end: CallEnd)
         requires { p.0 < 33 }
         ensures files { (views : List DriveView) (files : Files)
-            → StandsFor self.old.machine.files views files
-            → StandsFor self.new.machine.files views (files_then end files p.0) }
+            → RepresentsFiles self.old.machine.files views files
+            → RepresentsFiles self.new.machine.files views (files_then end files p.0) }
         ensures processes { self.new.machine.processes ≡ self.old.machine.processes }
         ensures known { IsKnown self.old → IsKnown self.new }
         ensures clock { self.new.clock ≡ self.old.clock }
@@ -65,7 +65,7 @@ impl Kernel {
     pub(crate) fn refuse_unknown(&mut self, p: Pid, code: u8) -> EventEnd
         requires next { DoesNext self.old p (Act.Attempt code) }
         requires serves { service_of code ≡ no_call }
-        ensures event { (devices : Outside) → HasEvent self.old self.new devices devices result }
+        ensures event { (devices : Outside) → KernelEvent self.old self.new devices devices result }
         ensures progress { pending self.new < pending self.old }
         ensures executed { executed self.new ≡ executed self.old }
     {

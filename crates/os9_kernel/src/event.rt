@@ -1,10 +1,10 @@
 //! The events of a process: attempts of its call, deliveries of signals, and instructions.
 
 ghost use Rattle.std.specs.Prelude.{◌≡◌, ◌≢◌, ◌<◌, ◌+◌, ◌^◌, vec_len};
-ghost use Rattle.os9_kernel.specs.Calls.{HasEvent};
+ghost use Rattle.os9_kernel.specs.Calls.{KernelEvent};
 ghost use Rattle.os9_kernel.specs.Next.{DoesNext, HasTurn};
 ghost use Rattle.os9_kernel.specs.Outside.{OnDevices, Outside, outside};
-ghost use Rattle.os9_kernel.specs.Tie.{Stands, executed, pending};
+ghost use Rattle.os9_kernel.specs.Tie.{RepresentsSomeState, executed, pending};
 
 use crate::act::Act;
 use crate::kernel::Kernel;
@@ -24,8 +24,10 @@ impl Kernel {
     /// An attempt of the call of the chosen process, with this code.
     pub(crate) fn attempt(&mut self, p: Pid, code: u8, devices: &mut Devices) -> EventEnd
         requires next { DoesNext self.old p (Act.Attempt code) }
-        requires stands { Stands self.old (outside BlockDriver-box CharDriver-box devices.old) }
-        ensures event { OnDevices (λ before after. HasEvent self.old self.new before after result)
+        requires stands { RepresentsSomeState self.old
+            (outside BlockDriver-box CharDriver-box devices.old) }
+        ensures event { OnDevices
+            (λ before after. KernelEvent self.old self.new before after result)
             BlockDriver-box CharDriver-box devices.old devices.new }
         ensures progress { result ≡ EventEnd.Ran → pending self.new < pending self.old }
         ensures executed { executed self.new ≡ executed self.old }
@@ -47,7 +49,7 @@ impl Kernel {
     pub(crate) fn deliver(&mut self, p: Pid, signal: u8) -> EventEnd
         requires next { DoesNext self.old p (Act.Delivery signal) }
         ensures event { (devices : Outside)
-            → HasEvent self.old self.new devices devices result }
+            → KernelEvent self.old self.new devices devices result }
         ensures progress { result ≡ EventEnd.Ran → pending self.new < pending self.old }
         ensures executed { executed self.new ≡ executed self.old }
     {

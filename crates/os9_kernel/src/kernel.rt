@@ -4,9 +4,9 @@ ghost use Rattle.file_rules.specs.Locking.{files_may_go};
 ghost use Rattle.machine_model.specs.Event.{cost};
 ghost use Rattle.machine_model.specs.State.{State};
 ghost use Rattle.machine_model.specs.Run.{Choose};
-ghost use Rattle.os9_kernel.specs.Calls.{HasEvent, HasSlice, HasTick};
+ghost use Rattle.os9_kernel.specs.Calls.{KernelEvent, KernelSlice, KernelTick};
 ghost use Rattle.os9_kernel.specs.Outside.{OnDevices, Outside, outside};
-ghost use Rattle.os9_kernel.specs.Tie.{Represents, Stands, IsGoing, executed, ticks};
+ghost use Rattle.os9_kernel.specs.Tie.{Represents, RepresentsSomeState, IsGoing, executed, ticks};
 ghost use Rattle.proc_state.specs.Active.{AreActiveAt};
 
 use crate::act::Act;
@@ -68,8 +68,9 @@ impl Kernel {
     /// hold the volumes of the state before.
     pub fn tick(&mut self, devices: &mut Devices) -> Result<(), OutOfMemory>
         requires count { ticks self.old < LAST_TICK }
-        requires stands { Stands self.old (outside BlockDriver-box CharDriver-box devices.old) }
-        ensures tick { OnDevices (λ before after. HasTick self.old self.new before after result)
+        requires stands { RepresentsSomeState self.old
+            (outside BlockDriver-box CharDriver-box devices.old) }
+        ensures tick { OnDevices (λ before after. KernelTick self.old self.new before after result)
             BlockDriver-box CharDriver-box devices.old devices.new }
         ensures terminals { vec_len devices.new.terms ≡ vec_len devices.old.terms }
         ensures drives { vec_len devices.new.drives ≡ vec_len devices.old.drives }
@@ -117,8 +118,10 @@ impl Kernel {
     /// after the attempt if memory was out for its entry in the history.
     pub fn event(&mut self, devices: &mut Devices) -> EventEnd
         requires going { IsGoing self.old }
-        requires stands { Stands self.old (outside BlockDriver-box CharDriver-box devices.old) }
-        ensures event { OnDevices (λ before after. HasEvent self.old self.new before after result)
+        requires stands { RepresentsSomeState self.old
+            (outside BlockDriver-box CharDriver-box devices.old) }
+        ensures event { OnDevices
+            (λ before after. KernelEvent self.old self.new before after result)
             BlockDriver-box CharDriver-box devices.old devices.new }
         ensures executed { (before : Outside) (s : State) → Represents self.old before s
             → executed self.old + cost s < 2 ^ 32
@@ -140,8 +143,10 @@ impl Kernel {
     /// and the drives hold what the tick or the event that found no memory left.
     pub fn slice(&mut self, n: u32, devices: &mut Devices) -> SliceEnd
         requires tick { ticks self.old < LAST_TICK }
-        requires stands { Stands self.old (outside BlockDriver-box CharDriver-box devices.old) }
-        ensures slice { OnDevices (λ before after. HasSlice n self.old self.new before after result)
+        requires stands { RepresentsSomeState self.old
+            (outside BlockDriver-box CharDriver-box devices.old) }
+        ensures slice { OnDevices
+            (λ before after. KernelSlice n self.old self.new before after result)
             BlockDriver-box CharDriver-box devices.old devices.new }
         ensures terminals { vec_len devices.new.terms ≡ vec_len devices.old.terms }
         ensures drives { vec_len devices.new.drives ≡ vec_len devices.old.drives }

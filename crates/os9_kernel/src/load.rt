@@ -7,15 +7,15 @@ ghost use Rattle.proc_calls.specs.Telling.{LivesOn};
 ghost use Rattle.proc_model.specs.Records.{IsLiving};
 ghost use Rattle.file_drives.specs.Drives.{DriveView, drives_seen};
 ghost use Rattle.file_rules.specs.Files.{Files};
-ghost use Rattle.file_state.specs.Tie.{IsSound, StandsFor};
+ghost use Rattle.file_state.specs.Tie.{AreSoundFiles, RepresentsFiles};
 ghost use Rattle.machine_model.specs.Services.{service_of};
-ghost use Rattle.os9_kernel.specs.Calls.{HasEvent};
+ghost use Rattle.os9_kernel.specs.Calls.{KernelEvent};
 ghost use Rattle.os9_kernel.specs.Loads.{LoadsOnEach};
 ghost use Rattle.os9_kernel.specs.Next.{DoesNext};
 ghost use Rattle.os9_kernel.specs.Outside.{OnDevices, outside};
 ghost use Rattle.os9_kernel.specs.Paths.{MayBegin, files_begun, number_in_a};
 ghost use Rattle.os9_kernel.specs.Services.{load_in_machine};
-ghost use Rattle.os9_kernel.specs.Tie.{Stands, executed, pending};
+ghost use Rattle.os9_kernel.specs.Tie.{RepresentsSomeState, executed, pending};
 
 use crate::act::Act;
 use crate::calls::event_end;
@@ -44,8 +44,10 @@ impl Kernel {
     ) -> EventEnd
         requires next { DoesNext self.old p (Act.Attempt code) }
         requires serves { service_of code ≡ load_in_machine call }
-        requires stands { Stands self.old (outside BlockDriver-box CharDriver-box devices.old) }
-        ensures event { OnDevices (λ before after. HasEvent self.old self.new before after result)
+        requires stands { RepresentsSomeState self.old
+            (outside BlockDriver-box CharDriver-box devices.old) }
+        ensures event { OnDevices
+            (λ before after. KernelEvent self.old self.new before after result)
             BlockDriver-box CharDriver-box devices.old devices.new }
         ensures progress { result ≡ EventEnd.Ran → pending self.new < pending self.old }
         ensures executed { executed self.new ≡ executed self.old }
@@ -64,7 +66,8 @@ impl Kernel {
     /// yet.
     fn try_load(&mut self, p: Pid, call: LoadCall, devices: &mut Devices) -> CallEnd
         requires lives { IsLiving self.old.machine.processes.table p.0 }
-        requires sound { IsSound self.old.machine.files (drives_seen BlockDriver-box devices.old) }
+        requires sound { AreSoundFiles self.old.machine.files
+            (drives_seen BlockDriver-box devices.old) }
         ensures call { (now : TimePacket)
             → LoadsOnEach call now (vec_len devices.old.terms) p.0 result
             (machine_seen BlockDriver-box self.old.machine devices.old)
@@ -93,11 +96,11 @@ impl Kernel {
     fn begin(&mut self, p: Pid, call: LoadCall, end: CallEnd)
         requires process { p.0 < 33 }
         requires begins { call ≡ LoadCall.Fork → end ≡ CallEnd.Done
-            → IsLiving self.old.machine.processes.table p.0
-            × MayBegin self.old.machine.files.io
+            → IsLiving self.old.machine.processes.table p.0 × MayBegin self.old.machine.files.io
             (number_in_a self.old.machine.processes.table p.0) }
         ensures files { (views : List DriveView) (files : Files)
-            → StandsFor self.old.machine.files views files → StandsFor self.new.machine.files views
+            → RepresentsFiles self.old.machine.files views files
+            → RepresentsFiles self.new.machine.files views
             (files_begun call end files p.0 (number_in_a self.old.machine.processes.table p.0)) }
         ensures processes { self.new.machine.processes ≡ self.old.machine.processes }
         ensures clock { self.new.clock ≡ self.old.clock }

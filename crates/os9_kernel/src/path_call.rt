@@ -1,8 +1,8 @@
 //! Attempts of calls on paths, files and directories.
 
 ghost use Rattle.std.specs.Prelude.{◌≡◌, ◌<◌, ℕ, true, Some, IfSome, vec_len};
-ghost use Rattle.proc_calls.specs.Telling.{LivesOn, WaitsFor};
-ghost use Rattle.proc_state.specs.Tie.{Represents};
+ghost use Rattle.proc_calls.specs.Telling.{LivesOn, SchedulesWait};
+ghost use Rattle.proc_state.specs.Tie.{RepresentsProcesses};
 ghost use Rattle.proc_model.specs.Processes.{Processes};
 ghost use Rattle.call_dispatch.specs.Dates.{sets_date as sets_date_model};
 ghost use Rattle.file_state.specs.Attempt.{records_settled};
@@ -11,13 +11,13 @@ ghost use Rattle.file_rules.specs.Attempts.{asker_of};
 ghost use Rattle.file_rules.specs.Files.{Asker};
 ghost use Rattle.io_model.specs.Path.{ArePaths};
 ghost use Rattle.os9_base.specs.declared.registers.TimePacket.{TimePacket as TimePacketModel};
-ghost use Rattle.os9_kernel.specs.Calls.{HasEvent};
+ghost use Rattle.os9_kernel.specs.Calls.{KernelEvent};
 ghost use Rattle.os9_kernel.specs.Causes.{awaited};
-ghost use Rattle.os9_kernel.specs.Telling.{TellsEnd};
+ghost use Rattle.os9_kernel.specs.Telling.{ReportsCallEnd};
 ghost use Rattle.os9_kernel.specs.Marks.{Concerns, named_cause};
 ghost use Rattle.os9_kernel.specs.Next.{DoesNext};
 ghost use Rattle.os9_kernel.specs.Outside.{OnDevices, outside};
-ghost use Rattle.os9_kernel.specs.Tie.{Stands, executed, pending};
+ghost use Rattle.os9_kernel.specs.Tie.{RepresentsSomeState, executed, pending};
 ghost use Rattle.os9_sched.specs.declared.member.Cause.{Cause as CauseModel};
 ghost use Rattle.proc_model.specs.Records.{IsLiving};
 ghost use Rattle.time_rules.specs.Clock.{IsClock, IsNow};
@@ -61,8 +61,10 @@ impl Kernel {
     ) -> EventEnd
         requires next { DoesNext self.old p (Act.Attempt code) }
         requires serves { service_of code ≡ on_paths call }
-        requires stands { Stands self.old (outside BlockDriver-box CharDriver-box devices.old) }
-        ensures event { OnDevices (λ before after. HasEvent self.old self.new before after result)
+        requires stands { RepresentsSomeState self.old
+            (outside BlockDriver-box CharDriver-box devices.old) }
+        ensures event { OnDevices
+            (λ before after. KernelEvent self.old self.new before after result)
             BlockDriver-box CharDriver-box devices.old devices.new }
         ensures progress { result ≡ EventEnd.Ran → pending self.new < pending self.old }
         ensures executed { executed self.new ≡ executed self.old }
@@ -90,7 +92,7 @@ impl Kernel {
             → Concerns result q cause }
         ensures own { (cause : CauseModel) → Concerns result p.0 cause }
         ensures waiters { (m : Processes) (now : TimePacketModel) (q : ℕ) (cause : CauseModel)
-            → Represents self.now.machine.processes m
+            → RepresentsProcesses self.now.machine.processes m
             → named_cause self.now.machine.files.io p.0 (number_in_model call (asker_of m p.0 now))
             ≡ Some cause
             → Concerns result q cause }
@@ -112,7 +114,7 @@ impl Kernel {
     fn cause_named(&self, p: Pid, call: PathCall) -> Option<Cause>
         requires { IsLiving self.now.machine.processes.table p.0 }
         ensures is { (m : Processes) (now : TimePacketModel)
-            → Represents self.now.machine.processes m
+            → RepresentsProcesses self.now.machine.processes m
             → result ≡ named_cause self.now.machine.files.io p.0
             (number_in_model call (asker_of m p.0 now)) }
     {
@@ -139,10 +141,11 @@ impl Kernel {
     pub(crate) fn tell_end(&mut self, p: Pid, end: CallEnd)
         requires lives { LivesOn end self.old.machine.processes.table p.0 }
         requires process { p.0 < 33 }
-        ensures told { TellsEnd end p.0 self.old.machine.processes self.new.machine.processes }
+        ensures told { ReportsCallEnd end p.0 self.old.machine.processes
+            self.new.machine.processes }
         ensures lives { LivesOn end self.new.machine.processes.table p.0 }
         ensures waits { end ≡ CallEnd.Wait → IfSome (awaited self.old.machine.files p.0) (λ wait.
-            WaitsFor self.old.machine.processes self.new.machine.processes p.0 wait) }
+            SchedulesWait self.old.machine.processes self.new.machine.processes p.0 wait) }
         ensures files { self.new.machine.files ≡ self.old.machine.files }
         ensures known { self.new.known ≡ self.old.known }
         ensures clock { self.new.clock ≡ self.old.clock }

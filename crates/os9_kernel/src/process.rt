@@ -1,8 +1,8 @@
 //! Changes of one process: it begins a call, its call is broken off, or it ends.
 
 ghost use Rattle.std.specs.Prelude.{◌≡◌, ◌<◌, List, Some};
-ghost use Rattle.proc_model.specs.Records.{IsLiving, record_at};
-ghost use Rattle.proc_state.specs.Tie.{Represents};
+ghost use Rattle.proc_model.specs.Records.{IsLiving};
+ghost use Rattle.proc_state.specs.Tie.{RepresentsProcesses};
 ghost use Rattle.proc_model.specs.End.{ended};
 ghost use Rattle.proc_model.specs.Processes.{Processes, own_at, with_own};
 ghost use Rattle.io_model.specs.Waiting.{interrupted_count};
@@ -10,9 +10,9 @@ ghost use Rattle.file_drives.specs.Drives.{DriveView};
 ghost use Rattle.file_rules.specs.Files.{Files};
 ghost use Rattle.file_rules.specs.Locking.{files_interrupted};
 ghost use Rattle.file_rules.specs.Processes.{files_ended};
-ghost use Rattle.file_state.specs.Tie.{StandsFor};
+ghost use Rattle.file_state.specs.Tie.{RepresentsFiles};
 ghost use Rattle.machine_model.specs.ProcessEvent.{broken_off};
-ghost use Rattle.os9_kernel.specs.Tie.{executed};
+ghost use Rattle.os9_kernel.specs.Tie.{executed, signal_at};
 
 use crate::kernel::Kernel;
 use os9_base::registers::{Pid, Regs};
@@ -22,8 +22,8 @@ impl Kernel {
     /// A process has executed a system call with this code.
     pub(crate) fn begin_call(&mut self, p: Pid, code: u8)
         requires lives { IsLiving self.old.machine.processes.table p.0 }
-        ensures tied { (m : Processes) → Represents self.old.machine.processes m
-            → Represents self.new.machine.processes
+        ensures tied { (m : Processes) → RepresentsProcesses self.old.machine.processes m
+            → RepresentsProcesses self.new.machine.processes
             (with_own m p.0 (record (own_at m p.0) { call = Some code })) }
         ensures chosen { self.new.chosen ≡ self.old.chosen }
         ensures records { self.new.machine.processes.table ≡ self.old.machine.processes.table }
@@ -47,17 +47,17 @@ impl Kernel {
     /// does: Y has what the call has moved, if it answers a count.
     pub(crate) fn break_off(&mut self, p: Pid)
         requires lives { IsLiving self.old.machine.processes.table p.0 }
-        ensures tied { (m : Processes) → Represents self.old.machine.processes m → Represents
-            self.new.machine.processes (broken_off m p.0 (interrupted_count
-            self.old.machine.files.io p.0)) }
-        ensures files { (views : List DriveView) (files : Files) → StandsFor self.old.machine.files
-            views files → StandsFor self.new.machine.files views (files_interrupted files p.0) }
+        ensures tied { (m : Processes) → RepresentsProcesses self.old.machine.processes m
+            → RepresentsProcesses self.new.machine.processes
+            (broken_off m p.0 (interrupted_count self.old.machine.files.io p.0)) }
+        ensures files { (views : List DriveView) (files : Files)
+            → RepresentsFiles self.old.machine.files views files
+            → RepresentsFiles self.new.machine.files views (files_interrupted files p.0) }
         ensures clock { self.new.clock ≡ self.old.clock }
         ensures chosen { self.new.chosen ≡ self.old.chosen }
         ensures lives { IsLiving self.new.machine.processes.table p.0 }
         ensures executed { executed self.new ≡ executed self.old }
-        ensures signal { (record_at self.new.machine.processes.table p.0).signal ≡ (record_at
-            self.old.machine.processes.table p.0).signal }
+        ensures signal { signal_at self.new p.0 ≡ signal_at self.old p.0 }
     {
         let regs = self.machine.processes.regs(p);
         if let Some(y) = self.machine.files.interrupt(p) {
@@ -69,11 +69,11 @@ impl Kernel {
     pub(crate) fn end_process(&mut self, p: Pid, status: u8)
         requires lives { IsLiving self.old.machine.processes.table p.0 }
         requires process { p.0 < 33 }
-        ensures tied { (m : Processes) → Represents self.old.machine.processes m
-            → Represents self.new.machine.processes (ended m p.0 status) }
+        ensures tied { (m : Processes) → RepresentsProcesses self.old.machine.processes m
+            → RepresentsProcesses self.new.machine.processes (ended m p.0 status) }
         ensures files { (views : List DriveView) (files : Files)
-            → StandsFor self.old.machine.files views files
-            → StandsFor self.new.machine.files views (files_ended files p.0) }
+            → RepresentsFiles self.old.machine.files views files
+            → RepresentsFiles self.new.machine.files views (files_ended files p.0) }
         ensures clock { self.new.clock ≡ self.old.clock }
         ensures chosen { self.new.chosen ≡ self.old.chosen }
         ensures executed { executed self.new ≡ executed self.old }

@@ -2,7 +2,7 @@
 
 ghost use Rattle.std.specs.Prelude.{◌≡◌, ◌<◌};
 ghost use Rattle.machine_model.specs.Services.{on_time, service_of};
-ghost use Rattle.os9_kernel.specs.Calls.{HasEvent};
+ghost use Rattle.os9_kernel.specs.Calls.{KernelEvent};
 ghost use Rattle.os9_kernel.specs.Next.{DoesNext};
 ghost use Rattle.os9_kernel.specs.Outside.{Outside};
 ghost use Rattle.os9_kernel.specs.Tie.{HasState, executed, pending};
@@ -21,7 +21,7 @@ impl Kernel {
         requires next { DoesNext self.old p (Act.Attempt code) }
         requires serves { service_of code ≡ on_time call }
         requires stands { HasState self.old }
-        ensures event { (devices : Outside) → HasEvent self.old self.new devices devices result }
+        ensures event { (devices : Outside) → KernelEvent self.old self.new devices devices result }
         ensures progress { result ≡ EventEnd.Ran → pending self.new < pending self.old }
         ensures executed { executed self.new ≡ executed self.old }
     {

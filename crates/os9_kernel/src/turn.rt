@@ -3,8 +3,8 @@
 ghost use Rattle.std.specs.Prelude.{◌≡◌, ◌<◌, ◌+◌, ◌^◌, vec_len};
 ghost use Rattle.os9_kernel.specs.Next.{HasTurn};
 ghost use Rattle.os9_kernel.specs.Outside.{OnDevices, outside};
-ghost use Rattle.os9_kernel.specs.Slice.{HasEvents};
-ghost use Rattle.os9_kernel.specs.Tie.{IsGoing, Stands, executed};
+ghost use Rattle.os9_kernel.specs.Slice.{KernelEvents};
+ghost use Rattle.os9_kernel.specs.Tie.{IsGoing, RepresentsSomeState, executed};
 
 use crate::act::Act;
 use crate::kernel::Kernel;
@@ -26,9 +26,10 @@ impl Kernel {
     /// The events of the chosen process until the slice is over.
     pub(crate) fn events(&mut self, n: u32, devices: &mut Devices) -> SliceEnd
         requires going { IsGoing self.old }
-        requires stands { Stands self.old (outside BlockDriver-box CharDriver-box devices.old) }
+        requires stands { RepresentsSomeState self.old
+            (outside BlockDriver-box CharDriver-box devices.old) }
         ensures events { OnDevices
-            (λ before after. HasEvents n self.old self.new before after result)
+            (λ before after. KernelEvents n self.old self.new before after result)
             BlockDriver-box CharDriver-box devices.old devices.new }
         ensures terminals { vec_len devices.new.terms ≡ vec_len devices.old.terms }
         ensures drives { vec_len devices.new.drives ≡ vec_len devices.old.drives }
@@ -50,7 +51,8 @@ impl Kernel {
     /// kernel is not used any more.
     pub fn turn(&mut self, left: u32, devices: &mut Devices) -> Turn
         requires going { IsGoing self.old }
-        requires stands { Stands self.old (outside BlockDriver-box CharDriver-box devices.old) }
+        requires stands { RepresentsSomeState self.old
+            (outside BlockDriver-box CharDriver-box devices.old) }
         requires some { 0 < left }
         ensures turn { OnDevices (λ old new. HasTurn left self.old self.new old new result)
             BlockDriver-box CharDriver-box devices.old devices.new }

@@ -1,14 +1,14 @@
--- Files and output streams of a host, as far as they can be observed.
+-- HostFiles and output streams of a host, as far as they can be observed.
 use Rattle.std.specs.Prelude.{◌≡◌, ℕ, ◌⊎◌, ⊤, Option, Some, None, unwrap_or, Result, Ok, Err, List, [], ◌∷◌, ◌++◌, take}
 use Rattle.os9_outer.specs.declared.host.HostFault.{HostFault}
 use Rattle.os9_outer.specs.declared.host.HostFault.TheVariants.{Failed, OutOfMemory}
 
 -- the bytes under each name, or nothing if there is no file of that name
-abbrev pub Files : Type 0
-Files = List ℕ → Option (List ℕ)
+abbrev pub HostFiles : Type 0
+HostFiles = List ℕ → Option (List ℕ)
 
 -- the result of a read of a name: its bytes, or none if there is no such file
-abbrev pub file_contents : Files → List ℕ → List ℕ
+abbrev pub file_contents : HostFiles → List ℕ → List ℕ
 file_contents files name = unwrap_or (files name) []
 
 -- the fact holds if the call returned `Failed`
@@ -24,7 +24,7 @@ UnlessFailed (Err Failed) fact = ⊤
 UnlessFailed (Err OutOfMemory) fact = fact
 
 -- the fact holds of the files before and after, if they are observed; what is not observed stays so
-abbrev pub IfObserved : (Files → Files → Type 0) → Option Files → Option Files → Type 0
+abbrev pub IfObserved : (HostFiles → HostFiles → Type 0) → Option HostFiles → Option HostFiles → Type 0
 IfObserved fact None now = now ≡ None
 IfObserved fact (Some before) None = ⊥
 IfObserved fact (Some before) (Some now) = fact before now

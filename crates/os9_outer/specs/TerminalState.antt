@@ -30,7 +30,7 @@ ChangesOneTerminal change n before now =
     × change old new
 
 -- these bytes were put on the terminal, as far as the result says
-pub record Puts {Value : Type 0} (answer : Result Value PutFault) (bytes : List ℕ) (old new : TerminalState)
+pub record PutsOnTerminal {Value : Type 0} (answer : Result Value PutFault) (bytes : List ℕ) (old new : TerminalState)
     : Type 0 where
   pub all : OnOk answer (new.put ≡ stream_with old.put bytes)
   pub part : OnErr answer (GainsPart old.put bytes new.put)

@@ -1,6 +1,6 @@
 ghost use Rattle.std.specs.Prelude.{◌≡◌, ◌<◌, ◌≤◌, ◌++◌, ◌∷◌, [], None, Some, IfOk, IfSome, IfNone, length, replicate, slice_set, vec_len};
 ghost use Rattle.std.specs.Vec.{vec_capacity};
-ghost use Rattle.proc_model.specs.Records.{IsProcess};
+ghost use Rattle.proc_model.specs.Records.{IsProcessNumber};
 ghost use Rattle.proc_model.specs.Turns as model;
 ghost use Rattle.proc_model.specs.Turns.{without_turn};
 ghost use Rattle.os9_sched.specs.Members.{member_of, member_at, IsMember, HasWait, HasNoWait, IsNextWaiting, NobodyWaits};
@@ -54,7 +54,7 @@ impl Sched {
     /// Adds a process, which is active without a cause. It counts as chosen now, and its age is its
     /// priority.
     pub fn add(&mut self, p: Pid, priority: u8)
-        requires process { IsProcess p.0 }
+        requires process { IsProcessNumber p.0 }
         requires apart { member_of self.old.members p.0 ≡ None }
         ensures schedule { self.new ≡ after_add self.old p priority }
         ensures shape { IsSchedule self.new }

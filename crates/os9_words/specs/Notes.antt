@@ -27,7 +27,7 @@ abbrev pub having_written : List (List ℕ) → Notes → Notes
 having_written names notes = record notes { written = notes.written ++ names }
 
 -- files of these names were requested for reading, each once and in this order, and nothing else is noted
-pub record HasRead (names : List (List ℕ)) (before after : Notes) : Type 0 where
+pub record HasReadFiles (names : List (List ℕ)) (before after : Notes) : Type 0 where
   pub is : after ≡ having_read names before
 
 -- the same for files requested for writing

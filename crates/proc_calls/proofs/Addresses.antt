@@ -2,7 +2,7 @@
 use Rattle.std.proofs.Common.{◌≡◌, ℕ, zero, suc, ◌<◌, Bool, true, false, Option, Some, None, List, [], ◌∷◌, length, position, get_or, option_map, refl, sym, ap, ◌∙◌, arith}
 use Rattle.std.proofs.lemmas.List.{length-map}
 use Rattle.guest_memory.specs.declared.memory.Memory.{Memory}
-use Rattle.guest_memory.specs.Tie.{Represents}
+use Rattle.guest_memory.specs.Tie.{RepresentsMemory}
 use Rattle.proc_model.specs.Memory.{MemoryState}
 use Rattle.proc_model.specs.ModuleList.{ModuleEntry, module_entry_at, passes}
 use Rattle.guest_memory.specs.Renaming.{renamed_entry}
@@ -14,7 +14,7 @@ entry_or [] k = refl
 entry_or (place ∷ entries) zero = refl
 entry_or (place ∷ entries) (suc k) = entry_or entries k
 
-module _ (memory : Memory) (m : MemoryState) (tied : Represents memory m) (test : ModuleEntry → Bool) where
+module _ (memory : Memory) (m : MemoryState) (tied : RepresentsMemory memory m) (test : ModuleEntry → Bool) where
   entries-64 : length m.modules ≡ 64
   entries-64 = ap (λ (s : MemoryState). length s.modules) tied.is ∙ length-map memory.dir (option_map (renamed_entry tied.number)) ∙ memory.sound.numbers
 

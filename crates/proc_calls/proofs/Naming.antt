@@ -9,7 +9,7 @@ use Rattle.os9_base.specs.UserNames.{name_at}
 use Rattle.proc_model.specs.CallResult.{CallResult, refused, needs, reads_name}
 use Rattle.proc_model.specs.Processes.{Processes, regs_at, cells_at}
 use Rattle.proc_model.specs.ModuleLinks.{Entered, entered_at}
-use Rattle.proc_calls.specs.Named.{name_or_error, names_module, IsNamed, IsUnnamed}
+use Rattle.proc_calls.specs.Named.{name_or_error, names_module, IsModuleNamed, IsUnnamed}
 
 -- there is no name
 pub named-error : (m : Processes) (p number : ℕ) → name_or_error (name_at (cells_at m p) (regs_at m p).x) ≡ Err number → IsUnnamed m p number
@@ -41,7 +41,7 @@ module _ (m : Processes) (p : ℕ) (name : List ℕ) (read : name_or_error (name
   named-nothing none next = goes_on next ∙ ap (λ (found : Option ℕ). needs (option_and_then (entered_at m.memory.modules) found) E_MNF (λ found. next name found)) none
 
   -- a module is found
-  pub named-found : (number : ℕ) → found_module m.memory.modules name (regs_at m p).a ≡ Some number → IsNamed m p number (length name)
+  pub named-found : (number : ℕ) → found_module m.memory.modules name (regs_at m p).a ≡ Some number → IsModuleNamed m p number (length name)
   named-found number found =
       let there = found_entry _ m.memory.modules number found in record {
         name = name;

@@ -8,7 +8,7 @@ use Rattle.std.proofs.lemmas.List.Quantifiers.{position-Some}
 use Rattle.os9_sched.specs.Schedule.{Schedule}
 use Rattle.proc_model.specs.declared.record.Record.{Record}
 use Rattle.proc_model.specs.Ends.{is_ended_child, ended_child, after_reap}
-use Rattle.proc_model.specs.Records.{AreRecords, IsLiving, is_living, is_waiting, has_ended, record_at, record_of, record_passes, with_record, without_record}
+use Rattle.proc_model.specs.Records.{AreProcessRecords, IsLiving, is_living, is_waiting, has_ended, record_at, record_of, record_passes, with_record, without_record}
 use Rattle.proc_model.specs.Signals.{wake_signal, send_fault, with_signal, with_sent, after_send}
 use Rattle.proc_state.specs.Sound.{AreTurns}
 
@@ -16,7 +16,7 @@ use Rattle.proc_state.specs.Sound.{AreTurns}
 pub within : (records : List (Option Record)) (p : ℕ) → IsLiving records p → p < length records
 within records p lives = grind (arith, nat_tests, common_steps, get_or_past records p None)
 
-pub process_within : (records : List (Option Record)) (p : ℕ) → AreRecords records → IsLiving records p → p < 33
+pub process_within : (records : List (Option Record)) (p : ℕ) → AreProcessRecords records → IsLiving records p → p < 33
 process_within records p are lives =
     let inside : p < length records = within records p lives in
     omega (arith, are.places)

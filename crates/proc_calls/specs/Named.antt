@@ -25,7 +25,7 @@ names_module m p next =
     (λ name. needs (found_entry m.memory.modules name (regs_at m p).a) E_MNF (λ found. next name found))
 
 -- a call goes on with this module, whose name has this length
-pub record IsNamed (m : Processes) (p number count : ℕ) : Type 0 where
+pub record IsModuleNamed (m : Processes) (p number count : ℕ) : Type 0 where
   pub name : List ℕ
   pub entry : ModuleEntry
   pub long : length name ≡ count

@@ -17,12 +17,12 @@ LivesOn Ended records p = Unit {0}
 LivesOn NoMemory records p = Unit {0}
 
 -- no record has changed, and no turn
-pub record KeepsTurns (before after : ProcState) : Type 0 where
+pub record KeepsRecordsAndTurns (before after : ProcState) : Type 0 where
   pub table : after.table ≡ before.table
   pub sched : after.sched ≡ before.sched
 
 -- A process waits for this: the scheduler has it from the first waiting attempt on, and a further attempt does not
 -- change it.
-pub record WaitsFor (before after : ProcState) (p : ℕ) (wait : Waiting) : Type 0 where
+pub record SchedulesWait (before after : ProcState) (p : ℕ) (wait : Waiting) : Type 0 where
   pub first : is_waiting (record_at before.table p).life ≡ false → after.sched ≡ after_wait before.sched p wait
   pub further : is_waiting (record_at before.table p).life ≡ true → after.sched ≡ before.sched

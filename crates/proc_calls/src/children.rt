@@ -6,8 +6,8 @@ ghost use Rattle.proc_model.specs.Records.{IsLiving, record_at};
 ghost use Rattle.proc_model.specs.Exit.{f_exit as f_exit_model};
 ghost use Rattle.proc_model.specs.Processes.{Processes, with_records};
 ghost use Rattle.proc_model.specs.Wait.{f_wait as f_wait_model};
-ghost use Rattle.proc_state.specs.Tie.{Represents, Comes};
-ghost use Rattle.proc_calls.specs.Telling.{KeepsTurns};
+ghost use Rattle.proc_state.specs.Tie.{RepresentsProcesses, ReturnsCallEnd};
+ghost use Rattle.proc_calls.specs.Telling.{KeepsRecordsAndTurns};
 
 use os9_base::call::CallEnd;
 use os9_base::errors::E_NOCHLD;
@@ -24,10 +24,10 @@ use proc_state::state::ProcState;
 /// E$NoChld exactly if the process has no children.
 pub fn f_wait(s: &mut ProcState, p: Pid) -> CallEnd
     requires lives { IsLiving s.old.table p.0 }
-    ensures call { (m : Processes) → Represents s.old m
-        → Comes m p.0 (f_wait_model m p.0) result s.new }
+    ensures call { (m : Processes) → RepresentsProcesses s.old m
+        → ReturnsCallEnd m p.0 (f_wait_model m p.0) result s.new }
     ensures lives { IsLiving s.new.table p.0 }
-    ensures still { result ≡ CallEnd.Wait → KeepsTurns s.old s.new }
+    ensures still { result ≡ CallEnd.Wait → KeepsRecordsAndTurns s.old s.new }
 {
     let regs = s.regs(p);
     match reap(s, p) {
@@ -46,8 +46,8 @@ pub fn f_wait(s: &mut ProcState, p: Pid) -> CallEnd
 /// may wait for the status.
 pub fn f_exit(s: &mut ProcState, p: Pid) -> CallEnd
     requires lives { IsLiving s.old.table p.0 }
-    ensures call { (m : Processes) → Represents s.old m
-        → Comes m p.0 (f_exit_model m p.0) result s.new }
+    ensures call { (m : Processes) → RepresentsProcesses s.old m
+        → ReturnsCallEnd m p.0 (f_exit_model m p.0) result s.new }
 {
     let regs = s.regs(p);
     s.end(p, regs.b);
@@ -58,11 +58,11 @@ pub fn f_exit(s: &mut ProcState, p: Pid) -> CallEnd
 fn reap(s: &mut ProcState, p: Pid) -> Result<(Pid, u8), Reap>
     requires lives { IsLiving s.old.table p.0 }
     ensures child { result ≡ reaped s.old.table p.0 }
-    ensures tied { (m : Processes) → Represents s.old m
-        → Represents s.new (with_records m (after_reap s.old.table p.0)) }
+    ensures tied { (m : Processes) → RepresentsProcesses s.old m
+        → RepresentsProcesses s.new (with_records m (after_reap s.old.table p.0)) }
     ensures record { record_at s.new.table p.0 ≡ record_at s.old.table p.0 }
     ensures lives { IsLiving s.new.table p.0 }
-    ensures none { OnErr result (KeepsTurns s.old s.new) }
+    ensures none { OnErr result (KeepsRecordsAndTurns s.old s.new) }
 {
     s.table.reap(p)
 }

@@ -11,7 +11,7 @@ ghost use Rattle.proc_model.specs.Crc as model;
 ghost use Rattle.proc_model.specs.Crc.{crc_bytes};
 ghost use Rattle.proc_model.specs.Processes.{Processes, cells_at, with_memory};
 ghost use Rattle.proc_model.specs.UserBytes.{user_bytes};
-ghost use Rattle.proc_state.specs.Tie.{Represents, Answers, Comes, IsSame};
+ghost use Rattle.proc_state.specs.Tie.{RepresentsProcesses, ReturnsDoneOrRefused, ReturnsCallEnd, AreProcessesSame};
 
 use byteorder::{BigEndian, ByteOrder};
 use module_format::crc_step;
@@ -33,8 +33,8 @@ const CRC_BYTES: u16 = 3;
 /// then.
 pub fn f_crc(s: &mut ProcState, p: Pid) -> CallEnd
     requires lives { IsLiving s.old.table p.0 }
-    ensures call { (m : Processes) → Represents s.old m
-        → Comes m p.0 (model.f_crc m p.0) result s.new }
+    ensures call { (m : Processes) → RepresentsProcesses s.old m
+        → ReturnsCallEnd m p.0 (model.f_crc m p.0) result s.new }
     ensures lives { IsLiving s.new.table p.0 }
 {
     call_end(crc(s, p))
@@ -42,8 +42,8 @@ pub fn f_crc(s: &mut ProcState, p: Pid) -> CallEnd
 
 fn crc(s: &mut ProcState, p: Pid) -> Result<(), u8>
     requires lives { IsLiving s.old.table p.0 }
-    ensures call { (m : Processes) → Represents s.old m
-        → Answers m (model.f_crc m p.0) result s.new }
+    ensures call { (m : Processes) → RepresentsProcesses s.old m
+        → ReturnsDoneOrRefused m (model.f_crc m p.0) result s.new }
     ensures lives { IsLiving s.new.table p.0 }
 {
     let regs = s.regs(p);
@@ -61,11 +61,11 @@ fn crc(s: &mut ProcState, p: Pid) -> Result<(), u8>
 /// slot or past `FFFF`.
 fn read_register(s: &mut ProcState, p: Pid, at: u16) -> Option<u32>
     requires { p.0 < 33 }
-    ensures read { (m : Processes) → Represents s.old m
+    ensures read { (m : Processes) → RepresentsProcesses s.old m
         → result ≡ option_map (big_number 3) (user_bytes (cells_at m p.0) at 3) }
     ensures below { IfSome result (λ register. register < 16777216) }
     ensures fits { OnSome result (FitsIn (cells_of s.new.memory p.0) at 3) }
-    ensures same { IsSame s.old s.new }
+    ensures same { AreProcessesSame s.old s.new }
 {
     if s.read_bytes(p, at, CRC_BYTES) {
         Some(register_in(&s.buffer[..CRC_BYTES as usize]))
@@ -88,10 +88,10 @@ fn register_in(accumulator: &[u8]) -> u32
 fn continue_crc(s: &mut ProcState, p: Pid, at: u16, count: u16, register: u32) -> Option<u32>
     requires process { p.0 < 33 }
     requires below { register < 16777216 }
-    ensures read { (m : Processes) → Represents s.old m
+    ensures read { (m : Processes) → RepresentsProcesses s.old m
         → result ≡ option_map (crc_register register) (user_bytes (cells_at m p.0) at count) }
     ensures below { IfSome result (λ after. after < 16777216) }
-    ensures same { IsSame s.old s.new }
+    ensures same { AreProcessesSame s.old s.new }
 {
     if s.read_bytes(p, at, count) {
         Some(crc_step(register, &s.buffer[..count as usize]))
@@ -105,8 +105,8 @@ fn store_register(s: &mut ProcState, p: Pid, at: u16, register: u32)
     requires process { p.0 < 33 }
     requires below { register < 16777216 }
     requires fits { FitsIn (cells_of s.old.memory p.0) at 3 }
-    ensures tied { (m : Processes) → Represents s.old m
-        → Represents s.new (with_memory m (stored m.memory p.0 at (crc_bytes register))) }
+    ensures tied { (m : Processes) → RepresentsProcesses s.old m
+        → RepresentsProcesses s.new (with_memory m (stored m.memory p.0 at (crc_bytes register))) }
     ensures records { s.new.table ≡ s.old.table }
 {
     let high = (register / 65536) as u8;

@@ -11,7 +11,7 @@ ghost use Rattle.proc_model.specs.Processes.{Processes, no_own, own_at, regs_at,
 ghost use Rattle.proc_model.specs.Link.{f_link as f_link_model, Mapped, mapped_group, links_at, with_links_at, linked_regs as linked_regs_model};
 ghost use Rattle.proc_model.specs.ModuleLinks.{header_address};
 ghost use Rattle.proc_model.specs.UnLoad.{f_unload as f_unload_model};
-ghost use Rattle.proc_state.specs.Tie.{Represents, Answers, Comes};
+ghost use Rattle.proc_state.specs.Tie.{RepresentsProcesses, ReturnsDoneOrRefused, ReturnsCallEnd};
 ghost use Rattle.proc_calls.specs.Linked.{entered_as, links_entered};
 ghost use Rattle.proc_calls.specs.Named.{slot_in, link_slot as link_slot_model};
 
@@ -37,8 +37,8 @@ use proc_state::state::ProcState;
 /// exactly if too few slots are left in the map, or no links. Nothing has changed then.
 pub fn f_link(s: &mut ProcState, p: Pid) -> CallEnd
     requires lives { IsLiving s.old.table p.0 }
-    ensures call { (m : Processes) → Represents s.old m
-        → Comes m p.0 (f_link_model m p.0) result s.new }
+    ensures call { (m : Processes) → RepresentsProcesses s.old m
+        → ReturnsCallEnd m p.0 (f_link_model m p.0) result s.new }
     ensures lives { IsLiving s.new.table p.0 }
 {
     call_end(link(s, p))
@@ -46,8 +46,8 @@ pub fn f_link(s: &mut ProcState, p: Pid) -> CallEnd
 
 fn link(s: &mut ProcState, p: Pid) -> Result<(), u8>
     requires lives { IsLiving s.old.table p.0 }
-    ensures call { (m : Processes) → Represents s.old m
-        → Answers m (f_link_model m p.0) result s.new }
+    ensures call { (m : Processes) → RepresentsProcesses s.old m
+        → ReturnsDoneOrRefused m (f_link_model m p.0) result s.new }
     ensures lives { IsLiving s.new.table p.0 }
 {
     let (id, count) = named_module(s, p)?;
@@ -63,9 +63,9 @@ fn link(s: &mut ProcState, p: Pid) -> Result<(), u8>
 pub fn link_module(s: &mut ProcState, p: Pid, id: ModId, count: u32) -> Result<(), u8>
     requires lives { IsLiving s.old.table p.0 }
     requires entered { IsSome (module_entry_at (modules_of s.old.memory) id.0) }
-    ensures call { (m : Processes) (entry : ModuleEntry) → Represents s.old m
+    ensures call { (m : Processes) (entry : ModuleEntry) → RepresentsProcesses s.old m
         → module_entry_at m.memory.modules id.0 ≡ Some entry
-        → Answers m (links_entered m p.0 (entered_as id entry) count) result s.new }
+        → ReturnsDoneOrRefused m (links_entered m p.0 (entered_as id entry) count) result s.new }
     ensures lives { IsLiving s.new.table p.0 }
 {
     let Some(slot) = link_slot(s, p, id) else {
@@ -84,7 +84,7 @@ pub fn link_module(s: &mut ProcState, p: Pid, id: ModId, count: u32) -> Result<(
 fn link_slot(s: &ProcState, p: Pid, id: ModId) -> Option<u8>
     requires process { p.0 < 33 }
     requires entered { IsSome (module_entry_at (modules_of s.now.memory) id.0) }
-    ensures slot { (m : Processes) → Represents s.now m
+    ensures slot { (m : Processes) → RepresentsProcesses s.now m
         → ForSome (module_entry_at m.memory.modules id.0)
         (λ entry. result ≡ link_slot_model m p.0 entry) }
     ensures links { OnSome result (IsSomeAnd (module_entry_at (modules_of s.now.memory) id.0)
@@ -109,7 +109,7 @@ fn link_slot(s: &ProcState, p: Pid, id: ModId) -> Option<u8>
 fn group_place(s: &ProcState, p: Pid, id: ModId) -> Option<u8>
     requires process { p.0 < 33 }
     requires entered { IsSome (module_entry_at (modules_of s.now.memory) id.0) }
-    ensures slot { (m : Processes) → Represents s.now m
+    ensures slot { (m : Processes) → RepresentsProcesses s.now m
         → result ≡ slot_in m p.0 (group_at m.memory id.0) }
     ensures fits { IfSome result (λ slot. slot + group_len s.now.memory id.0 ≤ 8) }
     ensures some { 1 ≤ group_len s.now.memory id.0 }
@@ -124,9 +124,9 @@ fn group_place(s: &ProcState, p: Pid, id: ModId) -> Option<u8>
 fn map_group(s: &mut ProcState, p: Pid, id: ModId)
     requires process { p.0 < 33 }
     requires entered { IsSome (module_entry_at (modules_of s.old.memory) id.0) }
-    ensures tied { (m : Processes) (mapped : Mapped) → Represents s.old m
+    ensures tied { (m : Processes) (mapped : Mapped) → RepresentsProcesses s.old m
         → mapped_group m.memory p.0 (group_at m.memory id.0) ≡ Some mapped
-        → Represents s.new (with_memory m mapped.memory) }
+        → RepresentsProcesses s.new (with_memory m mapped.memory) }
     ensures modules { modules_of s.new.memory ≡ modules_of s.old.memory }
     ensures own { s.new.own ≡ s.old.own }
     ensures records { s.new.table ≡ s.old.table }
@@ -143,8 +143,8 @@ fn add_link(s: &mut ProcState, p: Pid, id: ModId, slot: u8)
     requires links { IsSomeAnd (module_entry_at (modules_of s.old.memory) id.0)
         (λ entry. entry.links < 65535) }
     requires own { slice_index (slice_index_or s.old.own.items p.0 no_own).links slot < 65535 }
-    ensures tied { (m : Processes) → Represents s.old m
-        → Represents s.new (with_own (with_memory m (linked m.memory id.0)) p.0
+    ensures tied { (m : Processes) → RepresentsProcesses s.old m
+        → RepresentsProcesses s.new (with_own (with_memory m (linked m.memory id.0)) p.0
         (with_links_at (own_at m p.0) slot (links_at (own_at m p.0) slot + 1))) }
     ensures records { s.new.table ≡ s.old.table }
 {
@@ -183,8 +183,8 @@ fn linked_regs(regs: Regs, info: ModuleInfo, slot: u8, count: u32) -> Regs
 /// changed then.
 pub fn f_unload(s: &mut ProcState, p: Pid) -> CallEnd
     requires lives { IsLiving s.old.table p.0 }
-    ensures call { (m : Processes) → Represents s.old m
-        → Comes m p.0 (f_unload_model m p.0) result s.new }
+    ensures call { (m : Processes) → RepresentsProcesses s.old m
+        → ReturnsCallEnd m p.0 (f_unload_model m p.0) result s.new }
     ensures lives { IsLiving s.new.table p.0 }
 {
     call_end(unload(s, p))
@@ -192,8 +192,8 @@ pub fn f_unload(s: &mut ProcState, p: Pid) -> CallEnd
 
 fn unload(s: &mut ProcState, p: Pid) -> Result<(), u8>
     requires lives { IsLiving s.old.table p.0 }
-    ensures call { (m : Processes) → Represents s.old m
-        → Answers m (f_unload_model m p.0) result s.new }
+    ensures call { (m : Processes) → RepresentsProcesses s.old m
+        → ReturnsDoneOrRefused m (f_unload_model m p.0) result s.new }
     ensures lives { IsLiving s.new.table p.0 }
 {
     let (id, _) = named_module(s, p)?;

@@ -6,7 +6,7 @@ ghost use Rattle.proc_model.specs.CallResult.{changes, done};
 ghost use Rattle.proc_model.specs.Processes.{Processes, with_memory};
 ghost use Rattle.proc_model.specs.Mem.{f_mem as f_mem_model, size_regs as size_regs_model, resized, sets_pages, with_size};
 ghost use Rattle.proc_model.specs.UserBytes.{d_of as d_of_model};
-ghost use Rattle.proc_state.specs.Tie.{Represents, Answers, Comes};
+ghost use Rattle.proc_state.specs.Tie.{RepresentsProcesses, ReturnsDoneOrRefused, ReturnsCallEnd};
 
 use crate::errors::memory_error;
 use crate::program::{MOST_PAGES, PAGE_BYTES, blocks_of_pages};
@@ -27,8 +27,8 @@ use proc_state::state::ProcState;
 /// named, else E$NoRAM exactly if too few blocks are free. Nothing has changed then.
 pub fn f_mem(s: &mut ProcState, p: Pid) -> CallEnd
     requires lives { IsLiving s.old.table p.0 }
-    ensures call { (m : Processes) → Represents s.old m
-        → Comes m p.0 (f_mem_model m p.0) result s.new }
+    ensures call { (m : Processes) → RepresentsProcesses s.old m
+        → ReturnsCallEnd m p.0 (f_mem_model m p.0) result s.new }
     ensures lives { IsLiving s.new.table p.0 }
 {
     call_end(mem(s, p))
@@ -36,8 +36,8 @@ pub fn f_mem(s: &mut ProcState, p: Pid) -> CallEnd
 
 fn mem(s: &mut ProcState, p: Pid) -> Result<(), u8>
     requires lives { IsLiving s.old.table p.0 }
-    ensures call { (m : Processes) → Represents s.old m
-        → Answers m (f_mem_model m p.0) result s.new }
+    ensures call { (m : Processes) → RepresentsProcesses s.old m
+        → ReturnsDoneOrRefused m (f_mem_model m p.0) result s.new }
     ensures lives { IsLiving s.new.table p.0 }
 {
     let regs = s.regs(p);
@@ -54,8 +54,8 @@ fn mem(s: &mut ProcState, p: Pid) -> Result<(), u8>
 fn set_pages(s: &mut ProcState, p: Pid, pages: u16) -> Result<(), u8>
     requires lives { IsLiving s.old.table p.0 }
     requires some { pages ≤ 256 }
-    ensures call { (m : Processes) → Represents s.old m
-        → Answers m (sets_pages m p.0 pages) result s.new }
+    ensures call { (m : Processes) → RepresentsProcesses s.old m
+        → ReturnsDoneOrRefused m (sets_pages m p.0 pages) result s.new }
     ensures lives { IsLiving s.new.table p.0 }
 {
     if pages > MOST_PAGES {
@@ -69,8 +69,8 @@ fn set_pages(s: &mut ProcState, p: Pid, pages: u16) -> Result<(), u8>
 /// The data area gets this number of blocks.
 fn resize(s: &mut ProcState, p: Pid, count: u8) -> Result<(), u8>
     requires lives { IsLiving s.old.table p.0 }
-    ensures call { (m : Processes) → Represents s.old m
-        → Answers m (changes (resized m.memory p.0 count)
+    ensures call { (m : Processes) → RepresentsProcesses s.old m
+        → ReturnsDoneOrRefused m (changes (resized m.memory p.0 count)
         (λ memory. done (with_memory m memory))) result s.new }
     ensures records { s.new.table ≡ s.old.table }
 {
@@ -89,8 +89,8 @@ fn resize(s: &mut ProcState, p: Pid, count: u8) -> Result<(), u8>
 /// Sets the recorded size of the data area in bytes, and returns it in the registers.
 fn set_size(s: &mut ProcState, p: Pid, size: u16)
     requires lives { IsLiving s.old.table p.0 }
-    ensures tied { (m : Processes) → Represents s.old m
-        → Represents s.new (with_size m p.0 size m.memory) }
+    ensures tied { (m : Processes) → RepresentsProcesses s.old m
+        → RepresentsProcesses s.new (with_size m p.0 size m.memory) }
     ensures lives { IsLiving s.new.table p.0 }
 {
     let own = s.own(p);

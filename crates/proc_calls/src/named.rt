@@ -6,8 +6,8 @@ ghost use Rattle.proc_model.specs.ModuleList.{module_entry_at};
 ghost use Rattle.proc_model.specs.Records.{IsLiving};
 ghost use Rattle.os9_base.specs.UserNames.{name_at};
 ghost use Rattle.proc_model.specs.Processes.{Processes, cells_at};
-ghost use Rattle.proc_state.specs.Tie.{Represents, IsSame};
-ghost use Rattle.proc_calls.specs.Named.{name_or_error, IsNamed, IsUnnamed};
+ghost use Rattle.proc_state.specs.Tie.{RepresentsProcesses, AreProcessesSame};
+ghost use Rattle.proc_calls.specs.Named.{name_or_error, IsModuleNamed, IsUnnamed};
 
 use os9_base::errors::{E_BNAM, E_BPADDR, E_MNF};
 use os9_base::name::Name;
@@ -23,11 +23,11 @@ use proc_state::state::ProcState;
 /// E$BPAddr and E$BNam of the name, else E$MNF exactly if no such module is entered.
 pub fn named_module(s: &mut ProcState, p: Pid) -> Result<(ModId, u8), u8>
     requires lives { IsLiving s.old.table p.0 }
-    ensures named { (m : Processes) → Represents s.old m
-        → MatchResult result (λ found. IsNamed m p.0 found.0.0 found.1) (IsUnnamed m p.0) }
+    ensures named { (m : Processes) → RepresentsProcesses s.old m
+        → MatchResult result (λ found. IsModuleNamed m p.0 found.0.0 found.1) (IsUnnamed m p.0) }
     ensures entered { IfOk result
         (λ found. IsSome (module_entry_at (modules_of s.new.memory) found.0.0)) }
-    ensures same { IsSame s.old s.new }
+    ensures same { AreProcessesSame s.old s.new }
 {
     let regs = s.regs(p);
     let name = read_name(s, p, regs.x)?;
@@ -40,9 +40,9 @@ pub fn named_module(s: &mut ProcState, p: Pid) -> Result<(ModId, u8), u8>
 /// The name at an address of a process.
 fn read_name(s: &mut ProcState, p: Pid, at: u16) -> Result<Name, u8>
     requires { p.0 < 33 }
-    ensures name { (m : Processes) → Represents s.old m
+    ensures name { (m : Processes) → RepresentsProcesses s.old m
         → result ≡ name_or_error (name_at (cells_at m p.0) at) }
-    ensures same { IsSame s.old s.new }
+    ensures same { AreProcessesSame s.old s.new }
 {
     match s.memory.name(p, at) {
         Ok(name) => Ok(name),

@@ -7,7 +7,7 @@ ghost use Rattle.proc_model.specs.CmpNam.{f_cmpnam as f_cmpnam_model, agrees as 
 ghost use Rattle.proc_model.specs.Processes.{Processes, cells_at, regs_at};
 ghost use Rattle.proc_model.specs.PrsNam.{f_prsnam as f_prsnam_model, past_slash as past_slash_model, parses_name as parses_name_model};
 ghost use Rattle.guest_memory.specs.Tie.{cells_of};
-ghost use Rattle.proc_state.specs.Tie.{Represents, Comes};
+ghost use Rattle.proc_state.specs.Tie.{RepresentsProcesses, ReturnsCallEnd};
 
 use guest_memory::memory::Memory;
 use os9_base::call::CallEnd;
@@ -26,8 +26,8 @@ use proc_state::state::ProcState;
 /// exactly if the bytes are not a name; else E$BPAddr exactly if the byte at Y is missing.
 pub fn f_prsnam(s: &mut ProcState, p: Pid) -> CallEnd
     requires lives { IsLiving s.old.table p.0 }
-    ensures call { (m : Processes) → Represents s.old m
-        → Comes m p.0 (f_prsnam_model m p.0) result s.new }
+    ensures call { (m : Processes) → RepresentsProcesses s.old m
+        → ReturnsCallEnd m p.0 (f_prsnam_model m p.0) result s.new }
     ensures lives { IsLiving s.new.table p.0 }
 {
     let regs = s.table.regs(p);
@@ -40,8 +40,8 @@ pub fn f_prsnam(s: &mut ProcState, p: Pid) -> CallEnd
 /// Parses the name at this address.
 fn parses_name(s: &mut ProcState, p: Pid, first: u16) -> CallEnd
     requires lives { IsLiving s.old.table p.0 }
-    ensures call { (m : Processes) → Represents s.old m
-        → Comes m p.0 (parses_name_model m p.0 first) result s.new }
+    ensures call { (m : Processes) → RepresentsProcesses s.old m
+        → ReturnsCallEnd m p.0 (parses_name_model m p.0 first) result s.new }
     ensures lives { IsLiving s.new.table p.0 }
 {
     let regs = s.table.regs(p);
@@ -85,8 +85,8 @@ fn past_slash(memory: &Memory, p: Pid, at: u16) -> Option<u16>
 /// exactly if the names differ or B is 0.
 pub fn f_cmpnam(s: &mut ProcState, p: Pid) -> CallEnd
     requires lives { IsLiving s.old.table p.0 }
-    ensures call { (m : Processes) → Represents s.old m
-        → Comes m p.0 (f_cmpnam_model m p.0) result s.new }
+    ensures call { (m : Processes) → RepresentsProcesses s.old m
+        → ReturnsCallEnd m p.0 (f_cmpnam_model m p.0) result s.new }
     ensures lives { IsLiving s.new.table p.0 }
 {
     match compares(s, p) {
@@ -100,7 +100,7 @@ pub fn f_cmpnam(s: &mut ProcState, p: Pid) -> CallEnd
 /// is missing.
 fn compares(s: &ProcState, p: Pid) -> Option<bool>
     requires lives { IsLiving s.now.table p.0 }
-    ensures { (m : Processes) → Represents s.now m → result
+    ensures { (m : Processes) → RepresentsProcesses s.now m → result
         ≡ same_names_model (cells_at m p.0) (regs_at m p.0).x (regs_at m p.0).y (regs_at m p.0).b }
 {
     let regs = s.table.regs(p);

@@ -7,7 +7,7 @@ ghost use Rattle.proc_model.specs.Processes.{Processes};
 ghost use Rattle.proc_model.specs.Id.{f_id as f_id_model};
 ghost use Rattle.proc_model.specs.SPrior.{f_sprior as f_sprior_model};
 ghost use Rattle.proc_model.specs.SUser.{f_suser as f_suser_model};
-ghost use Rattle.proc_state.specs.Tie.{Represents, Comes};
+ghost use Rattle.proc_state.specs.Tie.{RepresentsProcesses, ReturnsCallEnd};
 
 use os9_base::call::CallEnd;
 use os9_base::errors::E_IPRCID;
@@ -23,8 +23,8 @@ const SUPERUSER: u16 = 0;
 /// A and the user in Y.
 pub fn f_id(s: &mut ProcState, p: Pid) -> CallEnd
     requires lives { IsLiving s.old.table p.0 }
-    ensures call { (m : Processes) → Represents s.old m
-        → Comes m p.0 (f_id_model m p.0) result s.new }
+    ensures call { (m : Processes) → RepresentsProcesses s.old m
+        → ReturnsCallEnd m p.0 (f_id_model m p.0) result s.new }
     ensures lives { IsLiving s.new.table p.0 }
 {
     let user = s.table.user(p);
@@ -41,8 +41,8 @@ pub fn f_id(s: &mut ProcState, p: Pid) -> CallEnd
 /// F$SUser: gives the process to the user in Y (System Programmer's Manual, F$SUser).
 pub fn f_suser(s: &mut ProcState, p: Pid) -> CallEnd
     requires lives { IsLiving s.old.table p.0 }
-    ensures call { (m : Processes) → Represents s.old m
-        → Comes m p.0 (f_suser_model m p.0) result s.new }
+    ensures call { (m : Processes) → RepresentsProcesses s.old m
+        → ReturnsCallEnd m p.0 (f_suser_model m p.0) result s.new }
     ensures lives { IsLiving s.new.table p.0 }
 {
     let regs = s.regs(p);
@@ -59,8 +59,8 @@ pub fn f_suser(s: &mut ProcState, p: Pid) -> CallEnd
 /// user 0.
 pub fn f_sprior(s: &mut ProcState, p: Pid) -> CallEnd
     requires lives { IsLiving s.old.table p.0 }
-    ensures call { (m : Processes) → Represents s.old m
-        → Comes m p.0 (f_sprior_model m p.0) result s.new }
+    ensures call { (m : Processes) → RepresentsProcesses s.old m
+        → ReturnsCallEnd m p.0 (f_sprior_model m p.0) result s.new }
     ensures lives { IsLiving s.new.table p.0 }
 {
     let regs = s.regs(p);

@@ -5,7 +5,7 @@ ghost use Rattle.proc_model.specs.Records.{IsLiving};
 ghost use Rattle.proc_model.specs.Processes.{Processes};
 ghost use Rattle.proc_model.specs.Icpt.{f_icpt as f_icpt_model};
 ghost use Rattle.proc_model.specs.Send.{f_send as f_send_model, is_call as is_call_model, woken};
-ghost use Rattle.proc_state.specs.Tie.{Represents, Comes};
+ghost use Rattle.proc_state.specs.Tie.{RepresentsProcesses, ReturnsCallEnd};
 
 use os9_base::call::CallEnd;
 use os9_base::calls::F_SLEEP;
@@ -23,8 +23,8 @@ const WAKE: u8 = 1;
 /// intercept.
 pub fn f_icpt(s: &mut ProcState, p: Pid) -> CallEnd
     requires lives { IsLiving s.old.table p.0 }
-    ensures call { (m : Processes) → Represents s.old m
-        → Comes m p.0 (f_icpt_model m p.0) result s.new }
+    ensures call { (m : Processes) → RepresentsProcesses s.old m
+        → ReturnsCallEnd m p.0 (f_icpt_model m p.0) result s.new }
     ensures lives { IsLiving s.new.table p.0 }
 {
     let regs = s.regs(p);
@@ -42,8 +42,8 @@ pub fn f_icpt(s: &mut ProcState, p: Pid) -> CallEnd
 /// else E$USigP exactly if a signal is already pending there and the one sent is not 1.
 pub fn f_send(s: &mut ProcState, p: Pid) -> CallEnd
     requires lives { IsLiving s.old.table p.0 }
-    ensures call { (m : Processes) → Represents s.old m
-        → Comes m p.0 (f_send_model m p.0) result s.new }
+    ensures call { (m : Processes) → RepresentsProcesses s.old m
+        → ReturnsCallEnd m p.0 (f_send_model m p.0) result s.new }
     ensures lives { IsLiving s.new.table p.0 }
 {
     let regs = s.regs(p);
@@ -64,7 +64,8 @@ pub fn f_send(s: &mut ProcState, p: Pid) -> CallEnd
 /// Records a wake for a process, if it sleeps.
 fn wake(s: &mut ProcState, p: Pid)
     requires lives { IsLiving s.old.table p.0 }
-    ensures tied { (m : Processes) → Represents s.old m → Represents s.new (woken m p.0) }
+    ensures tied { (m : Processes) → RepresentsProcesses s.old m
+        → RepresentsProcesses s.new (woken m p.0) }
     ensures records { s.new.table ≡ s.old.table }
 {
     let waits = matches!(s.table.life(p), Some(Life::Waiting));

@@ -6,8 +6,8 @@ ghost use Rattle.proc_model.specs.Records.{IsLiving};
 ghost use Rattle.proc_model.specs.Processes.{Processes};
 ghost use Rattle.proc_model.specs.Sleep as model;
 ghost use Rattle.os9_base.specs.declared.limits.TheConstants.{LAST_TICK};
-ghost use Rattle.proc_state.specs.Tie.{Represents, Comes};
-ghost use Rattle.proc_calls.specs.Telling.{KeepsTurns};
+ghost use Rattle.proc_state.specs.Tie.{RepresentsProcesses, ReturnsCallEnd};
+ghost use Rattle.proc_calls.specs.Telling.{KeepsRecordsAndTurns};
 
 use os9_base::call::CallEnd;
 use os9_base::registers::{Pid, Regs};
@@ -20,10 +20,10 @@ use proc_state::state::ProcState;
 /// ever.
 pub fn f_sleep(s: &mut ProcState, p: Pid) -> CallEnd
     requires lives { IsLiving s.old.table p.0 }
-    ensures call { (m : Processes) → Represents s.old m
-        → Comes m p.0 (model.f_sleep m p.0) result s.new }
+    ensures call { (m : Processes) → RepresentsProcesses s.old m
+        → ReturnsCallEnd m p.0 (model.f_sleep m p.0) result s.new }
     ensures lives { IsLiving s.new.table p.0 }
-    ensures still { result ≡ CallEnd.Wait → KeepsTurns s.old s.new }
+    ensures still { result ≡ CallEnd.Wait → KeepsRecordsAndTurns s.old s.new }
 {
     match s.table.life(p) {
         Some(Life::Waiting) => sleeps_on(s, p),
@@ -34,10 +34,10 @@ pub fn f_sleep(s: &mut ProcState, p: Pid) -> CallEnd
 /// The first attempt: the sleep begins.
 fn falls_asleep(s: &mut ProcState, p: Pid) -> CallEnd
     requires lives { IsLiving s.old.table p.0 }
-    ensures call { (m : Processes) → Represents s.old m
-        → Comes m p.0 (model.falls_asleep m p.0) result s.new }
+    ensures call { (m : Processes) → RepresentsProcesses s.old m
+        → ReturnsCallEnd m p.0 (model.falls_asleep m p.0) result s.new }
     ensures lives { IsLiving s.new.table p.0 }
-    ensures still { result ≡ CallEnd.Wait → KeepsTurns s.old s.new }
+    ensures still { result ≡ CallEnd.Wait → KeepsRecordsAndTurns s.old s.new }
 {
     let until = sleep_end(s.tick, s.table.regs(p).x);
     let own = s.own(p);
@@ -55,10 +55,10 @@ fn falls_asleep(s: &mut ProcState, p: Pid) -> CallEnd
 /// A further attempt.
 fn sleeps_on(s: &mut ProcState, p: Pid) -> CallEnd
     requires lives { IsLiving s.old.table p.0 }
-    ensures call { (m : Processes) → Represents s.old m
-        → Comes m p.0 (model.sleeps_on m p.0) result s.new }
+    ensures call { (m : Processes) → RepresentsProcesses s.old m
+        → ReturnsCallEnd m p.0 (model.sleeps_on m p.0) result s.new }
     ensures lives { IsLiving s.new.table p.0 }
-    ensures still { result ≡ CallEnd.Wait → KeepsTurns s.old s.new }
+    ensures still { result ≡ CallEnd.Wait → KeepsRecordsAndTurns s.old s.new }
 {
     let regs = s.table.regs(p);
     let own = s.own(p);

@@ -5,8 +5,8 @@ ghost use Rattle.os9_base.specs.declared.call.CallEnd.TheVariants.{Wait};
 ghost use Rattle.proc_model.specs.Attempts.{after_attempt, attempt_end};
 ghost use Rattle.proc_model.specs.CallResult.{CallResult};
 ghost use Rattle.proc_model.specs.Processes.{Processes};
-ghost use Rattle.proc_state.specs.Tie.{Represents, Comes};
-ghost use Rattle.proc_calls.specs.Telling.{LivesOn, WaitsFor};
+ghost use Rattle.proc_state.specs.Tie.{RepresentsProcesses, ReturnsCallEnd};
+ghost use Rattle.proc_calls.specs.Telling.{LivesOn, SchedulesWait};
 
 use os9_base::call::CallEnd;
 use os9_base::registers::Pid;
@@ -17,12 +17,12 @@ use proc_state::state::ProcState;
 /// for `wait` if the call waits.
 pub fn tell(s: &mut ProcState, p: Pid, end: CallEnd, wait: Waiting)
     requires lives { LivesOn end s.old.table p.0 }
-    ensures told { (m : Processes) (call : CallResult) → Comes m p.0 call end s.old
-        → Represents s.new (after_attempt m p.0 call) }
-    ensures same { (m : Processes) (call : CallResult) → Comes m p.0 call end s.old
+    ensures told { (m : Processes) (call : CallResult) → ReturnsCallEnd m p.0 call end s.old
+        → RepresentsProcesses s.new (after_attempt m p.0 call) }
+    ensures same { (m : Processes) (call : CallResult) → ReturnsCallEnd m p.0 call end s.old
         → end ≡ attempt_end call }
     ensures lives { LivesOn end s.new.table p.0 }
-    ensures waits { end ≡ Wait → WaitsFor s.old s.new p.0 wait }
+    ensures waits { end ≡ Wait → SchedulesWait s.old s.new p.0 wait }
     ensures own { end ≡ Wait → s.new.own ≡ s.old.own }
 {
     match end {

@@ -11,7 +11,7 @@ ghost use Rattle.proc_model.specs.Records.{IsLiving};
 ghost use Rattle.proc_model.specs.Processes.{Processes, with_memory};
 ghost use Rattle.proc_model.specs.ModuleLinks.{is_at as is_at_model};
 ghost use Rattle.proc_model.specs.UnLink.{f_unlink as f_unlink_model, with_links_left, without_group_link};
-ghost use Rattle.proc_state.specs.Tie.{Represents, Answers, Comes};
+ghost use Rattle.proc_state.specs.Tie.{RepresentsProcesses, ReturnsDoneOrRefused, ReturnsCallEnd};
 
 use os9_base::call::CallEnd;
 use os9_base::errors::E_MNF;
@@ -29,8 +29,8 @@ use proc_state::state::ProcState;
 /// E$MNF exactly if the map has no entered module at this address. Nothing has changed then.
 pub fn f_unlink(s: &mut ProcState, p: Pid) -> CallEnd
     requires lives { IsLiving s.old.table p.0 }
-    ensures call { (m : Processes) → Represents s.old m
-        → Comes m p.0 (f_unlink_model m p.0) result s.new }
+    ensures call { (m : Processes) → RepresentsProcesses s.old m
+        → ReturnsCallEnd m p.0 (f_unlink_model m p.0) result s.new }
     ensures lives { IsLiving s.new.table p.0 }
 {
     call_end(unlink(s, p))
@@ -38,8 +38,8 @@ pub fn f_unlink(s: &mut ProcState, p: Pid) -> CallEnd
 
 fn unlink(s: &mut ProcState, p: Pid) -> Result<(), u8>
     requires lives { IsLiving s.old.table p.0 }
-    ensures call { (m : Processes) → Represents s.old m
-        → Answers m (f_unlink_model m p.0) result s.new }
+    ensures call { (m : Processes) → RepresentsProcesses s.old m
+        → ReturnsDoneOrRefused m (f_unlink_model m p.0) result s.new }
     ensures lives { IsLiving s.new.table p.0 }
 {
     let regs = s.regs(p);
@@ -54,7 +54,7 @@ fn unlink(s: &mut ProcState, p: Pid) -> Result<(), u8>
 /// The entered module that the map of a process has at an address.
 fn module_at(s: &ProcState, p: Pid, address: u16) -> Option<ModId>
     requires { p.0 < 33 }
-    ensures found { (m : Processes) → Represents s.now m → option_map (λ id. id.0) result
+    ensures found { (m : Processes) → RepresentsProcesses s.now m → option_map (λ id. id.0) result
         ≡ position (passes (is_at_model (map_at m.memory p.0) address)) m.memory.modules }
     ensures entered { IfSome result
         (λ id. IsSome (module_entry_at (modules_of s.now.memory) id.0)) }
@@ -70,7 +70,7 @@ fn module_at(s: &ProcState, p: Pid, address: u16) -> Option<ModId>
 /// Is there a module of this number, and does the map of a process have it at this address?
 fn is_at(s: &ProcState, p: Pid, id: ModId, address: u16) -> bool
     requires { p.0 < 33 }
-    ensures tied { (m : Processes) → Represents s.now m → result
+    ensures tied { (m : Processes) → RepresentsProcesses s.now m → result
         ≡ passes (is_at_model (map_at m.memory p.0) address)
         (module_entry_at m.memory.modules id.0) }
     ensures entered { OnTrue result (IsSome (module_entry_at (modules_of s.now.memory) id.0)) }
@@ -89,7 +89,7 @@ fn is_at(s: &ProcState, p: Pid, id: ModId, address: u16) -> bool
 fn drop_group_link(s: &mut ProcState, p: Pid, id: ModId)
     requires process { p.0 < 33 }
     requires entered { IsSome (module_entry_at (modules_of s.old.memory) id.0) }
-    ensures tied { (m : Processes) → Represents s.old m → Represents s.new
+    ensures tied { (m : Processes) → RepresentsProcesses s.old m → RepresentsProcesses s.new
         (option_map_or (without_group_link m p.0 (group_at m.memory id.0))
         (group_slot (map_at m.memory p.0) (group_at m.memory id.0)) m) }
     ensures modules { modules_of s.new.memory ≡ modules_of s.old.memory }
@@ -105,8 +105,8 @@ fn drop_link_at(s: &mut ProcState, p: Pid, id: ModId, slot: u8)
     requires process { p.0 < 33 }
     requires slot { slot < 8 }
     requires entered { IsSome (module_entry_at (modules_of s.old.memory) id.0) }
-    ensures tied { (m : Processes) → Represents s.old m
-        → Represents s.new (without_group_link m p.0 (group_at m.memory id.0) slot) }
+    ensures tied { (m : Processes) → RepresentsProcesses s.old m
+        → RepresentsProcesses s.new (without_group_link m p.0 (group_at m.memory id.0) slot) }
     ensures modules { modules_of s.new.memory ≡ modules_of s.old.memory }
     ensures records { s.new.table ≡ s.old.table }
 {
@@ -122,7 +122,7 @@ fn drop_link_at(s: &mut ProcState, p: Pid, id: ModId, slot: u8)
 fn keep_linked(s: &mut ProcState, p: Pid, id: ModId, left: u16)
     requires process { p.0 < 33 }
     requires entered { IsSome (module_entry_at (modules_of s.old.memory) id.0) }
-    ensures tied { (m : Processes) → Represents s.old m → Represents s.new
+    ensures tied { (m : Processes) → RepresentsProcesses s.old m → RepresentsProcesses s.new
         (with_memory m (with_links_left m.memory p.0 (group_at m.memory id.0) left)) }
     ensures modules { modules_of s.new.memory ≡ modules_of s.old.memory }
     ensures own { s.new.own ≡ s.old.own }

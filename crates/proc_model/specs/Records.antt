@@ -10,8 +10,8 @@ use Rattle.proc_model.specs.declared.record.Life.TheVariants.{Running, Waiting, 
 use Rattle.proc_model.specs.declared.record.Record.{Record}
 
 -- the numbers that processes have
-abbrev pub IsProcess : ℕ → Type 0
-IsProcess p = (2 ≤ p) × (p < PROCESS_PLACES)
+abbrev pub IsProcessNumber : ℕ → Type 0
+IsProcessNumber p = (2 ≤ p) × (p < PROCESS_PLACES)
 
 -- registers that are all 0
 abbrev pub zero_regs : Regs
@@ -62,7 +62,7 @@ abbrev pub IsLiving : List (Option Record) → ℕ → Type 0
 IsLiving records p = is_living records p ≡ true
 
 -- what always holds of the list of records: it has 33 places, and there are no processes 0 and 1
-pub record AreRecords (records : List (Option Record)) : Type 0 where
+pub record AreProcessRecords (records : List (Option Record)) : Type 0 where
   pub places : length records ≡ PROCESS_PLACES
   pub from_two : (p : ℕ) → p < 2 → record_of records p ≡ None
 

@@ -60,7 +60,7 @@ abbrev pub highest_free_run : {Block : Type 0} → Slots Block → ℕ → Optio
 highest_free_run slots len = highest_run_upto slots len 8
 
 -- a group begins at a slot: its length is kept there, and its blocks are in the slots from there on
-pub record BeginsAt (slots : Slots ℕ) (group : List ℕ) (first : ℕ) : Type 0 where
+pub record HasGroupAt (slots : Slots ℕ) (group : List ℕ) (first : ℕ) : Type 0 where
   pub length_is : group_of slots first ≡ Some (length group)
   pub stands : (k : ℕ) → k < length group → block_at slots (first + k) ≡ Some (slice_index group k)
 

@@ -13,7 +13,7 @@ use Rattle.proc_model.specs.Choice.{choice_of, turn_priority}
 use Rattle.proc_model.specs.Processes.{Processes}
 use Rattle.proc_model.specs.Ready.{is_ready}
 use Rattle.proc_state.specs.Sound.{AreTurns}
-use Rattle.proc_state.specs.Tie.{Represents}
+use Rattle.proc_state.specs.Tie.{RepresentsProcesses}
 use Rattle.proc_state.specs.declared.state.ProcState.{ProcState}
 use Rattle.proc_state.specs.Active.{AreActiveAt}
 
@@ -30,7 +30,7 @@ priority_of records schedule turns p = by_life (is_living records p) refl
     by_life true is = turns.priorities p is
     by_life false is = no_priority (member_of schedule.members p) (turns.members p ∙ is)
 
-module _ (io : ℕ → Bool) (state : ProcState) (m : Processes) (active : AreActiveAt io m.tick state) (tied : Represents state m) where
+module _ (io : ℕ → Bool) (state : ProcState) (m : Processes) (active : AreActiveAt io m.tick state) (tied : RepresentsProcesses state m) where
   order_is : state.sched.order ≡ m.order
   order_is = λ i. (sym tied.is i).order
 

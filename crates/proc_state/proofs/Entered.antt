@@ -5,7 +5,7 @@ use Rattle.std.proofs.lemmas.List.{get_or_past}
 use Rattle.std.proofs.lemmas.Bool.{cases_lt}
 use Rattle.block_pool.specs.Blocks.{IsLive}
 use Rattle.guest_memory.specs.declared.memory.Memory.{Memory}
-use Rattle.guest_memory.specs.Tie.{Represents, modules_of}
+use Rattle.guest_memory.specs.Tie.{RepresentsMemory, modules_of}
 use Rattle.guest_memory.specs.Memory.{memory_of}
 use Rattle.guest_memory.specs.Renaming.{renamed_entry}
 use Rattle.guest_memory.proofs.Directory.{entry_at-renamed}
@@ -23,7 +23,7 @@ abbrev own_objects : Memory → MemoryState
 own_objects memory = memory_of (λ block. block) memory.pool memory.maps.items memory.dir memory.pool.bytes
 
 -- each memory represents one
-pub represented : (memory : Memory) → Represents memory (own_objects memory)
+pub represented : (memory : Memory) → RepresentsMemory memory (own_objects memory)
 represented memory = record {
   number = λ block. block;
   objects = memory.pool.bytes;
@@ -43,15 +43,15 @@ is_some-map f None = refl
 is_some-map f (Some a) = refl
 
 -- the modules that are entered are those of the machine
-pub entered-tied : (memory : Memory) (m : MemoryState) → Represents memory m → (n : ℕ) → is_some (module_entry_at m.modules n) ≡ is_some (module_entry_at (modules_of memory) n)
+pub entered-tied : (memory : Memory) (m : MemoryState) → RepresentsMemory memory m → (n : ℕ) → is_some (module_entry_at m.modules n) ≡ is_some (module_entry_at (modules_of memory) n)
 entered-tied memory m tied n =
     ap (λ (s : MemoryState). is_some (module_entry_at s.modules n)) tied.is
     ∙ ap is_some (entry_at-renamed tied.number memory.dir n)
     ∙ is_some-map (renamed_entry tied.number) (module_entry_at memory.dir n)
 
 -- a change that leaves the module directory leaves the modules that are entered
-pub entered-kept : (old new : Memory) (change : MemoryState → MemoryState) → ((m : MemoryState) → Represents old m
-    → Represents new (change m)) → ((m : MemoryState) → (change m).modules ≡ m.modules) → (n : ℕ)
+pub entered-kept : (old new : Memory) (change : MemoryState → MemoryState) → ((m : MemoryState) → RepresentsMemory old m
+    → RepresentsMemory new (change m)) → ((m : MemoryState) → (change m).modules ≡ m.modules) → (n : ℕ)
     → is_some (module_entry_at (modules_of new) n) ≡ is_some (module_entry_at (modules_of old) n)
 entered-kept old new change ties keeps n =
     let m = own_objects old in

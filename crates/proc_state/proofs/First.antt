@@ -8,7 +8,7 @@ use Rattle.os9_sched.specs.declared.member.Member.{Member}
 use Rattle.proc_model.specs.ModuleList.{ModuleEntry}
 use Rattle.proc_model.specs.declared.own.Own.{Own}
 use Rattle.proc_model.specs.declared.record.Record.{Record}
-use Rattle.proc_model.specs.Records.{AreRecords, IsLiving, record_passes, has_ended}
+use Rattle.proc_model.specs.Records.{AreProcessRecords, IsLiving, record_passes, has_ended}
 use Rattle.proc_model.specs.Processes.{no_own}
 use Rattle.proc_state.specs.Sound.{AreTurns, ArePrimaries}
 
@@ -25,7 +25,7 @@ has_nothing zero p own at = absurd (none-some own at)
 has_nothing (suc n) zero own at = sym (same_Some no_own own at)
 has_nothing (suc n) (suc p) own at = has_nothing n p own at
 
-pub AreRecords-first : AreRecords (replicate 33 None)
+pub AreRecords-first : AreProcessRecords (replicate 33 None)
 AreRecords-first = record { places = length-replicate {A = Option Record} 33 None; from_two = λ p low. nothing {X = Record} 33 p }
 
 pub AreTurns-first : AreTurns (replicate 33 None) (record { order = []; members = replicate 33 None })

@@ -3,7 +3,7 @@ use Rattle.std.proofs.Common.{◌≡◌, ℕ, ◌<◌, ◌≤◌, Option, None, 
 use Rattle.std.proofs.lemmas.List.{get_or_past}
 use Rattle.std.proofs.lemmas.Bool.{false≢true, cases_lt}
 use Rattle.proc_model.specs.declared.record.Record.{Record}
-use Rattle.proc_model.specs.Records.{IsLiving, IsProcess, AreRecords, record_of, record_passes}
+use Rattle.proc_model.specs.Records.{IsLiving, IsProcessNumber, AreProcessRecords, record_of, record_passes}
 
 -- a process without a record does not live
 no_life : (records : List (Option Record)) (p : ℕ) → record_of records p ≡ None → IsLiving records p → ⊥
@@ -18,7 +18,7 @@ place-living records p lives = within (cases_lt p (length records))
     within (inr past) = absurd (no_life records p (get_or_past {X = Option Record} records p None past) lives)
 
 -- a living process has one of the numbers of processes
-pub IsProcess-living : (records : List (Option Record)) (p : ℕ) → AreRecords records → IsLiving records p → IsProcess p
+pub IsProcess-living : (records : List (Option Record)) (p : ℕ) → AreProcessRecords records → IsLiving records p → IsProcessNumber p
 IsProcess-living records p are lives =
     (from_two (cases_lt p 2), omega (arith, are.places, place-living records p lives))
   where

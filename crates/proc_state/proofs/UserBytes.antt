@@ -3,18 +3,18 @@ use Rattle.std.proofs.Common.{◌≡◌, ℕ, zero, suc, ◌+◌, ◌<◌, ◌�
 use Rattle.std.proofs.Math.Seq.{take-append_seam}
 use Rattle.std.proofs.lemmas.Bool.{cases_lt, cond-true, cond-false, lt-ltb, le-ltb, false≢true}
 use Rattle.std.proofs.lemmas.Option.{none-some}
-use Rattle.os9_base.specs.Cells.{Cells, FitsIn, Holds}
+use Rattle.os9_base.specs.Cells.{Cells, FitsIn, HoldsBytes}
 use Rattle.os9_base.specs.UserNames.{user_cell}
 use Rattle.proc_model.specs.UserBytes.{user_bytes, byte_before}
 use Rattle.guest_memory.specs.declared.memory.Memory.{Memory}
-use Rattle.guest_memory.specs.Tie.{IsSame}
+use Rattle.guest_memory.specs.Tie.{IsMemorySame}
 
 -- a byte that may be used is that of its address
 user_cell-within : (cells : Cells) (at : ℕ) → at < 65536 → user_cell cells at ≡ cells at
 user_cell-within cells at small = cond-true (nat_lt at 65536) (cells at) None (lt-ltb at 65536 small)
 
 -- the bytes of a range
-pub user_bytes-Some : (cells : Cells) (at count : ℕ) (bytes : List ℕ) → length bytes ≡ count → at + count ≤ 65536 → Holds cells at bytes → user_bytes cells at count ≡ Some bytes
+pub user_bytes-Some : (cells : Cells) (at count : ℕ) (bytes : List ℕ) → length bytes ≡ count → at + count ≤ 65536 → HoldsBytes cells at bytes → user_bytes cells at count ≡ Some bytes
 user_bytes-Some cells at zero [] long fits holds = refl
 user_bytes-Some cells at zero (byte ∷ bytes) long fits holds = absurd (omega arith)
 user_bytes-Some cells at (suc count) [] long fits holds = absurd (omega arith)
@@ -86,7 +86,7 @@ pub take-front : (front rest : List ℕ) (count : ℕ) → length front ≡ coun
 take-front front rest count long = ap (λ (n : ℕ). take n (front ++ rest)) (sym long) ∙ take-append_seam front rest
 
 -- memory that is the same twice is the same
-pub same-then : (first middle last : Memory) → IsSame first middle → IsSame middle last → IsSame first last
+pub same-then : (first middle last : Memory) → IsMemorySame first middle → IsMemorySame middle last → IsMemorySame first last
 same-then first middle last one two = record {
   modules = two.modules ∙ one.modules;
   cells = λ process. two.cells process ∙ one.cells process;

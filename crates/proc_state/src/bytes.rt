@@ -6,8 +6,8 @@ ghost use Rattle.os9_base.specs.Cells.{FitsIn};
 ghost use Rattle.proc_model.specs.Processes.{Processes, cells_at};
 ghost use Rattle.proc_model.specs.UserBytes.{user_bytes};
 ghost use Rattle.os9_base.specs.UserLines.{line_at};
-ghost use Rattle.guest_memory.specs.Tie.{IsSame as IsSameMemory, cells_of};
-ghost use Rattle.proc_state.specs.Tie.{Represents, IsSame, bytes_read};
+ghost use Rattle.guest_memory.specs.Tie.{IsMemorySame as IsSameMemory, cells_of};
+ghost use Rattle.proc_state.specs.Tie.{RepresentsProcesses, AreProcessesSame, bytes_read};
 
 use crate::state::ProcState;
 use guest_memory::memory::Memory;
@@ -18,10 +18,10 @@ impl ProcState {
     /// whether each of them is in a named slot and none past `FFFF`.
     pub fn read_bytes(&mut self, p: Pid, at: u16, count: u16) -> bool
         requires { p.0 < 33 }
-        ensures read { (m : Processes) → Represents self.old m
+        ensures read { (m : Processes) → RepresentsProcesses self.old m
             → user_bytes (cells_at m p.0) at count ≡ bytes_read result count self.new.buffer.items }
         ensures fits { OnTrue result (FitsIn (cells_of self.new.memory p.0) at count) }
-        ensures same { IsSame self.old self.new }
+        ensures same { AreProcessesSame self.old self.new }
     {
         read_front(&mut self.memory, p, at, count, &mut self.buffer)
     }
@@ -30,7 +30,7 @@ impl ProcState {
     /// `FFFF`?
     pub fn is_named(&self, p: Pid, at: u16, count: u16) -> bool
         requires { p.0 < 33 }
-        ensures there { (m : Processes) → Represents self.now m
+        ensures there { (m : Processes) → RepresentsProcesses self.now m
             → result ≡ is_some (user_bytes (cells_at m p.0) at count) }
         ensures fits { IsTrue result ↔ FitsIn (cells_of self.now.memory p.0) at count }
     {
@@ -42,11 +42,11 @@ impl ProcState {
     /// one of them is in no named slot or past `FFFF`.
     pub fn read_line(&mut self, p: Pid, at: u16, most: u16) -> Option<usize>
         requires { p.0 < 33 }
-        ensures line { (m : Processes) → Represents self.old m
+        ensures line { (m : Processes) → RepresentsProcesses self.old m
             → line_at (cells_at m p.0) at most
             ≡ option_map (λ count. take count self.new.buffer.items) result }
         ensures short { IfSome result (λ count. count ≤ most) }
-        ensures same { IsSame self.old self.new }
+        ensures same { AreProcessesSame self.old self.new }
     {
         self.memory.read_line(p, at, most, &mut self.buffer)
     }

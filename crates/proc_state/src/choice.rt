@@ -7,7 +7,7 @@ ghost use Rattle.proc_model.specs.Choice.{choice_of, after_choice};
 ghost use Rattle.proc_model.specs.Processes.{Processes};
 ghost use Rattle.proc_model.specs.IoReady.{has_io};
 ghost use Rattle.proc_state.specs.Ready.{ready_at};
-ghost use Rattle.proc_state.specs.Tie.{Represents};
+ghost use Rattle.proc_state.specs.Tie.{RepresentsProcesses};
 ghost use Rattle.proc_state.specs.Active.{AreActiveAt};
 
 use crate::state::ProcState;
@@ -22,9 +22,9 @@ use proc_model::record::Life;
 /// 1 up to 255, and that of each other one is its priority.
 pub fn dispatch(s: &mut ProcState) -> Option<Pid>
     ensures chosen { (io : ℕ → Bool) (m : Processes) → AreActiveAt io m.tick s.old
-        → Represents s.old m → result ≡ (choice_of io m).chosen }
+        → RepresentsProcesses s.old m → result ≡ (choice_of io m).chosen }
     ensures tied { (io : ℕ → Bool) (m : Processes) → AreActiveAt io m.tick s.old
-        → Represents s.old m → Represents s.new (after_choice io m) }
+        → RepresentsProcesses s.old m → RepresentsProcesses s.new (after_choice io m) }
     ensures active { (io : ℕ → Bool) (tick : ℕ) → AreActiveAt io tick s.old
         → AreActiveAt io tick s.new }
     ensures tick { s.new.tick ≡ s.old.tick }
@@ -36,7 +36,7 @@ pub fn dispatch(s: &mut ProcState) -> Option<Pid>
 /// Makes exactly the Ready processes active.
 pub fn settle(s: &mut ProcState, io: &IoReady)
     ensures active { AreActiveAt (has_io io.now) s.new.tick s.new }
-    ensures tied { (m : Processes) → Represents s.old m → Represents s.new m }
+    ensures tied { (m : Processes) → RepresentsProcesses s.old m → RepresentsProcesses s.new m }
 {
     for number in 0..PROCESS_PLACES {
         settle_one(s, Pid(number), io);
@@ -52,7 +52,7 @@ fn settle_one(s: &mut ProcState, p: Pid, io: &IoReady)
         → is_active_in s.new.sched.members q ≡ is_active_in s.old.sched.members q }
     ensures ready { (q : ℕ) → ready_at (has_io io.now) s.new.tick s.new q
         ≡ ready_at (has_io io.now) s.old.tick s.old q }
-    ensures tied { (m : Processes) → Represents s.old m → Represents s.new m }
+    ensures tied { (m : Processes) → RepresentsProcesses s.old m → RepresentsProcesses s.new m }
 {
     if s.table.life(p) != Some(Life::Waiting) {
         return;

@@ -9,7 +9,7 @@ ghost use Rattle.proc_model.specs.Signals.{with_signal};
 ghost use Rattle.proc_model.specs.Delivery.{frame_bytes as frame_bytes_model, interrupted_regs as interrupted_regs_model, interrupted, routine_begun, routine_regs as routine_regs_model, with_frame, delivered, after_delivery};
 ghost use Rattle.proc_model.specs.Processes.{Processes, with_memory, with_records};
 ghost use Rattle.proc_state.specs.Delivery.{delivery_end, frame_place as frame_place_model};
-ghost use Rattle.proc_state.specs.Tie.{Represents, IsSame};
+ghost use Rattle.proc_state.specs.Tie.{RepresentsProcesses, AreProcessesSame};
 
 use crate::frame::{FRAME_BYTES, frame_bytes, refused_regs, routine_regs, stack_top};
 use crate::state::ProcState;
@@ -26,12 +26,12 @@ impl ProcState {
     pub fn deliver(&mut self, p: Pid) -> CallEnd
         requires lives { IsLiving self.old.table p.0 }
         requires pending { IsSome (record_at self.old.table p.0).signal }
-        ensures end { (m : Processes) (signal : ℕ) → Represents self.old m
+        ensures end { (m : Processes) (signal : ℕ) → RepresentsProcesses self.old m
             → (record_at m.records p.0).signal ≡ Some signal
             → result ≡ delivery_end (delivered m p.0 signal) }
-        ensures tied { (m : Processes) (signal : ℕ) → Represents self.old m
+        ensures tied { (m : Processes) (signal : ℕ) → RepresentsProcesses self.old m
             → (record_at m.records p.0).signal ≡ Some signal
-            → Represents self.new (after_delivery m p.0 (delivered m p.0 signal)) }
+            → RepresentsProcesses self.new (after_delivery m p.0 (delivered m p.0 signal)) }
         ensures lives { result ≡ CallEnd.Done → IsLiving self.new.table p.0 }
     {
         let signal = self.table.due_signal(p).unwrap();
@@ -41,10 +41,10 @@ impl ProcState {
     /// Delivers this signal to a process.
     fn deliver_signal(&mut self, p: Pid, signal: u8) -> CallEnd
         requires { IsLiving self.old.table p.0 }
-        ensures end { (m : Processes) → Represents self.old m
+        ensures end { (m : Processes) → RepresentsProcesses self.old m
             → result ≡ delivery_end (delivered m p.0 signal) }
-        ensures tied { (m : Processes) → Represents self.old m
-            → Represents self.new (after_delivery m p.0 (delivered m p.0 signal)) }
+        ensures tied { (m : Processes) → RepresentsProcesses self.old m
+            → RepresentsProcesses self.new (after_delivery m p.0 (delivered m p.0 signal)) }
         ensures lives { result ≡ CallEnd.Done → IsLiving self.new.table p.0 }
     {
         match self.table.handler(p) {
@@ -61,10 +61,11 @@ impl ProcState {
     /// Begins the routine of an intercept with this signal, if the stack has room for a frame.
     fn begin_routine(&mut self, p: Pid, intercept: Intercept, signal: u8) -> CallEnd
         requires { IsLiving self.old.table p.0 }
-        ensures end { (m : Processes) → Represents self.old m
+        ensures end { (m : Processes) → RepresentsProcesses self.old m
             → result ≡ delivery_end (routine_begun m p.0 intercept signal) }
-        ensures tied { (m : Processes) → Represents self.old m
-            → Represents self.new (after_delivery m p.0 (routine_begun m p.0 intercept signal)) }
+        ensures tied { (m : Processes) → RepresentsProcesses self.old m
+            → RepresentsProcesses self.new
+            (after_delivery m p.0 (routine_begun m p.0 intercept signal)) }
         ensures lives { result ≡ CallEnd.Done → IsLiving self.new.table p.0 }
     {
         let stack = self.regs(p).s;
@@ -84,10 +85,10 @@ impl ProcState {
     /// would wrap around, or its bytes are not all in named slots.
     fn frame_place(&mut self, p: Pid, stack: u16) -> Option<u16>
         requires { p.0 < 33 }
-        ensures place { (m : Processes) → Represents self.old m
+        ensures place { (m : Processes) → RepresentsProcesses self.old m
             → result ≡ frame_place_model m p.0 stack }
         ensures fits { IfSome result (λ frame. FitsIn (cells_of self.new.memory p.0) frame 12) }
-        ensures same { IsSame self.old self.new }
+        ensures same { AreProcessesSame self.old self.new }
     {
         let top = stack_top(stack);
         if top < u32::from(FRAME_BYTES) {
@@ -106,8 +107,9 @@ impl ProcState {
     fn push_frame(&mut self, p: Pid, intercept: Intercept, signal: u8, frame: u16)
         requires lives { IsLiving self.old.table p.0 }
         requires fits { FitsIn (cells_of self.old.memory p.0) frame 12 }
-        ensures tied { (m : Processes) → Represents self.old m
-            → Represents self.new (with_frame (interrupted m p.0 signal) p.0 intercept signal
+        ensures tied { (m : Processes) → RepresentsProcesses self.old m
+            → RepresentsProcesses self.new
+            (with_frame (interrupted m p.0 signal) p.0 intercept signal
             (interrupted_regs_model m p.0 signal) frame) }
         ensures lives { IsLiving self.new.table p.0 }
     {
@@ -121,8 +123,8 @@ impl ProcState {
     pub fn store(&mut self, p: Pid, at: u16, bytes: &[u8])
         requires process { p.0 < 33 }
         requires fits { FitsIn (cells_of self.old.memory p.0) at (length bytes.now) }
-        ensures tied { (m : Processes) → Represents self.old m
-            → Represents self.new (with_memory m (stored m.memory p.0 at bytes.now)) }
+        ensures tied { (m : Processes) → RepresentsProcesses self.old m
+            → RepresentsProcesses self.new (with_memory m (stored m.memory p.0 at bytes.now)) }
         ensures records { self.new.table ≡ self.old.table }
     {
         self.memory.store(p, at, bytes);
@@ -132,7 +134,7 @@ impl ProcState {
     /// with the signal.
     fn interrupted_regs(&self, p: Pid, signal: u8) -> Regs
         requires { IsLiving self.now.table p.0 }
-        ensures tied { (m : Processes) → Represents self.now m
+        ensures tied { (m : Processes) → RepresentsProcesses self.now m
             → result ≡ interrupted_regs_model m p.0 signal }
         ensures process { p.0 < 33 }
     {
@@ -148,8 +150,8 @@ impl ProcState {
     /// over.
     fn interrupt(&mut self, p: Pid, signal: u8)
         requires { IsLiving self.old.table p.0 }
-        ensures tied { (m : Processes) → Represents self.old m
-            → Represents self.new (interrupted m p.0 signal) }
+        ensures tied { (m : Processes) → RepresentsProcesses self.old m
+            → RepresentsProcesses self.new (interrupted m p.0 signal) }
         ensures lives { IsLiving self.new.table p.0 }
     {
         let regs = self.interrupted_regs(p, signal);
@@ -163,8 +165,8 @@ impl ProcState {
     /// The signal of a process is not pending any more.
     fn take_signal(&mut self, p: Pid)
         requires { IsLiving self.old.table p.0 }
-        ensures tied { (m : Processes) → Represents self.old m
-            → Represents self.new (with_records m (with_signal m.records p.0 None)) }
+        ensures tied { (m : Processes) → RepresentsProcesses self.old m
+            → RepresentsProcesses self.new (with_records m (with_signal m.records p.0 None)) }
         ensures lives { IsLiving self.new.table p.0 }
     {
         self.table.clear_signal(p);

@@ -8,7 +8,7 @@ ghost use Rattle.proc_model.specs.Records.{IsLiving};
 ghost use Rattle.proc_model.specs.End.{ended, without_process};
 ghost use Rattle.proc_model.specs.Processes.{Processes, no_own};
 ghost use Rattle.proc_model.specs.ModuleLinks.{without_primary_link};
-ghost use Rattle.proc_state.specs.Tie.{Represents};
+ghost use Rattle.proc_state.specs.Tie.{RepresentsProcesses};
 
 use crate::state::ProcState;
 use os9_base::registers::Pid;
@@ -29,8 +29,8 @@ impl ProcState {
     /// whole map, and has no turn any more. Its parent may wait for its status.
     pub fn end(&mut self, p: Pid, status: u8)
         requires { IsLiving self.old.table p.0 }
-        ensures { (m : Processes) → Represents self.old m
-            → Represents self.new (ended m p.0 status) }
+        ensures { (m : Processes) → RepresentsProcesses self.old m
+            → RepresentsProcesses self.new (ended m p.0 status) }
     {
         let own = self.own(p);
         self.unlink_primary(own);
@@ -41,8 +41,8 @@ impl ProcState {
     pub fn unlink_primary(&mut self, own: Own)
         requires { ForSome own.primary
             (λ id. IsSome (module_entry_at (modules_of self.old.memory) id.0)) }
-        ensures tied { (m : Processes) → Represents self.old m
-            → Represents self.new (without_primary_link m own) }
+        ensures tied { (m : Processes) → RepresentsProcesses self.old m
+            → RepresentsProcesses self.new (without_primary_link m own) }
         ensures records { self.new.table ≡ self.old.table }
     {
         if let Some(id) = own.primary {
@@ -53,8 +53,8 @@ impl ProcState {
     /// A process does not live any more, and has nothing.
     fn leave(&mut self, p: Pid, status: u8)
         requires { IsLiving self.old.table p.0 }
-        ensures { (m : Processes) → Represents self.old m
-            → Represents self.new (without_process m p.0 status) }
+        ensures { (m : Processes) → RepresentsProcesses self.old m
+            → RepresentsProcesses self.new (without_process m p.0 status) }
     {
         self.memory.clear(p);
         self.table.exit(p, status);

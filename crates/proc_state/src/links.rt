@@ -6,7 +6,7 @@ ghost use Rattle.proc_model.specs.ModuleList.{module_entry_at};
 ghost use Rattle.proc_model.specs.Processes.{Processes};
 ghost use Rattle.proc_model.specs.ModuleLinks as model;
 ghost use Rattle.proc_model.specs.ModuleLinks.{without_module_link};
-ghost use Rattle.proc_state.specs.Tie.{Represents};
+ghost use Rattle.proc_state.specs.Tie.{RepresentsProcesses};
 
 use crate::state::ProcState;
 use module_dir::Dir;
@@ -18,8 +18,8 @@ impl ProcState {
     /// leaves memory with it, no process has a primary module of the group any more.
     pub fn unlink_module(&mut self, id: ModId)
         requires { IsSome (module_entry_at (modules_of self.old.memory) id.0) }
-        ensures tied { (m : Processes) → Represents self.old m
-            → Represents self.new (without_module_link m id.0) }
+        ensures tied { (m : Processes) → RepresentsProcesses self.old m
+            → RepresentsProcesses self.new (without_module_link m id.0) }
         ensures records { self.new.table ≡ self.old.table }
     {
         self.memory.unlink(id);

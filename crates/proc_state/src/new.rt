@@ -3,7 +3,7 @@
 ghost use Rattle.std.specs.Prelude.{◌≡◌, ◌≤◌, IfOk, replicate, vec_len};
 ghost use Rattle.proc_model.specs.Processes.{Processes, no_own};
 ghost use Rattle.proc_state.specs.First.{first_processes, living_count};
-ghost use Rattle.proc_state.specs.Tie.{Represents};
+ghost use Rattle.proc_state.specs.Tie.{RepresentsProcesses};
 
 use crate::ends::NO_OWN;
 use crate::state::ProcState;
@@ -24,7 +24,7 @@ impl ProcState {
     pub fn new(alloc: Global, blocks: u16) -> Result<ProcState, OutOfMemory>
         requires least { 8 ≤ blocks }
         requires most { blocks ≤ 256 }
-        ensures { IfOk result (λ state. Represents state (first_processes blocks)) }
+        ensures { IfOk result (λ state. RepresentsProcesses state (first_processes blocks)) }
     {
         Ok(ProcState {
             memory: Memory::new(alloc, blocks)?,
@@ -39,7 +39,8 @@ impl ProcState {
     /// The number of living processes.
     pub fn living(&self) -> u8
         ensures here { result ≡ living_count self.now.table }
-        ensures tied { (m : Processes) → Represents self.now m → result ≡ living_count m.records }
+        ensures tied { (m : Processes) → RepresentsProcesses self.now m → result
+            ≡ living_count m.records }
     {
         self.sched.count()
     }

@@ -4,7 +4,7 @@ ghost use Rattle.std.specs.Prelude.{◌≡◌, ℕ};
 ghost use Rattle.proc_model.specs.CallResult.{CallResult};
 ghost use Rattle.proc_model.specs.Processes.{Processes};
 ghost use Rattle.proc_state.specs.declared.state.ProcState.{ProcState};
-ghost use Rattle.proc_state.specs.Tie.{Answers, Comes, end_of};
+ghost use Rattle.proc_state.specs.Tie.{ReturnsDoneOrRefused, ReturnsCallEnd, end_of};
 
 use os9_base::call::CallEnd;
 
@@ -12,7 +12,7 @@ use os9_base::call::CallEnd;
 pub fn call_end(outcome: Result<(), u8>) -> CallEnd
     ensures end { result ≡ end_of outcome }
     ensures comes { (m : Processes) (p : ℕ) (call : CallResult) (new : ProcState)
-        → Answers m call outcome new → Comes m p call result new }
+        → ReturnsDoneOrRefused m call outcome new → ReturnsCallEnd m p call result new }
 {
     match outcome {
         Ok(()) => CallEnd::Done,

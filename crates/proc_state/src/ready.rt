@@ -10,7 +10,7 @@ ghost use Rattle.proc_model.specs.Send.{is_call as is_call_model};
 ghost use Rattle.proc_model.specs.Sleep.{may_wake as may_wake_model};
 ghost use Rattle.proc_model.specs.Memory.{first_memory};
 ghost use Rattle.proc_state.specs.Ready.{ready_at};
-ghost use Rattle.proc_state.specs.Tie.{Represents, processes_of};
+ghost use Rattle.proc_state.specs.Tie.{RepresentsProcesses, processes_of};
 
 use crate::state::ProcState;
 use os9_base::calls::{F_SLEEP, F_WAIT};
@@ -27,7 +27,7 @@ impl ProcState {
     pub fn ready(&self, p: Pid, io: &IoReady) -> bool
         requires { p.0 < 33 }
         ensures here { result ≡ ready_at (has_io io.now) self.now.tick self.now p.0 }
-        ensures tied { (m : Processes) → Represents self.now m
+        ensures tied { (m : Processes) → RepresentsProcesses self.now m
             → result ≡ is_ready (has_io io.now) m p.0 }
     {
         match self.table.life(p) {

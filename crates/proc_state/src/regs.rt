@@ -3,7 +3,7 @@
 ghost use Rattle.std.specs.Prelude.{◌≡◌, ℕ, Bool};
 ghost use Rattle.proc_model.specs.Processes.{Processes, with_regs_of};
 ghost use Rattle.proc_model.specs.Records.{IsLiving};
-ghost use Rattle.proc_state.specs.Tie.{Represents};
+ghost use Rattle.proc_state.specs.Tie.{RepresentsProcesses};
 ghost use Rattle.proc_state.specs.Active.{AreActiveAt};
 
 use crate::state::ProcState;
@@ -13,8 +13,8 @@ use os9_base::registers::{Pid, Regs};
 /// and nobody ceases to be so.
 pub fn set_regs(s: &mut ProcState, p: Pid, regs: Regs)
     requires { IsLiving s.old.table p.0 }
-    ensures tied { (m : Processes) → Represents s.old m
-        → Represents s.new (with_regs_of m p.0 regs) }
+    ensures tied { (m : Processes) → RepresentsProcesses s.old m
+        → RepresentsProcesses s.new (with_regs_of m p.0 regs) }
     ensures lives { IsLiving s.new.table p.0 }
     ensures active { (io : ℕ → Bool) (tick : ℕ) → AreActiveAt io tick s.old
         → AreActiveAt io tick s.new }

@@ -1,7 +1,7 @@
 ghost use Rattle.std.specs.Prelude.{◌≡◌, ◌≤◌, IfOk, vec_len};
 ghost use Rattle.guest_memory.specs.Tie.{modules_of};
 ghost use Rattle.os9_base.specs.declared.limits.TheConstants.{LAST_TICK, PROCESS_PLACES};
-ghost use Rattle.proc_model.specs.Records.{AreRecords};
+ghost use Rattle.proc_model.specs.Records.{AreProcessRecords};
 ghost use Rattle.proc_state.specs.Sound.{AreTurns, ArePrimaries, AreSleeps};
 
 use guest_memory::memory::Memory;
@@ -24,7 +24,7 @@ pub struct ProcState {
     pub tick: u32,
     /// Room for the longest range of a process's memory.
     pub buffer: Vec<u8>,
-    ghost numbers: { AreRecords table },
+    ghost numbers: { AreProcessRecords table },
     ghost turns: { AreTurns table sched },
     ghost primaries: { ArePrimaries own.items (modules_of memory) },
     ghost sleeps: { AreSleeps own.items tick },
@@ -34,5 +34,5 @@ pub struct ProcState {
 }
 
 impl ProcState {
-    ghost use Rattle.proc_state.specs.Tie.{Represents};
+    ghost use Rattle.proc_state.specs.Tie.{RepresentsProcesses};
 }

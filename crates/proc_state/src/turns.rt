@@ -6,7 +6,7 @@ ghost use Rattle.proc_model.specs.Attempts as model;
 ghost use Rattle.proc_model.specs.Attempts.{done_regs, goes_on, waiting};
 ghost use Rattle.proc_model.specs.Processes.{Processes, regs_at, with_records};
 ghost use Rattle.os9_sched.specs.Schedule.{after_wait};
-ghost use Rattle.proc_state.specs.Tie.{Represents};
+ghost use Rattle.proc_state.specs.Tie.{RepresentsProcesses};
 
 use crate::frame::refused_regs;
 use crate::state::ProcState;
@@ -19,8 +19,8 @@ impl ProcState {
     /// The call of a process is done: carry is clear, and the process goes on.
     pub fn succeed(&mut self, p: Pid)
         requires { IsLiving self.old.table p.0 }
-        ensures tied { (m : Processes) → Represents self.old m
-            → Represents self.new (goes_on m p.0 (done_regs (regs_at m p.0))) }
+        ensures tied { (m : Processes) → RepresentsProcesses self.old m
+            → RepresentsProcesses self.new (goes_on m p.0 (done_regs (regs_at m p.0))) }
         ensures lives { IsLiving self.new.table p.0 }
     {
         let regs = self.table.regs(p);
@@ -32,8 +32,9 @@ impl ProcState {
     /// process goes on.
     pub fn refuse(&mut self, p: Pid, number: u8)
         requires { IsLiving self.old.table p.0 }
-        ensures tied { (m : Processes) → Represents self.old m
-            → Represents self.new (goes_on m p.0 (model.refused_regs (regs_at m p.0) number)) }
+        ensures tied { (m : Processes) → RepresentsProcesses self.old m
+            → RepresentsProcesses self.new
+            (goes_on m p.0 (model.refused_regs (regs_at m p.0) number)) }
         ensures lives { IsLiving self.new.table p.0 }
     {
         let regs = self.table.regs(p);
@@ -44,8 +45,8 @@ impl ProcState {
     /// already waits keeps what it waits for.
     pub fn wait(&mut self, p: Pid, cause: Cause, until: Option<u32>)
         requires { IsLiving self.old.table p.0 }
-        ensures tied { (m : Processes) → Represents self.old m
-            → Represents self.new (waiting m p.0) }
+        ensures tied { (m : Processes) → RepresentsProcesses self.old m
+            → RepresentsProcesses self.new (waiting m p.0) }
         ensures lives { IsLiving self.new.table p.0 }
         ensures first { is_waiting (record_at self.old.table p.0).life ≡ false
             → self.new.sched
@@ -64,8 +65,8 @@ impl ProcState {
     /// A process has no call any more, and goes on with these registers.
     pub(crate) fn go_on(&mut self, p: Pid, regs: Regs)
         requires { IsLiving self.old.table p.0 }
-        ensures tied { (m : Processes) → Represents self.old m
-            → Represents self.new (goes_on m p.0 regs) }
+        ensures tied { (m : Processes) → RepresentsProcesses self.old m
+            → RepresentsProcesses self.new (goes_on m p.0 regs) }
         ensures lives { IsLiving self.new.table p.0 }
     {
         self.set_regs(p, regs);
@@ -85,8 +86,8 @@ impl ProcState {
     /// A process does not wait any more.
     fn run(&mut self, p: Pid)
         requires { IsLiving self.old.table p.0 }
-        ensures tied { (m : Processes) → Represents self.old m
-            → Represents self.new (with_records m (with_waiting m.records p.0 false)) }
+        ensures tied { (m : Processes) → RepresentsProcesses self.old m
+            → RepresentsProcesses self.new (with_records m (with_waiting m.records p.0 false)) }
         ensures lives { IsLiving self.new.table p.0 }
     {
         self.table.set_waiting(p, false);

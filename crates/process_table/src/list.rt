@@ -1,5 +1,5 @@
 ghost use Rattle.std.specs.Prelude.{◌≡◌, None, option_map, IfOk, IfSome, IsSome, length, map, replicate};
-ghost use Rattle.proc_model.specs.Records.{IsProcess, free_process as free_process_model, record_of};
+ghost use Rattle.proc_model.specs.Records.{IsProcessNumber, free_process as free_process_model, record_of};
 ghost use Rattle.proc_model.specs.Ends.{has_child as has_child_model, ended_child as ended_child_model, orphaned as orphaned_model};
 
 use crate::places::{is_child, is_ended_child, orphaned};
@@ -26,7 +26,7 @@ pub fn empty_places(alloc: Global) -> Result<Vec<Option<Record>>, AllocError>
 pub fn free_process(records: &[Option<Record>]) -> Option<Pid>
     requires { length records.now ≡ PROCESS_PLACES }
     ensures number { option_map (λ p. p.0) result ≡ free_process_model records.now }
-    ensures process { IfSome result (λ p. IsProcess p.0) }
+    ensures process { IfSome result (λ p. IsProcessNumber p.0) }
 {
     let place = records[FIRST..].iter().position(|place| place.is_none())?;
     Some(Pid((place + FIRST) as u8))

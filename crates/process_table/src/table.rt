@@ -1,7 +1,7 @@
 ghost use Rattle.std.specs.Prelude.{◌≡◌, ◌<◌, IsSome, IfOk, IfSome, Some, None, option_map, is_some, map, replicate, slice_set};
 ghost use Rattle.std.specs.Result.{result_err};
 ghost use Rattle.proc_model.specs.Records as model;
-ghost use Rattle.proc_model.specs.Records.{IsLiving, AreRecords, record_of, record_at, after_make, with_user, with_priority, with_regs, with_waiting, IsProcess};
+ghost use Rattle.proc_model.specs.Records.{IsLiving, AreProcessRecords, record_of, record_at, after_make, with_user, with_priority, with_regs, with_waiting, IsProcessNumber};
 ghost use Rattle.proc_model.specs.Ends.{reaped, after_reap, after_exit, orphaned, end_status};
 ghost use Rattle.proc_model.specs.Signals.{is_reached, send_fault, after_send, intercept_of, with_intercept, with_signal};
 
@@ -29,13 +29,13 @@ pub struct Table {
 impl Model for Table {
     ghost use Rattle.std.specs.Prelude.{List, Option};
     ghost use Rattle.proc_model.specs.declared.record.Record.{Record};
-    ghost use Rattle.proc_model.specs.Records.{AreRecords};
+    ghost use Rattle.proc_model.specs.Records.{AreProcessRecords};
 
     ghost Value = { List (Option Record) };
 
     ghost view = { λ table. table.records.items };
 
-    ghost invariant = { λ table. AreRecords table.records.items };
+    ghost invariant = { λ table. AreProcessRecords table.records.items };
 }
 
 impl Table {
@@ -54,7 +54,7 @@ impl Table {
     pub fn make(&mut self, parent: Pid, user: u16, priority: u8) -> Option<Pid>
         ensures number { option_map (λ p. p.0) result ≡ model.free_process self.old }
         ensures records { self.new ≡ after_make self.old parent user priority }
-        ensures shape { AreRecords self.new }
+        ensures shape { AreProcessRecords self.new }
     {
         let p = free_process(&self.records)?;
         self.put(p, Some(new_record(parent, user, priority)));
@@ -64,8 +64,8 @@ impl Table {
     /// The least number from 2 to 32 that no record has; None if there are 31 records.
     pub fn free(&self) -> Option<Pid>
         ensures number { option_map (λ p. p.0) result ≡ model.free_process self.now }
-        ensures process { IfSome result (λ p. IsProcess p.0) }
-        ensures shape { AreRecords self.now }
+        ensures process { IfSome result (λ p. IsProcessNumber p.0) }
+        ensures shape { AreProcessRecords self.now }
     {
         free_process(&self.records)
     }
@@ -73,7 +73,7 @@ impl Table {
     /// What a process is doing; None if it has no record.
     pub fn life(&self, p: Pid) -> Option<Life>
         ensures life { result ≡ option_map (λ r. r.life) (record_of self.now p.0) }
-        ensures shape { AreRecords self.now }
+        ensures shape { AreProcessRecords self.now }
     {
         match self.records.get(p.0 as usize) {
             Some(Some(record)) => Some(record.life),
@@ -85,7 +85,7 @@ impl Table {
     pub fn parent(&self, p: Pid) -> Pid
         requires { IsSome (record_of self.now p.0) }
         ensures parent { result ≡ (record_at self.now p.0).parent }
-        ensures shape { AreRecords self.now }
+        ensures shape { AreProcessRecords self.now }
     {
         self.record(p).parent
     }
@@ -94,7 +94,7 @@ impl Table {
     pub fn set_waiting(&mut self, p: Pid, waits: bool)
         requires { IsLiving self.old p.0 }
         ensures records { self.new ≡ with_waiting self.old p.0 waits }
-        ensures shape { AreRecords self.new }
+        ensures shape { AreProcessRecords self.new }
     {
         let life = if waits { Life::Waiting } else { Life::Running };
         let record = self.record(p);
@@ -105,7 +105,7 @@ impl Table {
     pub fn user(&self, p: Pid) -> u16
         requires { IsLiving self.now p.0 }
         ensures user { result ≡ (record_at self.now p.0).user }
-        ensures shape { AreRecords self.now }
+        ensures shape { AreProcessRecords self.now }
     {
         self.record(p).user
     }
@@ -114,7 +114,7 @@ impl Table {
     pub fn set_user(&mut self, p: Pid, user: u16)
         requires { IsLiving self.old p.0 }
         ensures records { self.new ≡ with_user self.old p.0 user }
-        ensures shape { AreRecords self.new }
+        ensures shape { AreProcessRecords self.new }
     {
         let record = self.record(p);
         self.put(p, Some(Record { user, ..record }));
@@ -124,7 +124,7 @@ impl Table {
     pub fn priority(&self, p: Pid) -> u8
         requires { IsLiving self.now p.0 }
         ensures priority { result ≡ (record_at self.now p.0).priority }
-        ensures shape { AreRecords self.now }
+        ensures shape { AreProcessRecords self.now }
     {
         self.record(p).priority
     }
@@ -133,7 +133,7 @@ impl Table {
     pub fn set_priority(&mut self, p: Pid, priority: u8)
         requires { IsLiving self.old p.0 }
         ensures records { self.new ≡ with_priority self.old p.0 priority }
-        ensures shape { AreRecords self.new }
+        ensures shape { AreProcessRecords self.new }
     {
         let record = self.record(p);
         self.put(p, Some(Record { priority, ..record }));
@@ -143,7 +143,7 @@ impl Table {
     pub fn regs(&self, p: Pid) -> Regs
         requires { IsLiving self.now p.0 }
         ensures regs { result ≡ (record_at self.now p.0).regs }
-        ensures shape { AreRecords self.now }
+        ensures shape { AreProcessRecords self.now }
     {
         self.record(p).regs
     }
@@ -152,7 +152,7 @@ impl Table {
     pub fn set_regs(&mut self, p: Pid, r: Regs)
         requires { IsLiving self.old p.0 }
         ensures records { self.new ≡ with_regs self.old p.0 r }
-        ensures shape { AreRecords self.new }
+        ensures shape { AreProcessRecords self.new }
     {
         let record = self.record(p);
         self.put(p, Some(Record { regs: r, ..record }));
@@ -164,7 +164,7 @@ impl Table {
     pub fn exit(&mut self, p: Pid, status: u8)
         requires { IsLiving self.old p.0 }
         ensures records { self.new ≡ after_exit self.old p.0 status }
-        ensures shape { AreRecords self.new }
+        ensures shape { AreProcessRecords self.new }
     {
         let record = self.record(p);
         self.orphan(p);
@@ -181,7 +181,7 @@ impl Table {
     pub fn reap(&mut self, parent: Pid) -> Result<(Pid, u8), Reap>
         ensures child { result ≡ reaped self.old parent.0 }
         ensures records { self.new ≡ after_reap self.old parent.0 }
-        ensures shape { AreRecords self.new }
+        ensures shape { AreProcessRecords self.new }
     {
         let Some(child) = ended_child(&self.records, parent) else {
             return Err(if has_child(&self.records, parent) {
@@ -206,7 +206,7 @@ impl Table {
     pub fn send(&mut self, from_user: u16, to: Pid, signal: u8) -> Result<(), SendFault>
         ensures fault { result_err result ≡ send_fault self.old from_user to.0 signal }
         ensures records { self.new ≡ after_send self.old from_user to.0 signal }
-        ensures shape { AreRecords self.new }
+        ensures shape { AreProcessRecords self.new }
     {
         let record = self.reached(from_user, to).ok_or(SendFault::NoProcess)?;
         if signal == WAKE {
@@ -225,7 +225,7 @@ impl Table {
     pub fn intercept(&mut self, p: Pid, routine: u16, area: u16)
         requires { IsLiving self.old p.0 }
         ensures records { self.new ≡ with_intercept self.old p.0 (intercept_of routine area) }
-        ensures shape { AreRecords self.new }
+        ensures shape { AreProcessRecords self.new }
     {
         let intercept = if routine == 0 {
             None
@@ -247,7 +247,7 @@ impl Table {
         requires { IsLiving self.now p.0 }
         ensures handler { result
             ≡ option_map (λ h. (h.routine, h.area)) (record_at self.now p.0).intercept }
-        ensures shape { AreRecords self.now }
+        ensures shape { AreProcessRecords self.now }
     {
         let intercept = self.record(p).intercept?;
         Some((intercept.routine, intercept.area))
@@ -257,7 +257,7 @@ impl Table {
     pub fn due_signal(&self, p: Pid) -> Option<u8>
         requires { IsLiving self.now p.0 }
         ensures signal { result ≡ (record_at self.now p.0).signal }
-        ensures shape { AreRecords self.now }
+        ensures shape { AreProcessRecords self.now }
     {
         self.record(p).signal
     }
@@ -267,7 +267,7 @@ impl Table {
         requires { IsLiving self.old p.0 }
         ensures signal { result ≡ (record_at self.old p.0).signal }
         ensures records { self.new ≡ with_signal self.old p.0 None }
-        ensures shape { AreRecords self.new }
+        ensures shape { AreProcessRecords self.new }
     {
         let record = self.record(p);
         let signal = None;
@@ -280,16 +280,16 @@ impl Table {
     fn record(&self, p: Pid) -> Record
         requires { IsSome (record_of self.now p.0) }
         ensures record { result ≡ record_at self.now p.0 }
-        ensures process { IsProcess p.0 }
-        ensures shape { AreRecords self.now }
+        ensures process { IsProcessNumber p.0 }
+        ensures shape { AreProcessRecords self.now }
     {
         self.records[p.0 as usize].unwrap()
     }
 
     fn put(&mut self, p: Pid, place: Option<Record>)
-        requires { IsProcess p.0 }
+        requires { IsProcessNumber p.0 }
         ensures records { self.new ≡ slice_set self.old p.0 place }
-        ensures shape { AreRecords self.new }
+        ensures shape { AreProcessRecords self.new }
     {
         self.records[p.0 as usize] = place;
     }
@@ -297,7 +297,7 @@ impl Table {
     /// Removes this parent from its children, and the records of the ended ones.
     fn orphan(&mut self, parent: Pid)
         ensures records { self.new ≡ map (orphaned parent.0) self.old }
-        ensures shape { AreRecords self.new }
+        ensures shape { AreProcessRecords self.new }
     {
         orphan(&mut self.records, parent);
     }
@@ -306,8 +306,8 @@ impl Table {
     fn reached(&self, user: u16, p: Pid) -> Option<Record>
         ensures reached { is_some result ≡ is_reached self.now user p.0 }
         ensures record { IfSome result (λ r. r ≡ record_at self.now p.0) }
-        ensures process { IfSome result (λ r. IsProcess p.0) }
-        ensures shape { AreRecords self.now }
+        ensures process { IfSome result (λ r. IsProcessNumber p.0) }
+        ensures shape { AreProcessRecords self.now }
     {
         let record = (*self.records.get(p.0 as usize)?)?;
         let lives = !matches!(record.life, Life::Ended(_));
@@ -322,7 +322,7 @@ impl Table {
     fn status(&self, p: Pid) -> u8
         requires { IsSome (record_of self.now p.0) }
         ensures status { result ≡ end_status (record_at self.now p.0).life }
-        ensures shape { AreRecords self.now }
+        ensures shape { AreProcessRecords self.now }
     {
         match self.record(p).life {
             Life::Ended(status) => status,

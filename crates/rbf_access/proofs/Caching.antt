@@ -8,7 +8,7 @@ use Rattle.rbf_model.proofs.Lifted.{sector_put}
 use Rattle.sector_cache.specs.declared.sector.Sector.{Sector}
 use Rattle.sector_cache.specs.Held.{held_bytes, put_first, without}
 use Rattle.sector_cache.proofs.Callers.{held_after, held_after_put, held_less, held_first, held_of_first, still_held, first_still}
-use Rattle.rbf_access.specs.Cached.{IsCacheOf, IsHeld, IsUsed}
+use Rattle.rbf_access.specs.Cached.{IsCacheOf, IsHeldSector, IsSectorUsed}
 
 -- nothing is held yet
 pub none_cached : (media : Option (List ℕ)) (held : List Sector) → held ≡ [] → IsCacheOf media held
@@ -36,7 +36,7 @@ bytes_held None is = cc
 bytes_held (Some bytes) is = (bytes, refl)
 
 -- a sector that has been used is held
-pub held_used : (lsn : ℕ) (held news : List Sector) → IsUsed lsn held news → IsHeld news lsn
+pub held_used : (lsn : ℕ) (held news : List Sector) → IsSectorUsed lsn held news → IsHeldSector news lsn
 held_used lsn held news used = held_of_first 0 lsn 1 news used.first
 
 -- what is held of a sector is the media's
@@ -88,27 +88,27 @@ cached_less media now held news lsn same is cached =
     (record { sectors = λ m found there. cached.sectors m found (held_less 0 lsn held m found (subst (λ h. held_bytes h 0 m ≡ Some found) is there)) })
 
 -- the sector that is put at the front is used, and what was held is held still
-pub used_put : (lsn : ℕ) (held news : List Sector) (bytes : List ℕ) → news ≡ put_first held 0 lsn bytes → IsUsed lsn held news
+pub used_put : (lsn : ℕ) (held news : List Sector) (bytes : List ℕ) → news ≡ put_first held 0 lsn bytes → IsSectorUsed lsn held news
 used_put lsn held news bytes is =
-    subst (IsUsed lsn held) (sym is)
+    subst (IsSectorUsed lsn held) (sym is)
     (record {
       first = subst IsSome (sym (held_first 0 lsn held bytes 0)) refl;
       others = λ n m few there.
           let next : n + 1 ≡ suc n = omega arith in
-          subst (λ k. IsHeld (take k (put_first held 0 lsn bytes)) m) (sym next) (first_still 0 lsn m n held bytes there);
+          subst (λ k. IsHeldSector (take k (put_first held 0 lsn bytes)) m) (sym next) (first_still 0 lsn m n held bytes there);
     })
 
-pub still_put : (lsn : ℕ) (held news : List Sector) (bytes : List ℕ) → news ≡ put_first held 0 lsn bytes → (m : ℕ) → IsHeld held m → IsHeld news m
-still_put lsn held news bytes is m there = subst (λ h. IsHeld h m) (sym is) (still_held 0 lsn held bytes m there)
+pub still_put : (lsn : ℕ) (held news : List Sector) (bytes : List ℕ) → news ≡ put_first held 0 lsn bytes → (m : ℕ) → IsHeldSector held m → IsHeldSector news m
+still_put lsn held news bytes is m there = subst (λ h. IsHeldSector h m) (sym is) (still_held 0 lsn held bytes m there)
 
 -- the same where only 256 are kept
-pub used_kept : (lsn : ℕ) (held news : List Sector) (bytes : List ℕ) → news ≡ take 256 (put_first held 0 lsn bytes) → IsUsed lsn held news
+pub used_kept : (lsn : ℕ) (held news : List Sector) (bytes : List ℕ) → news ≡ take 256 (put_first held 0 lsn bytes) → IsSectorUsed lsn held news
 used_kept lsn held news bytes is =
-    subst (IsUsed lsn held) (sym is)
+    subst (IsSectorUsed lsn held) (sym is)
     (record {
-      first = subst (λ h. IsHeld h lsn) (sym (take-take 1 256 (put_first held 0 lsn bytes) (omega arith))) (subst IsSome (sym (held_first 0 lsn held bytes 0)) refl);
+      first = subst (λ h. IsHeldSector h lsn) (sym (take-take 1 256 (put_first held 0 lsn bytes) (omega arith))) (subst IsSome (sym (held_first 0 lsn held bytes 0)) refl);
       others = λ n m few there.
           let next : n + 1 ≡ suc n = omega arith in
-          subst (λ h. IsHeld h m) (sym (take-take (n + 1) 256 (put_first held 0 lsn bytes) (omega arith)))
-          (subst (λ k. IsHeld (take k (put_first held 0 lsn bytes)) m) (sym next) (first_still 0 lsn m n held bytes there));
+          subst (λ h. IsHeldSector h m) (sym (take-take (n + 1) 256 (put_first held 0 lsn bytes) (omega arith)))
+          (subst (λ k. IsHeldSector (take k (put_first held 0 lsn bytes)) m) (sym next) (first_still 0 lsn m n held bytes there));
     })

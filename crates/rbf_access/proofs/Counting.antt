@@ -1,7 +1,7 @@
 -- The counts of a drive over calls that follow one another.
 use Rattle.std.proofs.Common.{◌≡◌, ℕ, ◌+◌, ◌≤◌, Option, Some, None, IfSome, IfNone, refl, subst, ◌∙◌, arith}
 use Rattle.os9_base.specs.Count.{Rose}
-use Rattle.rbf_access.specs.Drive.{DriveCounts, MovesCounts, Made}
+use Rattle.rbf_access.specs.Drive.{DriveCounts, MovesCounts, AccessesMade}
 
 -- nothing was done
 pub no_calls : (s : DriveCounts) → MovesCounts None 0 s s
@@ -41,5 +41,5 @@ counts_most f a b s t more one =
 pub counts_within : (f : Option ℕ) (a b : ℕ) (s t : DriveCounts) → t.calls ≤ s.calls + b → MovesCounts f a s t → MovesCounts f b s t
 counts_within f a b s t few one = record { calls_made = few; never_falls = one.never_falls; rose = one.rose; number = one.number; kept = one.kept; last_kept = one.last_kept }
 
-pub made_then : (a b s t u : ℕ) → Made a s t → Made b t u → Made (a + b) s u
+pub made_then : (a b s t u : ℕ) → AccessesMade a s t → AccessesMade b t u → AccessesMade (a + b) s u
 made_then a b s t u one other = omega arith

@@ -20,10 +20,10 @@ use Rattle.rbf_change.specs.Calls.{shape, free_total}
 use Rattle.rbf_change.proofs.LawfulWrites.{shape-image}
 use Rattle.rbf_sector.specs.Ident.{geometry_of}
 use Rattle.rbf_sector.specs.declared.ident.Ident.{Ident}
-use Rattle.rbf_access.specs.Drive.{DriveCounts, MovesCounts, Made}
+use Rattle.rbf_access.specs.Drive.{DriveCounts, MovesCounts, AccessesMade}
 use Rattle.rbf_access.proofs.Caching.{none_cached}
 use Rattle.rbf_access.proofs.Counting.{no_calls, counts_then, counts_most, made_then}
-use Rattle.rbf_access.specs.Mounted.{FitsDrive, HoldsVolume, IsIdentOf, IsMapOf, IsVolumeOf, IsMounted, Represents, kept, map_bytes, media_calls}
+use Rattle.rbf_access.specs.Mounted.{FitsDrive, HoldsVolume, IsIdentOf, IsMapOf, IsVolumeOf, IsMounted, RepresentsVolume, mounted_part, map_bytes, media_calls}
 use Rattle.rbf_access.specs.declared.volume.Volume.{Volume}
 
 -- an image that a drive holds with an identification sector that fits it
@@ -86,7 +86,7 @@ pub record IsMapRead (media : Option (List ℕ)) (before : DriveCounts) (count :
   pub bytes_are : bytes ≡ map_bytes media count
   pub same : media_now ≡ media
   pub moved : MovesCounts None count before now
-  pub calls : Made count before.calls now.calls
+  pub calls : AccessesMade count before.calls now.calls
 
 pub none_read : (media : Option (List ℕ)) (before : DriveCounts) (bytes : List ℕ) → bytes ≡ [] → IsMapRead media before 0 bytes media before
 none_read media before bytes none =
@@ -98,9 +98,9 @@ none_read media before bytes none =
 
 pub one_read : (media : Option (List ℕ)) (before : DriveCounts) (count lsn : ℕ) (bytes : List ℕ) (mid : Option (List ℕ)) (half : DriveCounts)
     (sector : List ℕ) (now : Option (List ℕ)) (after : DriveCounts) (next : ℕ) (news : List ℕ) → IsMapRead media before count bytes mid half
-    → lsn ≡ count + 1 → next ≡ count + 1 → sector ≡ sector_at mid lsn → now ≡ mid → MovesCounts None 1 half after → Made 1 half.calls after.calls
+    → lsn ≡ count + 1 → next ≡ count + 1 → sector ≡ sector_at mid lsn → now ≡ mid → MovesCounts None 1 half after → AccessesMade 1 half.calls after.calls
     → news ≡ bytes ++ sector → IsMapRead media before next news now after
-one_read media before count lsn bytes mid half sector now after next news read is step sector_is kept counts made more =
+one_read media before count lsn bytes mid half sector now after next news read is step sector_is mounted_part counts made more =
     let whole : sector ≡ sector_at media lsn = sector_is ∙ ap (λ m. sector_at m lsn) read.same in
     let all : IsMapRead media before (count + 1) (bytes ++ sector) now after = record {
       bytes_are = ap (λ b. bytes ++ b) whole ∙ ap (λ b. b ++ sector_at media lsn) read.bytes_are ∙ map_more media count lsn is;
@@ -225,10 +225,10 @@ first_call None f s t empty moved =
 first_call (Some image) f s t empty moved = counts_most f 1 (1 + map_sectors (image_geometry image)) s t (omega arith) moved
 
 -- the root and the free clusters of a volume that is kept are those of the volume that the image represents
-pub root_is : (volume : Volume) (image : List ℕ) (v : DiskVolume) → Agrees (kept volume) image → Vol image v → volume.ident.root ≡ (shape v).root
+pub root_is : (volume : Volume) (image : List ℕ) (v : DiskVolume) → Agrees (mounted_part volume) image → Vol image v → volume.ident.root ≡ (shape v).root
 root_is volume image v agrees vol = ap (λ (g : Geometry). g.root) (agrees.sizes_are ∙ sym (shape-image image v vol))
 
-pub free_total_is : (volume : Volume) (image : List ℕ) (v : DiskVolume) → Agrees (kept volume) image → Vol image v → length (map_free_clusters volume.map) ≡ free_total v
+pub free_total_is : (volume : Volume) (image : List ℕ) (v : DiskVolume) → Agrees (mounted_part volume) image → Vol image v → length (map_free_clusters volume.map) ≡ free_total v
 free_total_is volume image v agrees vol =
     let g = image_geometry image in
     let map = agrees.map in
@@ -244,10 +244,10 @@ free_total_is volume image v agrees vol =
         ⊎_elim (λ less. let more : k * (m + 1) ≤ k * q = mul-le-mul_left k (omega arith) in absurd (omega arith)) (λ enough. enough) (cases_lt m q)
 
 -- and it is mounted where the media represents a volume
-pub mounted_of : (old now : Option (List ℕ)) (volume : Volume) (v : DiskVolume) → now ≡ old → IsVolumeOf now volume → Represents old v → IsMounted volume now
+pub mounted_of : (old now : Option (List ℕ)) (volume : Volume) (v : DiskVolume) → now ≡ old → IsVolumeOf now volume → RepresentsVolume old v → IsMounted volume now
 mounted_of old now volume v same known on =
     let there : now ≡ Some on.image = same ∙ on.is in
-    let P : List ℕ → Type 0 = λ i. Agrees (kept volume) i in
+    let P : List ℕ → Type 0 = λ i. Agrees (mounted_part volume) i in
     record {
       content = v;
       on = record { image = on.image; is = there; vol = on.vol };

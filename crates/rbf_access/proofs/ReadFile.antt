@@ -12,7 +12,7 @@ use Rattle.rbf_model.specs.Volume.{DiskVolume}
 use Rattle.rbf_model.proofs.Segments.{sectors_within}
 use Rattle.rbf_model.proofs.SectorBytes.{length_of_file}
 use Rattle.rbf_change.specs.Contents.{bytes_from, sector_span}
-use Rattle.rbf_access.specs.Mounted.{Represents}
+use Rattle.rbf_access.specs.Mounted.{RepresentsVolume}
 use Rattle.rbf_access.specs.Reading.{AreOnDrive, IsFdOf, filled_buffer}
 use Rattle.rbf_sector.specs.declared.fd.Fd.{Fd}
 use Rattle.rbf_access.specs.Drive.{DriveCounts, MovesCounts}
@@ -50,7 +50,7 @@ same_span at room size = ⊎_elim
     empty_span : (from end : ℕ) → end ≤ from → sector_span from end ≡ 0
     empty_span from end low = ap (λ t. if t then 0 else ((end + 255) / 256 - from / 256)) (le-leb end from low)
 
-module _ (media : Option (List ℕ)) (v : DiskVolume) (on : Represents media v) (n : ℕ) (file : DiskFile) (is : v.files n ≡ Some file) where
+module _ (media : Option (List ℕ)) (v : DiskVolume) (on : RepresentsVolume media v) (n : ℕ) (file : DiskFile) (is : v.files n ≡ Some file) where
   -- the file's sectors are on the drive
   pub on_drive : AreOnDrive media (sectors_of file.segments)
   on_drive s there =

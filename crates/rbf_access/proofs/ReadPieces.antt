@@ -12,10 +12,10 @@ use Rattle.rbf_model.proofs.Segments.{length-joined}
 use Rattle.rbf_model.proofs.SectorBytes.{sector_of_joined}
 use Rattle.rbf_model.proofs.Bytes.{has_place}
 use Rattle.rbf_model.proofs.Pieces.{drop_append}
-use Rattle.rbf_change.specs.Agrees.{KeptVolume}
+use Rattle.rbf_change.specs.Agrees.{MountedPart}
 use Rattle.rbf_change.specs.Contents.{bytes_from, sector_span}
 use Rattle.sector_cache.specs.declared.sector.Sector.{Sector}
-use Rattle.rbf_access.specs.Cached.{AreHeld, IsCacheOf, StayFirst}
+use Rattle.rbf_access.specs.Cached.{SectorsAreHeld, IsCacheOf, StayFirst}
 use Rattle.rbf_access.proofs.Using.{none_used}
 use Rattle.rbf_access.specs.Drive.{DriveCounts, MovesCounts}
 use Rattle.rbf_access.specs.Reading.{AreOnDrive}
@@ -46,17 +46,17 @@ buffer_at whole old at place = take (filled at (length old) place) (drop at whol
 
 -- the sectors before a place have been read
 pub record IsReadTo (whole old : List ℕ) (at place : ℕ) (into : List ℕ) (media media_now : Option (List ℕ))
-    (volume volume_now : KeptVolume) (segments : List (ℕ × ℕ)) (start held : List Sector) (before now : DriveCounts) : Type
+    (volume volume_now : MountedPart) (segments : List (ℕ × ℕ)) (start held : List Sector) (before now : DriveCounts) : Type
     0 where
   pub bytes_are : into ≡ buffer_at whole old at place
   pub same_media : media_now ≡ media
   pub same_volume : volume_now ≡ volume
   pub cached : IsCacheOf media_now held
-  pub hits : (end : ℕ) → place ≤ end → AreHeld start segments (at / 256) end → (now.calls ≡ before.calls) × AreHeld held segments (at / 256) end
+  pub hits : (end : ℕ) → place ≤ end → SectorsAreHeld start segments (at / 256) end → (now.calls ≡ before.calls) × SectorsAreHeld held segments (at / 256) end
   pub stay : StayFirst segments (at / 256) (place - at / 256) start held
   pub moved : MovesCounts None (place - at / 256) before now
 
-pub none_read : (whole old : List ℕ) (at : ℕ) (media : Option (List ℕ)) (volume : KeptVolume) (segments : List (ℕ × ℕ)) (held : List Sector) (before : DriveCounts) → IsCacheOf media held
+pub none_read : (whole old : List ℕ) (at : ℕ) (media : Option (List ℕ)) (volume : MountedPart) (segments : List (ℕ × ℕ)) (held : List Sector) (before : DriveCounts) → IsCacheOf media held
     → IsReadTo whole old at (at / 256) old media media volume volume segments held held before before
 none_read whole old at media volume segments held before cached =
     let none : filled at (length old) (at / 256) ≡ 0 = omega arith in

@@ -8,14 +8,14 @@ use Rattle.rbf_model.specs.Volume.{DiskVolume, Vol}
 use Rattle.rbf_model.proofs.Free.{number_below}
 use Rattle.rbf_model.proofs.SectorBytes.{length_of_file}
 use Rattle.rbf_sector.specs.declared.fd.Fd.{Fd}
-use Rattle.rbf_change.specs.Agrees.{KeptVolume, Agrees}
+use Rattle.rbf_change.specs.Agrees.{MountedPart, Agrees}
 use Rattle.rbf_access.specs.declared.volume.Volume.{Volume}
 use Rattle.rbf_access.specs.Cached.{IsCacheOf}
-use Rattle.rbf_access.specs.Mounted.{kept, Represents, IsMounted, HasFile}
+use Rattle.rbf_access.specs.Mounted.{mounted_part, RepresentsVolume, IsMounted, HasFile}
 use Rattle.rbf_access.specs.Reading.{IsFdOf, OnFile, list_at}
 
 -- a number below a volume's total is a sector of the drive
-pub below_total : (media : Option (List ℕ)) (v : DiskVolume) (on : Represents media v) (s : ℕ) → s < (image_geometry on.image).total → s < sector_count media
+pub below_total : (media : Option (List ℕ)) (v : DiskVolume) (on : RepresentsVolume media v) (s : ℕ) → s < (image_geometry on.image).total → s < sector_count media
 below_total media v on s low =
     let most = on.vol.header.header.most in
     let whole = on.vol.header.fits in
@@ -30,9 +30,9 @@ number_on media n has =
     below_total media has.content on n (omega arith)
 
 -- a volume stays mounted where nothing that is kept and nothing on the media has changed
-pub mounted_still : (old new : Volume) (before now : Option (List ℕ)) → kept new ≡ kept old → now ≡ before → IsCacheOf now new.cache → IsMounted old before → IsMounted new now
+pub mounted_still : (old new : Volume) (before now : Option (List ℕ)) → mounted_part new ≡ mounted_part old → now ≡ before → IsCacheOf now new.cache → IsMounted old before → IsMounted new now
 mounted_still old new before now same media_same cached mounted =
-    let P : KeptVolume → Type 0 = λ k. Agrees k mounted.on.image in
+    let P : MountedPart → Type 0 = λ k. Agrees k mounted.on.image in
     record {
       content = mounted.content;
       on = record { image = mounted.on.image; is = media_same ∙ mounted.on.is; vol = mounted.on.vol };

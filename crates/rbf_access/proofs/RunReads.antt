@@ -17,7 +17,7 @@ use Rattle.rbf_sector.specs.Run.{IsRunAt}
 use Rattle.rbf_sector.specs.declared.run.Run.{Run}
 use Rattle.sector_cache.specs.declared.sector.Sector.{Sector}
 use Rattle.sector_cache.specs.Held.{held_bytes}
-use Rattle.rbf_access.specs.Cached.{AreHeld, IsCacheOf, IsHeld, UsesSectors}
+use Rattle.rbf_access.specs.Cached.{SectorsAreHeld, IsCacheOf, IsHeldSector, UsesSectors}
 use Rattle.rbf_access.specs.Reading.{AreOnDrive, HaveBytes, run_list, list_at}
 use Rattle.rbf_access.proofs.ReadPieces.{place_on, sector_is, span_is, whole_length}
 
@@ -141,14 +141,14 @@ module _ (segments : List (ℕ × ℕ)) (at n : ℕ) (run : Run) (is : IsRunAt s
       ∙ sym (byte_of media segments on_drive (at + k) (omega arith))
       ∙ sym (get_or-drop at whole k 0) ∙ sym (get_or-take n (drop at whole) k 0 under))
 
-  held_in_run : (held : List Sector) (count : ℕ) → count ≤ run.count → AreHeld held segments (at / 256) (at / 256 + count) → AreHeld held (run_list run) 0 (0 + count)
-  held_in_run held count few all i low high = subst (IsHeld held) (index_is i (omega arith)) (all (at / 256 + i) (omega arith) (omega arith))
+  held_in_run : (held : List Sector) (count : ℕ) → count ≤ run.count → SectorsAreHeld held segments (at / 256) (at / 256 + count) → SectorsAreHeld held (run_list run) 0 (0 + count)
+  held_in_run held count few all i low high = subst (IsHeldSector held) (index_is i (omega arith)) (all (at / 256 + i) (omega arith) (omega arith))
 
-  held_in_file : (held : List Sector) (count : ℕ) → count ≤ run.count → AreHeld held (run_list run) 0 (0 + count) → AreHeld held segments (at / 256) (at / 256 + count)
+  held_in_file : (held : List Sector) (count : ℕ) → count ≤ run.count → SectorsAreHeld held (run_list run) 0 (0 + count) → SectorsAreHeld held segments (at / 256) (at / 256 + count)
   held_in_file held count few all place low high =
       let i = place - at / 256 in
       let there : at / 256 + i ≡ place = omega arith in
-      subst (λ p. IsHeld held (slice_index (sectors_of segments) p)) there (subst (IsHeld held) (sym (index_is i (omega arith))) (all i (omega arith) (omega arith)))
+      subst (λ p. IsHeldSector held (slice_index (sectors_of segments) p)) there (subst (IsHeldSector held) (sym (index_is i (omega arith))) (all i (omega arith) (omega arith)))
 
   -- the sectors of the run are used as those of the file
   pub run_used : {A Fault : Type 0} (result : Result A Fault) (old news : List Sector) (calls now : ℕ)

@@ -10,32 +10,32 @@ pub record IsCacheOf (media : Option (List ℕ)) (held : List Sector) : Type 0 w
   pub sectors : (lsn : ℕ) (bytes : List ℕ) → held_bytes held 0 lsn ≡ Some bytes → bytes ≡ sector_at media lsn
 
 -- a sector is held
-abbrev pub IsHeld : List Sector → ℕ → Type 0
-IsHeld held lsn = IsSome (held_bytes held 0 lsn)
+abbrev pub IsHeldSector : List Sector → ℕ → Type 0
+IsHeldSector held lsn = IsSome (held_bytes held 0 lsn)
 
 -- if this sector was held, each sector that was held is still held
 abbrev pub StayHeld : ℕ → List Sector → List Sector → Type 0
-StayHeld lsn old new = (m : ℕ) → IsHeld old lsn → IsHeld old m → IsHeld new m
+StayHeld lsn old new = (m : ℕ) → IsHeldSector old lsn → IsHeldSector old m → IsHeldSector new m
 
 -- the sectors of these segments are held from place `from` up to `end`
-abbrev pub AreHeld : List Sector → List (ℕ × ℕ) → ℕ → ℕ → Type 0
-AreHeld held segments from end =
-    (place : ℕ) → from ≤ place → place < end → IsHeld held (slice_index (sectors_of segments) place)
+abbrev pub SectorsAreHeld : List Sector → List (ℕ × ℕ) → ℕ → ℕ → Type 0
+SectorsAreHeld held segments from end =
+    (place : ℕ) → from ≤ place → place < end → IsHeldSector held (slice_index (sectors_of segments) place)
 
 -- a sector has been used: it is the first one, and no other held sector is more than one place further back than before
-pub record IsUsed (lsn : ℕ) (old new : List Sector) : Type 0 where
-  pub first : IsHeld (take 1 new) lsn
-  pub others : (n m : ℕ) → n < 256 → IsHeld (take n old) m → IsHeld (take (n + 1) new) m
+pub record IsSectorUsed (lsn : ℕ) (old new : List Sector) : Type 0 where
+  pub first : IsHeldSector (take 1 new) lsn
+  pub others : (n m : ℕ) → n < 256 → IsHeldSector (take n old) m → IsHeldSector (take (n + 1) new) m
 
 -- `count` sectors of these segments, from place `from` on, have been used: they are the first held sectors, and no
 -- other sector is more than `count` places further back than before
 pub record StayFirst (segments : List (ℕ × ℕ)) (from count : ℕ) (old new : List Sector) : Type 0 where
-  pub first : count ≤ 256 → AreHeld (take count new) segments from (from + count)
-  pub others : (n m : ℕ) → n + count ≤ 256 → IsHeld (take n old) m → IsHeld (take (n + count) new) m
+  pub first : count ≤ 256 → SectorsAreHeld (take count new) segments from (from + count)
+  pub others : (n m : ℕ) → n + count ≤ 256 → IsHeldSector (take n old) m → IsHeldSector (take (n + count) new) m
 
 -- how `count` sectors of these segments, from place `from` on, are read through the cache: if all of them are held, no
 -- call of the drive is made; after the read they have been used
 pub record UsesSectors {A Fault : Type 0} (segments : List (ℕ × ℕ)) (from count : ℕ) (result : Result A Fault)
     (old new : List Sector) (calls calls_now : ℕ) : Type 0 where
-  pub hits : AreHeld old segments from (from + count) → calls_now ≡ calls
+  pub hits : SectorsAreHeld old segments from (from + count) → calls_now ≡ calls
   pub held : OnOk result (StayFirst segments from count old new)

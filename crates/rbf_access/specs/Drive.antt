@@ -43,5 +43,5 @@ abbrev pub Counts : {Table : Type 0} {Driver : Table → Type 0}
 Counts members fault most before now = MovesCounts fault most (counts_of members before) (counts_of members now)
 
 -- exactly `count` reads and writes were made, as far as the counter shows: it stops at its greatest value
-abbrev pub Made : ℕ → ℕ → ℕ → Type 0
-Made count before now = min now (2 ^ 64 - 1) ≡ min (before + count) (2 ^ 64 - 1)
+abbrev pub AccessesMade : ℕ → ℕ → ℕ → Type 0
+AccessesMade count before now = min now (2 ^ 64 - 1) ≡ min (before + count) (2 ^ 64 - 1)

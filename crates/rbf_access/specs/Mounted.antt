@@ -5,7 +5,7 @@ use Rattle.rbf_model.specs.File.{DiskFile}
 use Rattle.rbf_model.specs.Volume.{DiskVolume, Vol}
 use Rattle.rbf_sector.specs.Ident.{geometry_of}
 use Rattle.rbf_sector.specs.declared.ident.Ident.{Ident}
-use Rattle.rbf_change.specs.Agrees.{KeptVolume, AgreesOnMap, Agrees}
+use Rattle.rbf_change.specs.Agrees.{MountedPart, AgreesOnMap, Agrees}
 use Rattle.rbf_map.specs.Map.{ClusterMap}
 use Rattle.rbf_access.specs.Cached.{IsCacheOf}
 use Rattle.rbf_access.specs.declared.volume.Volume.{Volume}
@@ -38,13 +38,13 @@ abbrev pub IsMapOf : Option (List ℕ) → ClusterMap → Type 0
 IsMapOf media map = (image : List ℕ) → media ≡ Some image → AgreesOnMap map image
 
 -- the kept part of a mounted volume
-abbrev pub kept : Volume → KeptVolume
-kept volume = record { sizes = geometry_of volume.ident; map = volume.map }
+abbrev pub mounted_part : Volume → MountedPart
+mounted_part volume = record { sizes = geometry_of volume.ident; map = volume.map }
 
 -- the kept part is that of the volume that the media holds
 pub record IsVolumeOf (media : Option (List ℕ)) (volume : Volume) : Type 0 where
   pub holds : HoldsVolume media
-  pub agrees : Agrees (kept volume) holds.image
+  pub agrees : Agrees (mounted_part volume) holds.image
   pub cached : IsCacheOf media volume.cache
 
 -- the number of drive calls that a mount makes: one for the identification sector, and one for each sector of the map
@@ -53,32 +53,32 @@ media_calls None = 0
 media_calls (Some image) = 1 + map_sectors (image_geometry image)
 
 abbrev pub mount_calls : Volume → ℕ
-mount_calls volume = 1 + map_sectors (kept volume).sizes
+mount_calls volume = 1 + map_sectors (mounted_part volume).sizes
 
 -- the media represents the volume
-pub record Represents (media : Option (List ℕ)) (v : DiskVolume) : Type 0 where
+pub record RepresentsVolume (media : Option (List ℕ)) (v : DiskVolume) : Type 0 where
   pub image : List ℕ
   pub is : media ≡ Some image
   pub vol : Vol image v
 
 -- a fact about the volume that the media represents
 abbrev pub OnVolume : Option (List ℕ) → (DiskVolume → Type 0) → Type 0
-OnVolume media fact = (v : DiskVolume) → Represents media v → fact v
+OnVolume media fact = (v : DiskVolume) → RepresentsVolume media v → fact v
 
 -- the media represents some volume
-abbrev pub IsSound : Option (List ℕ) → Type 0
-IsSound media = (v : DiskVolume) × Represents media v
+abbrev pub IsSoundMedia : Option (List ℕ) → Type 0
+IsSoundMedia media = (v : DiskVolume) × RepresentsVolume media v
 
 -- the volume is mounted: its kept part and each sector in its cache are those of the media, which represents a volume
 pub record IsMounted (volume : Volume) (media : Option (List ℕ)) : Type 0 where
   pub content : DiskVolume
-  pub on : Represents media content
-  pub agrees : Agrees (kept volume) on.image
+  pub on : RepresentsVolume media content
+  pub agrees : Agrees (mounted_part volume) on.image
   pub cached : IsCacheOf media volume.cache
 
 -- the media represents a volume with a file of this number
 pub record HasFile (media : Option (List ℕ)) (n : ℕ) : Type 0 where
   pub content : DiskVolume
-  pub on : Represents media content
+  pub on : RepresentsVolume media content
   pub file : DiskFile
   pub is : content.files n ≡ Some file

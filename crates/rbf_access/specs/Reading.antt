@@ -9,8 +9,8 @@ use Rattle.rbf_sector.specs.declared.fd.Fd.{Fd}
 use Rattle.rbf_sector.specs.declared.run.Run.{Run}
 use Rattle.rbf_change.specs.Contents.{bytes_from, sector_span}
 use Rattle.sector_cache.specs.declared.sector.Sector.{Sector}
-use Rattle.rbf_access.specs.Cached.{AreHeld, IsCacheOf, IsHeld}
-use Rattle.rbf_access.specs.Mounted.{Represents}
+use Rattle.rbf_access.specs.Cached.{SectorsAreHeld, IsCacheOf, IsHeldSector}
+use Rattle.rbf_access.specs.Mounted.{RepresentsVolume}
 
 -- the fields of a descriptor are those of a file
 pub record IsFdOf (file : DiskFile) (fd : Fd) : Type 0 where
@@ -25,12 +25,12 @@ pub record IsFdOf (file : DiskFile) (fd : Fd) : Type 0 where
 -- a fact about file n of the volume that the media represents
 abbrev pub OnFile : Option (List ℕ) → ℕ → (DiskFile → Type 0) → Type 0
 OnFile media n fact =
-    (v : DiskVolume) (file : DiskFile) → Represents media v → v.files n ≡ Some file → fact file
+    (v : DiskVolume) (file : DiskFile) → RepresentsVolume media v → v.files n ≡ Some file → fact file
 
 -- a fact about that volume and its file n
 abbrev pub OnVolumeFile : Option (List ℕ) → ℕ → (DiskVolume → DiskFile → Type 0) → Type 0
 OnVolumeFile media n fact =
-    (v : DiskVolume) (file : DiskFile) → Represents media v → v.files n ≡ Some file → fact v file
+    (v : DiskVolume) (file : DiskFile) → RepresentsVolume media v → v.files n ≡ Some file → fact v file
 
 -- a buffer into which bytes have been read: the part that they do not fill is unchanged
 abbrev pub filled_buffer : List ℕ → List ℕ → List ℕ
@@ -38,7 +38,7 @@ filled_buffer bytes buffer = bytes ++ drop (length bytes) buffer
 
 -- a read of a file from place `at` on: the number of bytes read, which the file's end and the room of the buffer limit,
 -- and the buffer after the read
-pub record IsRead (file : DiskFile) (at : ℕ) (before now : List ℕ) (count : ℕ) : Type 0 where
+pub record IsReadInto (file : DiskFile) (at : ℕ) (before now : List ℕ) (count : ℕ) : Type 0 where
   pub count_is : count ≡ length (bytes_from file.contents at (length before))
   pub buffer_is : now ≡ filled_buffer (bytes_from file.contents at (length before)) before
 
@@ -76,12 +76,12 @@ span_for at buffer = sector_span at (at + length buffer)
 -- the sectors in a cache are the media's, and this sector is one of them
 pub record IsCacheWith (media : Option (List ℕ)) (held : List Sector) (lsn : ℕ) : Type 0 where
   pub cached : IsCacheOf media held
-  pub here : IsHeld held lsn
+  pub here : IsHeldSector held lsn
 
 -- all sectors of a read are cached: the descriptor, and those of which it reads a byte
 pub record AreCached (held : List Sector) (fd : ℕ) (file : DiskFile) (at room : ℕ) : Type 0 where
-  pub descriptor : IsHeld held fd
-  pub sectors : AreHeld held file.segments (at / 256)
+  pub descriptor : IsHeldSector held fd
+  pub sectors : SectorsAreHeld held file.segments (at / 256)
       (at / 256 + sector_span at (min (at + room) (length file.contents)))
 
 -- how a read of file n uses the cache: if all its sectors are cached, no call of the drive is made; after the read they

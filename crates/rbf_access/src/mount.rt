@@ -3,9 +3,9 @@ ghost use Rattle.os9_outer.specs.Drive.{sector_count};
 ghost use Rattle.rbf_model.specs.Geometry.{geometry, map_sectors};
 ghost use Rattle.rbf_model.specs.Volume.{DiskVolume};
 ghost use Rattle.rbf_sector.specs.Ident.{geometry_of};
-ghost use Rattle.rbf_access.specs.Drive.{Counts, Made};
+ghost use Rattle.rbf_access.specs.Drive.{Counts, AccessesMade};
 ghost use Rattle.rbf_access.specs.Faults.{volume_fault};
-ghost use Rattle.rbf_access.specs.Mounted.{FitsDrive, HoldsVolume, IsIdentOf, IsMapOf, IsVolumeOf, IsMounted, Represents, map_bytes, mount_calls, media_calls};
+ghost use Rattle.rbf_access.specs.Mounted.{FitsDrive, HoldsVolume, IsIdentOf, IsMapOf, IsVolumeOf, IsMounted, RepresentsVolume, map_bytes, mount_calls, media_calls};
 
 use crate::faults::VolFault;
 use crate::sector::read_sector;
@@ -25,12 +25,12 @@ impl Volume {
     /// the drive fails, or out of memory.
     pub fn mount(alloc: Global, d: &mut dyn BlockDriver) -> Result<Volume, VolFault>
         ensures kept { IfOk result (IsVolumeOf (media d.new)) }
-        ensures mounted { (v : DiskVolume) → Represents (media d.old) v
+        ensures mounted { (v : DiskVolume) → RepresentsVolume (media d.old) v
             → IfOk result (λ volume. IsMounted volume (media d.new)) }
         ensures not_rbf { IsErrOf result VolFault.NotRbf → ¬ HoldsVolume (media d.old) }
         ensures media_kept { media d.new ≡ media d.old }
         ensures made { IfOk result (λ volume.
-            Made (mount_calls volume) (drive_calls d.old) (drive_calls d.new)) }
+            AccessesMade (mount_calls volume) (drive_calls d.old) (drive_calls d.new)) }
         ensures counts { Counts BlockDriver-dyn
             (volume_fault result) (media_calls (media d.old)) d.old d.new }
         ensures refused_calls { IsErrOf result VolFault.NotRbf
@@ -50,7 +50,7 @@ fn read_identification(d: &mut dyn BlockDriver) -> Result<Ident, VolFault>
     ensures media_kept { media d.new ≡ media d.old }
     ensures counts { Counts BlockDriver-dyn (volume_fault result) 1 d.old d.new }
     ensures empty { sector_count (media d.old) ≡ 0 → drive_calls d.new ≡ drive_calls d.old }
-    ensures made { OnOk result (Made 1 (drive_calls d.old) (drive_calls d.new)) }
+    ensures made { OnOk result (AccessesMade 1 (drive_calls d.old) (drive_calls d.new)) }
 {
     let sectors = d.sectors();
     if sectors == 0 {
@@ -87,8 +87,8 @@ fn read_map(alloc: Global, d: &mut dyn BlockDriver, ident: &Ident) -> Result<Rbf
     ensures media_kept { media d.new ≡ media d.old }
     ensures counts { Counts BlockDriver-dyn
         (volume_fault result) (map_sectors (geometry_of ident.now)) d.old d.new }
-    ensures made { OnOk result
-        (Made (map_sectors (geometry_of ident.now)) (drive_calls d.old) (drive_calls d.new)) }
+    ensures made { OnOk result (AccessesMade (map_sectors (geometry_of ident.now))
+        (drive_calls d.old) (drive_calls d.new)) }
 {
     let bytes = read_map_bytes(alloc, d, system_sectors(ident))?;
     let cluster = u32::from(ident.cluster);
@@ -104,7 +104,7 @@ fn read_map_bytes(alloc: Global, d: &mut dyn BlockDriver, end: u16) -> Result<Ve
     ensures rbf { ¬ IsErrOf result VolFault.NotRbf }
     ensures media_kept { media d.new ≡ media d.old }
     ensures counts { Counts BlockDriver-dyn (volume_fault result) (end - 1) d.old d.new }
-    ensures made { OnOk result (Made (end - 1) (drive_calls d.old) (drive_calls d.new)) }
+    ensures made { OnOk result (AccessesMade (end - 1) (drive_calls d.old) (drive_calls d.new)) }
 {
     let mut bytes = Vec::new(alloc);
     for lsn in 1..end {

@@ -8,11 +8,11 @@ ghost use Rattle.rbf_map.specs.Map.{map_free_clusters};
 ghost use Rattle.rbf_change.specs.Calls.{free_total, shape};
 ghost use Rattle.rbf_change.specs.Agrees.{Agrees};
 ghost use Rattle.rbf_change.specs.Contents.{bytes_from, sector_span};
-ghost use Rattle.rbf_access.specs.Cached.{IsCacheOf, IsHeld, IsUsed, StayHeld, UsesSectors};
+ghost use Rattle.rbf_access.specs.Cached.{IsCacheOf, IsHeldSector, IsSectorUsed, StayHeld, UsesSectors};
 ghost use Rattle.rbf_access.specs.Drive.{Counts};
 ghost use Rattle.rbf_access.specs.Faults.{file_fault};
-ghost use Rattle.rbf_access.specs.Mounted.{kept, HasFile, IsMounted, Represents};
-ghost use Rattle.rbf_access.specs.Reading.{HaveBytes, IsCacheWith, IsFdOf, IsRead, OnFile, UsesCache, bytes_for, list_at, read_calls, run_list, span_for};
+ghost use Rattle.rbf_access.specs.Mounted.{mounted_part, HasFile, IsMounted, RepresentsVolume};
+ghost use Rattle.rbf_access.specs.Reading.{HaveBytes, IsCacheWith, IsFdOf, IsReadInto, OnFile, UsesCache, bytes_for, list_at, read_calls, run_list, span_for};
 
 use crate::faults::FileFault;
 use crate::volume::Volume;
@@ -24,7 +24,7 @@ impl Volume {
     /// The descriptor number of the root directory.
     pub fn root(&self) -> u32
         ensures kept { result ≡ self.now.ident.root }
-        ensures volume { (image : List ℕ) (v : DiskVolume) → Agrees (kept self.now) image
+        ensures volume { (image : List ℕ) (v : DiskVolume) → Agrees (mounted_part self.now) image
             → Vol image v
             → result ≡ (shape v).root }
     {
@@ -34,7 +34,7 @@ impl Volume {
     /// The number of free clusters.
     pub fn free_count(&self) -> u32
         ensures kept { result ≡ length (map_free_clusters self.now.map) }
-        ensures volume { (image : List ℕ) (v : DiskVolume) → Agrees (kept self.now) image
+        ensures volume { (image : List ℕ) (v : DiskVolume) → Agrees (mounted_part self.now) image
             → Vol image v
             → result ≡ free_total v }
     {
@@ -53,11 +53,11 @@ impl Volume {
         ensures device { OnErr result (IsSome (file_fault result)) }
         ensures mounted { IsMounted self.new (media d.new) }
         ensures media_kept { media d.new ≡ media d.old }
-        ensures volume_kept { kept self.new ≡ kept self.old }
-        ensures hit { IsHeld self.old.cache lsn → drive_calls d.new ≡ drive_calls d.old }
-        ensures used { OnOk result (IsUsed lsn self.old.cache self.new.cache) }
-        ensures still { (m : ℕ) → IsHeld self.old.cache lsn → IsHeld self.old.cache m
-            → IsHeld self.new.cache m }
+        ensures volume_kept { mounted_part self.new ≡ mounted_part self.old }
+        ensures hit { IsHeldSector self.old.cache lsn → drive_calls d.new ≡ drive_calls d.old }
+        ensures used { OnOk result (IsSectorUsed lsn self.old.cache self.new.cache) }
+        ensures still { (m : ℕ) → IsHeldSector self.old.cache lsn → IsHeldSector self.old.cache m
+            → IsHeldSector self.new.cache m }
         ensures counts { Counts BlockDriver-dyn (file_fault result) 1 d.old d.new }
     {
         self.bring(d, lsn)?;
@@ -77,9 +77,9 @@ impl Volume {
         ensures device { OnErr result (IsSome (file_fault result)) }
         ensures mounted { IsMounted self.new (media d.new) }
         ensures media_kept { media d.new ≡ media d.old }
-        ensures volume_kept { kept self.new ≡ kept self.old }
-        ensures hit { IsHeld self.old.cache lsn → drive_calls d.new ≡ drive_calls d.old }
-        ensures used { OnOk result (IsUsed lsn self.old.cache self.new.cache) }
+        ensures volume_kept { mounted_part self.new ≡ mounted_part self.old }
+        ensures hit { IsHeldSector self.old.cache lsn → drive_calls d.new ≡ drive_calls d.old }
+        ensures used { OnOk result (IsSectorUsed lsn self.old.cache self.new.cache) }
         ensures still { StayHeld lsn self.old.cache self.new.cache }
         ensures counts { Counts BlockDriver-dyn (file_fault result) 1 d.old d.new }
     {
@@ -103,11 +103,11 @@ impl Volume {
         requires mounted { IsMounted self.old (media d.old) }
         requires file { HasFile (media d.old) fd }
         ensures ok { OnFile (media d.old) fd (λ file. IfOk result
-            (IsRead file at into.old into.new)) }
+            (IsReadInto file at into.old into.new)) }
         ensures device { OnErr result (IsSome (file_fault result)) }
         ensures mounted { IsMounted self.new (media d.new) }
         ensures media_kept { media d.new ≡ media d.old }
-        ensures volume_kept { kept self.new ≡ kept self.old }
+        ensures volume_kept { mounted_part self.new ≡ mounted_part self.old }
         ensures cache { OnFile (media d.old) fd (λ file. UsesCache fd file at (length into.old)
             result self.old.cache self.new.cache (drive_calls d.old) (drive_calls d.new)) }
         ensures counts { OnFile (media d.old) fd (λ file. Counts BlockDriver-dyn
@@ -133,7 +133,7 @@ impl Volume {
             (into.new ≡ bytes_for (media d.old) (list_at (media d.old) fd) at into.old) }
         ensures device { OnErr result (IsSome (file_fault result)) }
         ensures media_kept { media d.new ≡ media d.old }
-        ensures volume_kept { kept self.new ≡ kept self.old }
+        ensures volume_kept { mounted_part self.new ≡ mounted_part self.old }
         ensures cached { IsCacheOf (media d.new) self.new.cache }
         ensures cache { UsesSectors (list_at (media d.old) fd) (at / 256) (span_for at into.old)
             result self.old.cache self.new.cache (drive_calls d.old) (drive_calls d.new) }
@@ -163,7 +163,7 @@ impl Volume {
             (into.new ≡ bytes_for (media d.old) (run_list run.now) at into.old) }
         ensures device { OnErr result (IsSome (file_fault result)) }
         ensures media_kept { media d.new ≡ media d.old }
-        ensures volume_kept { kept self.new ≡ kept self.old }
+        ensures volume_kept { mounted_part self.new ≡ mounted_part self.old }
         ensures cached { IsCacheOf (media d.new) self.new.cache }
         ensures cache { UsesSectors (run_list run.now) (at / 256) (span_for at into.old)
             result self.old.cache self.new.cache (drive_calls d.old) (drive_calls d.new) }
@@ -196,7 +196,7 @@ impl Volume {
             ≡ bytes_from (segment_bytes (sector_at (media d.old)) segs.now) at (length into.old)) }
         ensures device { OnErr result (IsSome (file_fault result)) }
         ensures media_kept { media d.new ≡ media d.old }
-        ensures volume_kept { kept self.new ≡ kept self.old }
+        ensures volume_kept { mounted_part self.new ≡ mounted_part self.old }
         ensures cached { IsCacheOf (media d.new) self.new.cache }
         ensures cache { UsesSectors segs.now (at / 256) (sector_span at (at + length into.old))
             result self.old.cache self.new.cache (drive_calls d.old) (drive_calls d.new) }

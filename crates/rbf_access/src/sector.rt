@@ -1,8 +1,8 @@
 ghost use Rattle.std.specs.Prelude.{◌≡◌, ◌<◌, IfOk, OnOk, OnErr};
 ghost use Rattle.os9_outer.specs.Drive.{sector_count, sector_at, with_sector};
-ghost use Rattle.rbf_access.specs.Drive.{Counts, Made};
+ghost use Rattle.rbf_access.specs.Drive.{Counts, AccessesMade};
 ghost use Rattle.rbf_access.specs.Faults.{drive_fault};
-ghost use Rattle.rbf_access.specs.Mounted.{IsSound};
+ghost use Rattle.rbf_access.specs.Mounted.{IsSoundMedia};
 
 use os9_outer::drive::{BlockDriver, DriveFault};
 
@@ -12,7 +12,7 @@ pub fn read_sector(d: &mut dyn BlockDriver, lsn: u32) -> Result<[u8; 256], Drive
     ensures bytes { IfOk result (λ bytes. bytes ≡ sector_at (media d.old) lsn) }
     ensures media_kept { media d.new ≡ media d.old }
     ensures counts { Counts BlockDriver-dyn (drive_fault result) 1 d.old d.new }
-    ensures made { Made 1 (drive_calls d.old) (drive_calls d.new) }
+    ensures made { AccessesMade 1 (drive_calls d.old) (drive_calls d.new) }
 {
     let mut bytes = [0; 256];
     match read_into(d, lsn, &mut bytes) {
@@ -27,7 +27,7 @@ pub fn read_into(d: &mut dyn BlockDriver, lsn: u32, into: &mut [u8; 256]) -> Res
     ensures bytes { OnOk result (into.new ≡ sector_at (media d.old) lsn) }
     ensures media_kept { media d.new ≡ media d.old }
     ensures counts { Counts BlockDriver-dyn (drive_fault result) 1 d.old d.new }
-    ensures made { Made 1 (drive_calls d.old) (drive_calls d.new) }
+    ensures made { AccessesMade 1 (drive_calls d.old) (drive_calls d.new) }
 {
     d.read(lsn, into)
 }
@@ -35,7 +35,7 @@ pub fn read_into(d: &mut dyn BlockDriver, lsn: u32, into: &mut [u8; 256]) -> Res
 // Writes a sector. The media with the new sector must be well formed.
 pub fn write_sector(d: &mut dyn BlockDriver, lsn: u32, from: &[u8; 256]) -> Result<(), DriveFault>
     requires on { lsn < sector_count (media d.old) }
-    requires sound { IsSound (with_sector (media d.old) lsn from.now) }
+    requires sound { IsSoundMedia (with_sector (media d.old) lsn from.now) }
     ensures written { OnOk result (media d.new ≡ with_sector (media d.old) lsn from.now) }
     ensures media_kept { OnErr result (media d.new ≡ media d.old) }
     ensures counts { Counts BlockDriver-dyn (drive_fault result) 1 d.old d.new }

@@ -2,9 +2,9 @@ ghost use Rattle.std.specs.Prelude.{◌≡◌, ◌<◌, Some, take, IfOk, OnOk, 
 ghost use Rattle.os9_outer.specs.Drive.{sector_count, sector_at, with_sector};
 ghost use Rattle.rbf_access.specs.Drive.{Counts};
 ghost use Rattle.rbf_access.specs.Faults.{file_fault};
-ghost use Rattle.rbf_access.specs.Cached.{IsCacheOf, IsHeld, IsUsed, StayHeld};
+ghost use Rattle.rbf_access.specs.Cached.{IsCacheOf, IsHeldSector, IsSectorUsed, StayHeld};
 ghost use Rattle.sector_cache.specs.Held.{held_bytes, put_first, without};
-ghost use Rattle.rbf_access.specs.Mounted.{kept, IsSound};
+ghost use Rattle.rbf_access.specs.Mounted.{mounted_part, IsSoundMedia};
 
 use crate::faults::FileFault;
 use crate::sector::{read_into, write_sector};
@@ -34,10 +34,10 @@ impl Volume {
         ensures bytes { IfOk result (λ bytes. bytes ≡ sector_at (media d.old) lsn) }
         ensures device { OnErr result (IsSome (file_fault result)) }
         ensures media_kept { media d.new ≡ media d.old }
-        ensures volume_kept { kept self.new ≡ kept self.old }
+        ensures volume_kept { mounted_part self.new ≡ mounted_part self.old }
         ensures cached { IsCacheOf (media d.new) self.new.cache }
-        ensures hit { IsHeld self.old.cache lsn → drive_calls d.new ≡ drive_calls d.old }
-        ensures used { OnOk result (IsUsed lsn self.old.cache self.new.cache) }
+        ensures hit { IsHeldSector self.old.cache lsn → drive_calls d.new ≡ drive_calls d.old }
+        ensures used { OnOk result (IsSectorUsed lsn self.old.cache self.new.cache) }
         ensures left { OnErr result (self.new.cache ≡ self.old.cache) }
         ensures still { StayHeld lsn self.old.cache self.new.cache }
         ensures counts { Counts BlockDriver-dyn (file_fault result) 1 d.old d.new }
@@ -56,10 +56,10 @@ impl Volume {
         requires cached { IsCacheOf (media d.old) self.old.cache }
         ensures device { OnErr result (IsSome (file_fault result)) }
         ensures media_kept { media d.new ≡ media d.old }
-        ensures volume_kept { kept self.new ≡ kept self.old }
+        ensures volume_kept { mounted_part self.new ≡ mounted_part self.old }
         ensures cached { IsCacheOf (media d.new) self.new.cache }
-        ensures hit { IsHeld self.old.cache lsn → drive_calls d.new ≡ drive_calls d.old }
-        ensures used { OnOk result (IsUsed lsn self.old.cache self.new.cache) }
+        ensures hit { IsHeldSector self.old.cache lsn → drive_calls d.new ≡ drive_calls d.old }
+        ensures used { OnOk result (IsSectorUsed lsn self.old.cache self.new.cache) }
         ensures left { OnErr result (self.new.cache ≡ self.old.cache) }
         ensures still { StayHeld lsn self.old.cache self.new.cache }
         ensures counts { Counts BlockDriver-dyn (file_fault result) 1 d.old d.new }
@@ -79,7 +79,7 @@ impl Volume {
 
     /// The bytes of a sector that is in the cache.
     pub fn sector(&self, lsn: u32) -> &[u8; 256]
-        requires { IsHeld self.now.cache lsn }
+        requires { IsHeldSector self.now.cache lsn }
         ensures { held_bytes self.now.cache 0 lsn ≡ Some result.now }
     {
         match self.cache.bytes(0, lsn) {
@@ -102,11 +102,11 @@ impl Volume {
     ) -> Result<(), FileFault>
         requires on { lsn < sector_count (media d.old) }
         requires cached { IsCacheOf (media d.old) self.old.cache }
-        requires sound { IsSound (with_sector (media d.old) lsn from.now) }
+        requires sound { IsSoundMedia (with_sector (media d.old) lsn from.now) }
         ensures written { OnOk result (media d.new ≡ with_sector (media d.old) lsn from.now) }
         ensures media_kept { OnErr result (media d.new ≡ media d.old) }
         ensures device { OnErr result (IsSome (file_fault result)) }
-        ensures volume_kept { kept self.new ≡ kept self.old }
+        ensures volume_kept { mounted_part self.new ≡ mounted_part self.old }
         ensures cached { IsCacheOf (media d.new) self.new.cache }
         ensures first { OnOk result
             (self.new.cache ≡ take 256 (put_first self.old.cache 0 lsn from.now)) }

@@ -14,7 +14,7 @@ use Rattle.rbf_model.proofs.Segments.{has_range}
 use Rattle.rbf_model.proofs.Growth.{cluster_of_range}
 use Rattle.rbf_segs.proofs.Runs.{sectors_of-appended}
 use Rattle.rbf_map.specs.Map.{ClusterMap, IsFreeInMap, MayTake}
-use Rattle.rbf_map.specs.Runs.{is_clear, IsChosen}
+use Rattle.rbf_map.specs.Runs.{is_clear, IsChosenCluster}
 use Rattle.rbf_change.specs.Growth.{uses, MayGain, free_beside, with_clusters, Gains}
 use Rattle.rbf_alloc.specs.Gained.{IsChosenFor, AreChosen, last_cluster, cluster_at, clusters_from}
 use Rattle.rbf_alloc.proofs.Clear.{clear_is, free_is, unclear_is}
@@ -48,7 +48,7 @@ may_gain k kept segments c may = record {
 }
 
 -- and what it chooses is chosen for the file
-pub chosen_for : (k wanted : ℕ) (kept : ClusterMap) (segments : List (ℕ × ℕ)) (c : ℕ) → IsChosen kept (last_cluster k segments) wanted c → IsChosenFor k (is_clear kept) segments wanted c
+pub chosen_for : (k wanted : ℕ) (kept : ClusterMap) (segments : List (ℕ × ℕ)) (c : ℕ) → IsChosenCluster kept (last_cluster k segments) wanted c → IsChosenFor k (is_clear kept) segments wanted c
 chosen_for k wanted kept segments c chosen none = chosen (λ at is free.
     let some = some_last k (sectors_of segments) at is in
     let last : ℕ = get_or (sectors_of segments) (length (sectors_of segments) - 1) 0 / k in

@@ -14,21 +14,21 @@ use Rattle.rbf_model.specs.Volume.{DiskVolume, Vol}
 use Rattle.rbf_model.specs.Writes.{with_lost}
 use Rattle.rbf_model.proofs.Owners.{cluster_positive, cluster_below, mark_sector, root_file, owns_own}
 use Rattle.rbf_model.proofs.Space.{cluster_from_owns}
-use Rattle.rbf_change.specs.Agrees.{KeptVolume, Agrees}
+use Rattle.rbf_change.specs.Agrees.{MountedPart, Agrees}
 use Rattle.rbf_change.specs.Calls.{shape}
 use Rattle.rbf_change.proofs.LawfulWrites.{shape-image}
 use Rattle.rbf_access.specs.declared.volume.Volume.{Volume}
 use Rattle.rbf_access.specs.Cached.{IsCacheOf}
 use Rattle.rbf_access.specs.Drive.{DriveCounts, MovesCounts}
-use Rattle.rbf_access.specs.Mounted.{kept, Represents, IsMounted}
+use Rattle.rbf_access.specs.Mounted.{mounted_part, RepresentsVolume, IsMounted}
 use Rattle.rbf_access.specs.MapMarks.{has_mark_of, marking_sectors}
 use Rattle.rbf_access.proofs.Counting.{no_calls, counts_then}
 use Rattle.rbf_access.proofs.MapMarks.{below}
 use Rattle.rbf_access.proofs.Reading.{below_total}
 use Rattle.rbf_alloc.specs.declared.own.OwnSectors.{OwnSectors}
 use Rattle.rbf_alloc.specs.Own.{in_own, here, NoneHere}
-use Rattle.rbf_alloc.specs.Cleared.{MayClear, IsCleared, IsClearing, MayGoOn, ClearsNext, IsStopped, before, not_before}
-use Rattle.rbf_alloc.specs.Dropped.{IsGone, HasGone, IsDropped, DropEnds}
+use Rattle.rbf_alloc.specs.Cleared.{MayClear, AreMarksCleared, IsClearing, MayGoOn, ClearsNext, IsStopped, before, not_before}
+use Rattle.rbf_alloc.specs.Dropped.{IsGone, FileHasGone, IsDropped, DropEnds}
 use Rattle.rbf_alloc.proofs.MarkCalls.{moves_more, moves_to_fault, moves_all}
 use Rattle.rbf_alloc.proofs.FileClusters.{own_is, fields_some, AreSome}
 
@@ -52,11 +52,11 @@ lost_split false false true below same = refl
 lost_split false false false below same = refl
 
 -- a mounted volume is that of the media, whichever image is named
-pub agrees_on : (volume : Volume) (media : Option (List ℕ)) (v : DiskVolume) → IsMounted volume media → (on : Represents media v) → Agrees (kept volume) on.image
+pub agrees_on : (volume : Volume) (media : Option (List ℕ)) (v : DiskVolume) → IsMounted volume media → (on : RepresentsVolume media v) → Agrees (mounted_part volume) on.image
 agrees_on volume media v mounted on =
     let both : Some mounted.on.image ≡ Some on.image = sym mounted.on.is ∙ on.is in
     let same : mounted.on.image ≡ on.image = cc in
-    subst (λ i. Agrees (kept volume) i) same mounted.agrees
+    subst (λ i. Agrees (mounted_part volume) i) same mounted.agrees
 
 -- Marks in the sectors of the map before a place.
 
@@ -96,15 +96,15 @@ one_before gone place c = either (gone c) (nat_lt (c / 2048) place) (c / 2048 ==
             omega arith
 
 -- the sectors of the map before this one have been written
-pub record IsDropSoFar (gone : ℕ → Bool) (place : ℕ) (kept kept_now : KeptVolume) (media mid : Option (List ℕ)) (first half : DriveCounts) : Type 0 where
-  pub cleared : (v : DiskVolume) (old : List ℕ) → media ≡ Some old → Vol old v → MayClear v old gone → Agrees kept old → IsCleared v old (before gone place) mid kept_now
+pub record IsDropSoFar (gone : ℕ → Bool) (place : ℕ) (kept kept_now : MountedPart) (media mid : Option (List ℕ)) (first half : DriveCounts) : Type 0 where
+  pub cleared : (v : DiskVolume) (old : List ℕ) → media ≡ Some old → Vol old v → MayClear v old gone → Agrees mounted_part old → AreMarksCleared v old (before gone place) mid kept_now
   pub sizes : kept_now.sizes ≡ kept.sizes
   pub moved : MovesCounts None (below (has_mark_of kept.sizes gone) place) first half
 
 -- none has been
-pub drop_begins : (gone : ℕ → Bool) (kept kept_now : KeptVolume) (media mid : Option (List ℕ)) (first : DriveCounts) → mid ≡ media → kept_now ≡ kept
-    → IsDropSoFar gone 0 kept kept_now media mid first first
-drop_begins gone kept kept_now media mid first same still = record {
+pub drop_begins : (gone : ℕ → Bool) (kept kept_now : MountedPart) (media mid : Option (List ℕ)) (first : DriveCounts) → mid ≡ media → kept_now ≡ kept
+    → IsDropSoFar gone 0 mounted_part kept_now media mid first first
+drop_begins gone mounted_part kept_now media mid first same still = record {
   cleared = λ v old is vol may agrees. record {
     now = old;
     is = same ∙ is;
@@ -113,26 +113,28 @@ drop_begins gone kept kept_now media mid first same still = record {
     others = λ s none. refl;
     agrees = subst (λ kv. Agrees kv old) (sym still) agrees;
   };
-  sizes = ap (λ (kv : KeptVolume). kv.sizes) still;
+  sizes = ap (λ (kv : MountedPart). kv.sizes) still;
   moved = no_calls first;
 }
 
-module _ (gone : ℕ → Bool) (place : ℕ) (kept kept_now : KeptVolume) (media mid : Option (List ℕ)) (first half : DriveCounts) (far : IsDropSoFar gone place kept kept_now media mid first half) where
-  clearing : (v : DiskVolume) (old : List ℕ) → media ≡ Some old → Vol old v → MayClear v old gone → Agrees kept old
+module _ (gone : ℕ → Bool) (place : ℕ) (kept kept_now : MountedPart) (media mid : Option (List ℕ))
+    (first half : DriveCounts) (far : IsDropSoFar gone place mounted_part kept_now media mid first half) where
+  clearing : (v : DiskVolume) (old : List ℕ) → media ≡ Some old → Vol old v → MayClear v old gone → Agrees mounted_part old
       → place < map_sectors (image_geometry old) → IsClearing v old (before gone place) gone place mid kept_now
   clearing v old is vol may agrees within = record { vol = vol; may = may; far = far.cleared v old is vol may agrees; fresh = λ c there. not_yet gone place c there; within = within }
 
-  pub drop_goes_on : (v : DiskVolume) (old : List ℕ) → media ≡ Some old → Vol old v → MayClear v old gone → Agrees kept old → place < map_sectors (image_geometry old) → MayGoOn gone place mid kept_now
+  pub drop_goes_on : (v : DiskVolume) (old : List ℕ) → media ≡ Some old → Vol old v → MayClear v old gone
+      → Agrees mounted_part old → place < map_sectors (image_geometry old) → MayGoOn gone place mid kept_now
   drop_goes_on v old is vol may agrees within = record { volume = v; old = old; cleared = before gone place; is = clearing v old is vol may agrees within }
 
-  pub drop_more : (now : Option (List ℕ)) (kept_then : KeptVolume) (after : DriveCounts)
+  pub drop_more : (now : Option (List ℕ)) (kept_then : MountedPart) (after : DriveCounts)
       → place < map_sectors kept.sizes → ClearsNext gone place mid now kept_now kept_then → kept_then.sizes ≡ kept_now.sizes
       → ((c : ℕ) → gone c ≡ true → c < cluster_count kept.sizes) → MovesCounts None 1 half after → (NoneHere gone place → MovesCounts None 0 half after)
-      → IsDropSoFar gone (place + 1) kept kept_then media now first after
+      → IsDropSoFar gone (place + 1) mounted_part kept_then media now first after
   drop_more now kept_then after within next sizes in_volume counts none = record {
     cleared = λ v old is vol may agrees.
         let low : place < map_sectors (image_geometry old) = subst (λ h. place < map_sectors h) agrees.sizes_are within in
-        subst (λ t. IsCleared v old t now kept_then) (fun_ext (one_before gone place)) (next v old (before gone place) (clearing v old is vol may agrees low));
+        subst (λ t. AreMarksCleared v old t now kept_then) (fun_ext (one_before gone place)) (next v old (before gone place) (clearing v old is vol may agrees low));
     sizes = sizes ∙ far.sizes;
     moved = moves_more kept.sizes gone in_volume place None first half after far.moved counts none;
   }
@@ -196,7 +198,7 @@ module _ (media : Option (List ℕ)) (n : ℕ) (segs : List (ℕ × ℕ)) (segs_
   descriptor_there : n < sector_count media
   descriptor_there = below_total media v gone.on n gone.number
 
-  module _ (k : ℕ) (kv kv_now : KeptVolume) (k_is : k ≡ kv.sizes.cluster) (agrees : Agrees kv image) (place : ℕ) (mid : Option (List ℕ)) (first half : DriveCounts)
+  module _ (k : ℕ) (kv kv_now : MountedPart) (k_is : k ≡ kv.sizes.cluster) (agrees : Agrees kv image) (place : ℕ) (mid : Option (List ℕ)) (first half : DriveCounts)
       (far : IsDropSoFar (in_own k owner) place kv kv_now media mid first half) where
     same_k : in_own k owner ≡ in_own g.cluster owner
     same_k = ap (λ x. in_own x owner) (k_is ∙ ap (λ (h : Geometry). h.cluster) agrees.sizes_are)
@@ -210,7 +212,7 @@ module _ (media : Option (List ℕ)) (n : ℕ) (segs : List (ℕ × ℕ)) (segs_
     may : MayClear v image (in_own k owner)
     may = subst (MayClear v image) (sym same_k) may_clear
 
-    abbrev state : IsCleared v image (before (in_own k owner) place) mid kv_now
+    abbrev state : AreMarksCleared v image (before (in_own k owner) place) mid kv_now
     state = far.cleared v image gone.on.is gone.on.vol may agrees
 
     pub own_in_volume : (c : ℕ) → in_own k owner c ≡ true → c < cluster_count kv.sizes
@@ -231,7 +233,7 @@ module _ (media : Option (List ℕ)) (n : ℕ) (segs : List (ℕ × ℕ)) (segs_
         drop_goes_on (in_own k owner) place kv kv_now media mid first half far v image gone.on.is gone.on.vol may agrees (subst (λ h. place < map_sectors h) agrees.sizes_are within)
 
     -- the volume is mounted
-    pub mounted_so_far : (volume : Volume) → kept volume ≡ kv_now → IsCacheOf mid volume.cache → IsMounted volume mid
+    pub mounted_so_far : (volume : Volume) → mounted_part volume ≡ kv_now → IsCacheOf mid volume.cache → IsMounted volume mid
     mounted_so_far volume same cached = record {
       content = with_lost v (λ c. v.lost c && not (before (in_own k owner) place c));
       on = record { image = state.now; is = state.is; vol = state.vol };
@@ -327,7 +329,7 @@ module _ (media : Option (List ℕ)) (n : ℕ) (segs : List (ℕ × ℕ)) (segs_
         (false_from_ne_true (nat_lt (n / g.cluster / 2048) place) (λ h. let low = ltb-true (n / g.cluster / 2048) place h in absurd (omega arith)))
 
     -- a fault of the call that gives back what has its mark in one sector
-    pub drop_stopped : (now : Option (List ℕ)) (kv_then : KeptVolume) → IsStopped (in_own k owner) place mid now kv_now kv_then → DropEnds v n file media now
+    pub drop_stopped : (now : Option (List ℕ)) (kv_then : MountedPart) → IsStopped (in_own k owner) place mid now kv_now kv_then → DropEnds v n file media now
     drop_stopped now kv_then stop =
         let some = stop.some in
         let parts = and_parts (in_own k owner some.0) (some.0 / 2048 == place) some.1 in
@@ -335,7 +337,7 @@ module _ (media : Option (List ℕ)) (n : ℕ) (segs : List (ℕ × ℕ)) (segs_
         subst (DropEnds v n file media) (sym stop.media_kept)
         (drop_ended some.0 parts.0 (false_from_ne_true (nat_lt (some.0 / 2048) place) (λ h. let low = ltb-true (some.0 / 2048) place h in absurd (omega arith))))
 
-    pub mounted_stopped : (volume : Volume) (now : Option (List ℕ)) → IsStopped (in_own k owner) place mid now kv_now (kept volume) → IsCacheOf now volume.cache → IsMounted volume now
+    pub mounted_stopped : (volume : Volume) (now : Option (List ℕ)) → IsStopped (in_own k owner) place mid now kv_now (mounted_part volume) → IsCacheOf now volume.cache → IsMounted volume now
     mounted_stopped volume now stop cached = subst (IsMounted volume) (sym stop.media_kept) (mounted_so_far volume stop.volume_kept (subst (λ m. IsCacheOf m volume.cache) stop.media_kept cached))
 
 -- what holds whatever the answer is
@@ -344,7 +346,7 @@ on_err (Ok a) P p = tt
 on_err (Err e) P p = p
 
 -- the descriptor could not be read
-pub drop_unread : (media : Option (List ℕ)) (n : ℕ) (v : DiskVolume) (file : DiskFile) (gone : IsGone media v n file) (kv : KeptVolume)
+pub drop_unread : (media : Option (List ℕ)) (n : ℕ) (v : DiskVolume) (file : DiskFile) (gone : IsGone media v n file) (kv : MountedPart)
     → Agrees kv gone.on.image → (mid : Option (List ℕ)) → mid ≡ media → DropEnds v n file media mid
 drop_unread media n v file gone kv agrees mid same =
     let none : DriveCounts = record { faults = 0; last = None; calls = 0 } in
@@ -357,8 +359,8 @@ drop_unread media n v file gone kv agrees mid same =
 pub still_gone : (media now : Option (List ℕ)) (n : ℕ) (v : DiskVolume) (file : DiskFile) → now ≡ media → IsGone media v n file → IsGone now v n file
 still_gone media now n v file same gone = subst (λ m. IsGone m v n file) (sym same) gone
 
-pub still_has_gone : (media now : Option (List ℕ)) (n : ℕ) → now ≡ media → HasGone media n → HasGone now n
-still_has_gone media now n same gone = subst (λ m. HasGone m n) (sym same) gone
+pub still_has_gone : (media now : Option (List ℕ)) (n : ℕ) → now ≡ media → FileHasGone media n → FileHasGone now n
+still_has_gone media now n same gone = subst (λ m. FileHasGone m n) (sym same) gone
 
 pub dropped_before : (media mid now : Option (List ℕ)) (n : ℕ) (v : DiskVolume) (file : DiskFile) → mid ≡ media → IsDropped v n file mid now → IsDropped v n file media now
 dropped_before media mid now n v file same done = subst (λ m. IsDropped v n file m now) same done
@@ -377,15 +379,15 @@ pub none_as : (k other : ℕ) (own : OwnSectors) (place : ℕ) (P : Type 0) → 
 none_as k other own place P same rest none = rest (subst (λ x. NoneHere (in_own x own) place) (sym same) none)
 
 -- the same where the sizes have come from the call before
-pub go_as : (k other : ℕ) (own : OwnSectors) (place : ℕ) (media : Option (List ℕ)) (kv : KeptVolume) → other ≡ k → MayGoOn (in_own k own) place media kv → MayGoOn (in_own other own) place media kv
+pub go_as : (k other : ℕ) (own : OwnSectors) (place : ℕ) (media : Option (List ℕ)) (kv : MountedPart) → other ≡ k → MayGoOn (in_own k own) place media kv → MayGoOn (in_own other own) place media kv
 go_as k other own place media kv same go = subst (λ x. MayGoOn (in_own x own) place media kv) (sym same) go
 
-pub stopped_as : (k other : ℕ) (own : OwnSectors) (place : ℕ) (media now : Option (List ℕ)) (kv kv_now : KeptVolume)
+pub stopped_as : (k other : ℕ) (own : OwnSectors) (place : ℕ) (media now : Option (List ℕ)) (kv kv_now : MountedPart)
     → other ≡ k → IsStopped (in_own other own) place media now kv kv_now
     → IsStopped (in_own k own) place media now kv kv_now
 stopped_as k other own place media now kv kv_now same stop = subst (λ x. IsStopped (in_own x own) place media now kv kv_now) same stop
 
-pub next_as : (k other : ℕ) (own : OwnSectors) (place : ℕ) (media now : Option (List ℕ)) (kv kv_now : KeptVolume)
+pub next_as : (k other : ℕ) (own : OwnSectors) (place : ℕ) (media now : Option (List ℕ)) (kv kv_now : MountedPart)
     → other ≡ k → ClearsNext (in_own other own) place media now kv kv_now
     → ClearsNext (in_own k own) place media now kv kv_now
 next_as k other own place media now kv kv_now same next = subst (λ x. ClearsNext (in_own x own) place media now kv kv_now) same next

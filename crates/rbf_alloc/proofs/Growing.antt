@@ -15,7 +15,7 @@ use Rattle.rbf_model.specs.Writes.{with_lost}
 use Rattle.rbf_model.proofs.Owners.{cluster_positive, mark_sector}
 use Rattle.rbf_map.specs.Map.{ClusterMap, mark}
 use Rattle.rbf_map.proofs.Volume.{free_in_map, free_on_volume}
-use Rattle.rbf_change.specs.Agrees.{KeptVolume, Agrees}
+use Rattle.rbf_change.specs.Agrees.{MountedPart, Agrees}
 use Rattle.rbf_change.specs.Calls.{shape, cluster_size, is_free_in}
 use Rattle.rbf_change.specs.Growth.{uses, with_clusters}
 use Rattle.rbf_change.proofs.LawfulWrites.{shape-image}
@@ -24,33 +24,33 @@ use Rattle.rbf_access.specs.declared.volume.Volume.{Volume}
 use Rattle.rbf_access.specs.Drive.{DriveCounts, MovesCounts}
 use Rattle.rbf_access.specs.MapMarks.{has_mark_of}
 use Rattle.rbf_access.specs.Cached.{IsCacheOf}
-use Rattle.rbf_access.specs.Mounted.{kept, Represents, IsMounted}
+use Rattle.rbf_access.specs.Mounted.{mounted_part, RepresentsVolume, IsMounted}
 use Rattle.rbf_access.proofs.Counting.{counts_most}
 use Rattle.rbf_access.proofs.MapMarks.{below, below_of, below_all, mark_there}
 use Rattle.rbf_map.specs.Runs.{is_clear}
-use Rattle.rbf_alloc.specs.Gained.{AreSizes, AreApart, SameMap, IsGain, IsChosenGain, IsTooMany, ArePlaces, cluster_at, clusters_from, is_written, IsGivenBack}
+use Rattle.rbf_alloc.specs.Gained.{AreSizes, AreApart, SameMap, IsGain, IsChosenGain, IsTooMany, AreMapPlaces, cluster_at, clusters_from, is_written, IsGivenBack}
 use Rattle.rbf_alloc.specs.Marked.{is_new_mark, IsAhead, IsMarkedTo, IsMarkedOn, AllWritten, AreWanted, unwritten}
-use Rattle.rbf_alloc.specs.Grown.{ChangesMap, IsChosen, IsGrown, GrowthEnds, is_gained}
+use Rattle.rbf_alloc.specs.Grown.{ChangesMap, IsChosenGrowth, IsGrown, GrowthEnds, is_gained}
 use Rattle.rbf_alloc.proofs.Clear.{clear_is, free_is}
 use Rattle.rbf_alloc.proofs.Chosen.{has_free, gained_free}
 use Rattle.rbf_alloc.proofs.Gaining.{none_written}
 use Rattle.rbf_alloc.proofs.Marking.{shape_kept, mark_within}
 
 -- a mounted volume is that of the media, whichever image is named
-pub agrees_on : (volume : Volume) (media : Option (List ℕ)) (v : DiskVolume) → IsMounted volume media → (on : Represents media v) → Agrees (kept volume) on.image
+pub agrees_on : (volume : Volume) (media : Option (List ℕ)) (v : DiskVolume) → IsMounted volume media → (on : RepresentsVolume media v) → Agrees (mounted_part volume) on.image
 agrees_on volume media v mounted on =
     let both : Some mounted.on.image ≡ Some on.image = sym mounted.on.is ∙ on.is in
     let same : mounted.on.image ≡ on.image = cc in
-    subst (λ i. Agrees (kept volume) i) same mounted.agrees
+    subst (λ i. Agrees (mounted_part volume) i) same mounted.agrees
 
 -- it stays mounted where the marks of its map are the same
 pub mounted_same : (volume : Volume) (media : Option (List ℕ)) (new : ClusterMap) (other : Volume)
-    → IsMounted volume media → SameMap volume.map new → kept other ≡ record { sizes = (kept volume).sizes; map = new }
+    → IsMounted volume media → SameMap volume.map new → mounted_part other ≡ record { sizes = (mounted_part volume).sizes; map = new }
     → IsCacheOf media other.cache → IsMounted other media
 mounted_same volume media new other mounted same is cached =
     let agrees = mounted.agrees in
     let sizes = same.bytes in
-    let there : Agrees (record { sizes = (kept volume).sizes; map = new }) mounted.on.image = record {
+    let there : Agrees (record { sizes = (mounted_part volume).sizes; map = new }) mounted.on.image = record {
       sizes_are = agrees.sizes_are;
       map = record {
         clusters_are = same.clusters ∙ agrees.map.clusters_are;
@@ -62,7 +62,7 @@ mounted_same volume media new other mounted same is cached =
     record { content = mounted.content; on = mounted.on; agrees = subst (λ kv. Agrees kv mounted.on.image) (sym is) there; cached = cached }
 
 -- the sizes of a volume that is mounted
-module _ (volume : Volume) (image : List ℕ) (v : DiskVolume) (vol : Vol image v) (agrees : Agrees (kept volume) image) where
+module _ (volume : Volume) (image : List ℕ) (v : DiskVolume) (vol : Vol image v) (agrees : Agrees (mounted_part volume) image) where
   abbrev g : Geometry
   g = image_geometry image
 
@@ -121,8 +121,8 @@ module _ (volume : Volume) (image : List ℕ) (v : DiskVolume) (vol : Vol image 
     abbrev taken : List ℕ
     taken = best.gain.taken
 
-    abbrev kept1 : KeptVolume
-    kept1 = record { sizes = (kept volume).sizes; map = map1 }
+    abbrev kept1 : MountedPart
+    kept1 = record { sizes = (mounted_part volume).sizes; map = map1 }
 
     taken_free : (c : ℕ) → has taken c ≡ true → is_free_in v c ≡ true
     taken_free c h = subst (λ (free : ℕ → Bool). free c ≡ true) free_is_clear (has_free k (is_clear volume.map) before taken c best.gain.gained h)
@@ -196,18 +196,18 @@ module _ (volume : Volume) (image : List ℕ) (v : DiskVolume) (vol : Vol image 
     marked_fresh media is = record { ahead = ahead; now = image; is = is; marked = fresh }
 
     -- the clusters that have been chosen
-    chosen : IsChosen (cluster_size v) count (is_free_in v) before taken
+    chosen : IsChosenGrowth (cluster_size v) count (is_free_in v) before taken
     chosen =
-        let one : IsChosen k count (is_clear volume.map) before taken = record {
+        let one : IsChosenGrowth k count (is_clear volume.map) before taken = record {
           counted = best.gain.counted;
           gained = best.gain.gained;
           best = best.chosen;
           fits = subst (λ xs. length xs ≤ 48) best.gain.segments best.gain.fits;
         } in
-        subst (λ n. IsChosen n count (is_free_in v) before taken) k_is (subst (λ free. IsChosen k count free before taken) free_is_clear one)
+        subst (λ n. IsChosenGrowth n count (is_free_in v) before taken) k_is (subst (λ free. IsChosenGrowth k count free before taken) free_is_clear one)
 
     -- the marks of the clusters of these places are in the map, and the places are new ones
-    module _ (first : ℕ) (places : ArePlaces k map1 after first count) (those : clusters_from k after first count ≡ taken) where
+    module _ (first : ℕ) (places : AreMapPlaces k map1 after first count) (those : clusters_from k after first count ≡ taken) where
       abbrev cluster_of_place : ℕ → ℕ
       cluster_of_place i = cluster_at k after (first + i * k)
 
@@ -286,7 +286,7 @@ module _ (volume : Volume) (image : List ℕ) (v : DiskVolume) (vol : Vol image 
 
       -- a map that has these marks is that of the media
       agrees_with : (map2 : ClusterMap) → map2.clusters ≡ map1.clusters → map2.whole ≡ map1.whole → length map2.bytes ≡ length map1.bytes
-          → ((c : ℕ) → c < 8 * length map1.bytes → is_marked (sector now) c ≡ (mark map2.bytes c == 1)) → Agrees (record { sizes = (kept volume).sizes; map = map2 }) now
+          → ((c : ℕ) → c < 8 * length map1.bytes → is_marked (sector now) c ≡ (mark map2.bytes c == 1)) → Agrees (record { sizes = (mounted_part volume).sizes; map = map2 }) now
       agrees_with map2 clusters whole bytes marks =
           let there : (clusters_are : map2.clusters ≡ cluster_count g) × (whole_are : map2.whole ≡ g.total / g.cluster) × (length map2.bytes ≡ 256 * map_sectors g) =
           (clusters ∙ ahead.clusters_are, whole ∙ ahead.whole_are, bytes ∙ ahead.sectors) in
@@ -354,7 +354,7 @@ module _ (volume : Volume) (image : List ℕ) (v : DiskVolume) (vol : Vol image 
 
       pub back_agrees : (map2 : ClusterMap) (first : ℕ) → clusters_from k after first count ≡ taken
           → IsGivenBack k after first count written map1 map2
-          → Agrees (record { sizes = (kept volume).sizes; map = map2 }) now
+          → Agrees (record { sizes = (mounted_part volume).sizes; map = map2 }) now
       back_agrees map2 first those back = agrees_with map2 back.clusters back.whole back.bytes (λ c low. on.marked.marks c low ∙ sym (back_mark c low))
         where
           and_none : (t : Bool) → (t && false) ≡ false
@@ -399,8 +399,8 @@ pub at_most_wanted : (f : Option ℕ) (count n : ℕ) (s t : DriveCounts) → Mo
 at_most_wanted f count n s t calls = counts_most f (min count n) n s t (omega arith) calls
 
 -- a volume is mounted that agrees with the media
-pub mounted_where : (volume : Volume) (media : Option (List ℕ)) (v : DiskVolume) (image : List ℕ) (kv : KeptVolume)
-    → media ≡ Some image → Vol image v → Agrees kv image → kept volume ≡ kv → IsCacheOf media volume.cache
+pub mounted_where : (volume : Volume) (media : Option (List ℕ)) (v : DiskVolume) (image : List ℕ) (kv : MountedPart)
+    → media ≡ Some image → Vol image v → Agrees kv image → mounted_part volume ≡ kv → IsCacheOf media volume.cache
     → IsMounted volume media
 mounted_where volume media v image kv is vol agrees same cached =
     record { content = v; on = record { image = image; is = is; vol = vol }; agrees = subst (λ x. Agrees x image) (sym same) agrees; cached = cached }

@@ -12,17 +12,17 @@ use Rattle.rbf_model.specs.Geometry.{Geometry, image_geometry, geometry, sector,
 use Rattle.rbf_model.specs.Space.{is_whole, is_marked}
 use Rattle.rbf_model.specs.Volume.{DiskVolume, Vol, is_free}
 use Rattle.rbf_model.specs.Writes.{put, put_sector, with_lost}
-use Rattle.rbf_model.specs.Laws.{TakesClusters}
+use Rattle.rbf_model.specs.Laws.{MarksFreeClusters}
 use Rattle.rbf_model.proofs.Bytes.{put_beside, marked_beside, marked_here}
 use Rattle.rbf_model.proofs.Free.{is_free_is}
 use Rattle.rbf_model.proofs.ImageLaws.{takes_image}
 use Rattle.rbf_model.proofs.Lifted.{sector_put}
 use Rattle.rbf_model.proofs.Owners.{cluster_positive, mark_sector}
 use Rattle.rbf_map.specs.Map.{ClusterMap, mark, IsSectorOf}
-use Rattle.rbf_change.specs.Agrees.{KeptVolume}
+use Rattle.rbf_change.specs.Agrees.{MountedPart}
 use Rattle.rbf_change.specs.Calls.{is_free_in}
 use Rattle.rbf_change.proofs.LawfulWrites.{shape-image}
-use Rattle.rbf_access.specs.Mounted.{Represents, IsSound}
+use Rattle.rbf_access.specs.Mounted.{RepresentsVolume, IsSoundMedia}
 use Rattle.rbf_access.proofs.Reading.{below_total}
 use Rattle.rbf_alloc.specs.Gained.{is_written}
 use Rattle.rbf_alloc.specs.Marked.{is_new_mark, IsAhead, IsMarkedTo, IsMarkedOn, IsMarking, WritesMapSector}
@@ -56,7 +56,7 @@ and_none : (t : Bool) → (t && false) ≡ false
 and_none true = refl
 and_none false = refl
 
-module _ (v : DiskVolume) (old now : List ℕ) (kept : KeptVolume) (written : List Bool) (ahead : IsAhead v old kept)
+module _ (v : DiskVolume) (old now : List ℕ) (kept : MountedPart) (written : List Bool) (ahead : IsAhead v old kept)
     (marked : IsMarkedTo v old now kept.map written) (n : ℕ) (room : n < length written)
     (fresh : (c : ℕ) → c / 2048 ≡ n → is_written written c ≡ false) (within : 1 + n ≤ map_sectors (image_geometry old))
     (bytes : List ℕ) (of_map : IsSectorOf kept.map.bytes n bytes) where
@@ -95,7 +95,7 @@ module _ (v : DiskVolume) (old now : List ℕ) (kept : KeptVolume) (written : Li
   was_marked : (c : ℕ) → c / 2048 ≡ n → is_marked (sector now) c ≡ is_marked (sector old) c
   was_marked c is = marked.marks c (in_bits c is) ∙ ap (λ t. if t then mark kept.map.bytes c == 1 else is_marked (sector old) c) (fresh c is)
 
-  takes : TakesClusters (disk_of g (sector now)) left (1 + n) bytes taken
+  takes : MarksFreeClusters (disk_of g (sector now)) left (1 + n) bytes taken
   takes = record {
     map = record { after = omega arith; within = subst (λ h. 1 + n ≤ map_sectors h) (sym same_shape) within };
     free = λ c h.
@@ -159,7 +159,7 @@ module _ (v : DiskVolume) (old now : List ℕ) (kept : KeptVolume) (written : Li
   }
 
 -- the mark of a whole cluster is in the map
-pub mark_within : (v : DiskVolume) (old : List ℕ) (kept : KeptVolume) (cluster : ℕ) → IsAhead v old kept → cluster < kept.map.whole → 1 + cluster / 2048 ≤ map_sectors (image_geometry old)
+pub mark_within : (v : DiskVolume) (old : List ℕ) (kept : MountedPart) (cluster : ℕ) → IsAhead v old kept → cluster < kept.map.whole → 1 + cluster / 2048 ≤ map_sectors (image_geometry old)
 mark_within v old kept cluster ahead low =
     let whole = ahead.whole_are in
     let positive = cluster_positive (image_geometry old).cluster ahead.vol.sound.shape.header.clusters in
@@ -170,7 +170,7 @@ mark_within v old kept cluster ahead low =
     omega arith
 
 -- on the media of a drive
-pub write_on : (v : DiskVolume) (old : List ℕ) (before after : Option (List ℕ)) (kept : KeptVolume) (written now_written : List Bool) (cluster n : ℕ) → n ≡ cluster / 2048 → n < length written
+pub write_on : (v : DiskVolume) (old : List ℕ) (before after : Option (List ℕ)) (kept : MountedPart) (written now_written : List Bool) (cluster n : ℕ) → n ≡ cluster / 2048 → n < length written
     → is_written written cluster ≡ false → cluster < kept.map.whole → now_written ≡ set written n true → WritesMapSector kept.map n before after
     → IsMarkedOn v old before kept written → IsMarkedOn v old after kept now_written
 write_on v old before after kept written now_written cluster n place room not_yet low news writes on =
@@ -185,11 +185,11 @@ write_on v old before after kept written now_written cluster n place room not_ye
     }
 
 -- and the drive has that sector
-pub sector_on : (kept : KeptVolume) (media : Option (List ℕ)) (written : List Bool) (cluster n : ℕ) → n ≡ cluster / 2048
+pub sector_on : (kept : MountedPart) (media : Option (List ℕ)) (written : List Bool) (cluster n : ℕ) → n ≡ cluster / 2048
     → cluster < kept.map.whole → IsMarking kept media written → 1 + n < sector_count media
 sector_on kept media written cluster n place low marking =
     let on = marking.on in
-    let on_now : Represents media (with_lost marking.volume (λ c. marking.volume.lost c || (is_new_mark marking.volume kept.map c && is_written written c))) =
+    let on_now : RepresentsVolume media (with_lost marking.volume (λ c. marking.volume.lost c || (is_new_mark marking.volume kept.map c && is_written written c))) =
     record { image = on.now; is = on.is; vol = on.marked.vol } in
     let within = mark_within marking.volume marking.old kept cluster on.ahead low in
     let same = shape_kept marking.volume marking.old on.now kept.map written on.marked in
@@ -198,8 +198,8 @@ sector_on kept media written cluster n place low marking =
     below_total media _ on_now (1 + n) (omega arith)
 
 -- the media is sound once the sector is written
-pub mark_sound : (kept : KeptVolume) (media : Option (List ℕ)) (written : List Bool) (cluster n : ℕ) → n ≡ cluster / 2048 → n < length written → is_written written cluster ≡ false
-    → cluster < kept.map.whole → IsMarking kept media written → (bytes : List ℕ) → IsSectorOf kept.map.bytes n bytes → IsSound (with_sector media (1 + n) bytes)
+pub mark_sound : (kept : MountedPart) (media : Option (List ℕ)) (written : List Bool) (cluster n : ℕ) → n ≡ cluster / 2048 → n < length written → is_written written cluster ≡ false
+    → cluster < kept.map.whole → IsMarking kept media written → (bytes : List ℕ) → IsSectorOf kept.map.bytes n bytes → IsSoundMedia (with_sector media (1 + n) bytes)
 mark_sound kept media written cluster n place room not_yet low marking bytes of_map =
     let on =
     write_on marking.volume marking.old media (with_sector media (1 + n) bytes) kept written (set written n true) cluster n place room not_yet low refl

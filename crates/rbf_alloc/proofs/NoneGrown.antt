@@ -5,7 +5,7 @@ use Rattle.rbf_model.specs.Geometry.{sector}
 use Rattle.rbf_model.specs.Space.{is_marked}
 use Rattle.rbf_model.specs.Volume.{DiskVolume, Vol}
 use Rattle.rbf_model.specs.Writes.{with_lost}
-use Rattle.rbf_access.specs.Mounted.{Represents}
+use Rattle.rbf_access.specs.Mounted.{RepresentsVolume}
 use Rattle.rbf_alloc.specs.Grown.{IsGrown}
 
 or_none : (b : Bool) → b ≡ (b || false)
@@ -16,7 +16,7 @@ and_kept : (b : Bool) → b ≡ (b && not false)
 and_kept true = refl
 and_kept false = refl
 
-grown_by_none : (v : DiskVolume) (media : Option (List ℕ)) → Represents media v → (segs : List (ℕ × ℕ)) → length segs ≤ 48 → IsGrown v 0 media media segs segs
+grown_by_none : (v : DiskVolume) (media : Option (List ℕ)) → RepresentsVolume media v → (segs : List (ℕ × ℕ)) → length segs ≤ 48 → IsGrown v 0 media media segs segs
 grown_by_none v media on segs few = record {
   image = on.image;
   now = on.image;
@@ -30,5 +30,5 @@ grown_by_none v media on segs few = record {
 }
 
 -- its volume is as it was
-pub none_grown : (v : DiskVolume) (media : Option (List ℕ)) → Represents media v → (n : ℕ) → n ≡ 0 → (segs : List (ℕ × ℕ)) → length segs ≤ 48 → IsGrown v n media media segs segs
+pub none_grown : (v : DiskVolume) (media : Option (List ℕ)) → RepresentsVolume media v → (n : ℕ) → n ≡ 0 → (segs : List (ℕ × ℕ)) → length segs ≤ 48 → IsGrown v n media media segs segs
 none_grown v media on n zero segs few = subst (λ k. IsGrown v k media media segs segs) (sym zero) (grown_by_none v media on segs few)

@@ -17,14 +17,14 @@ use Rattle.rbf_model.proofs.ImageLaws.{frees_image}
 use Rattle.rbf_model.proofs.Lifted.{sector_put}
 use Rattle.rbf_model.proofs.Owners.{cluster_positive}
 use Rattle.rbf_map.specs.Map.{ClusterMap, mark, IsSectorOf}
-use Rattle.rbf_change.specs.Agrees.{KeptVolume, Agrees}
+use Rattle.rbf_change.specs.Agrees.{MountedPart, Agrees}
 use Rattle.rbf_change.specs.Calls.{shape}
 use Rattle.rbf_change.proofs.LawfulWrites.{shape-image}
-use Rattle.rbf_access.specs.Mounted.{Represents}
+use Rattle.rbf_access.specs.Mounted.{RepresentsVolume}
 use Rattle.rbf_access.proofs.Reading.{below_total}
-use Rattle.rbf_access.specs.Mounted.{IsSound}
+use Rattle.rbf_access.specs.Mounted.{IsSoundMedia}
 use Rattle.rbf_alloc.specs.Own.{here, NoneHere, AreInMap, sector_mark, ClearsIn, ClearsMarks}
-use Rattle.rbf_alloc.specs.Cleared.{IsCleared, IsClearing, MayGoOn, ClearsNext}
+use Rattle.rbf_alloc.specs.Cleared.{AreMarksCleared, IsClearing, MayGoOn, ClearsNext}
 
 and_or : (t a b : Bool) → ((t && not a) && not b) ≡ (t && not (a || b))
 and_or true true b = refl
@@ -48,7 +48,7 @@ cleared_mark true m = and_false (m == 1)
     and_false false = refl
 cleared_mark false m = and_true (m == 1)
 
-module _ (v : DiskVolume) (old : List ℕ) (cleared gone : ℕ → Bool) (place : ℕ) (media : Option (List ℕ)) (kept : KeptVolume) (state : IsClearing v old cleared gone place media kept) where
+module _ (v : DiskVolume) (old : List ℕ) (cleared gone : ℕ → Bool) (place : ℕ) (media : Option (List ℕ)) (kept : MountedPart) (state : IsClearing v old cleared gone place media kept) where
   abbrev now : List ℕ
   now = state.far.now
 
@@ -73,7 +73,7 @@ module _ (v : DiskVolume) (old : List ℕ) (cleared gone : ℕ → Bool) (place 
   -- the drive has the sector, and the map has the clusters
   pub sector_there : 1 + place < sector_count media
   sector_there =
-      let on : Represents media left = record { image = now; is = state.far.is; vol = state.far.vol } in
+      let on : RepresentsVolume media left = record { image = now; is = state.far.is; vol = state.far.vol } in
       let room = state.far.vol.sound.shape.map.fits in
       let low = there in
       below_total media left on (1 + place) (omega arith)
@@ -97,10 +97,10 @@ module _ (v : DiskVolume) (old : List ℕ) (cleared gone : ℕ → Bool) (place 
       omega arith
 
   -- no cluster has its mark there
-  pub nothing_there : NoneHere gone place → IsCleared v old (λ c. cleared c || here gone place c) media kept
+  pub nothing_there : NoneHere gone place → AreMarksCleared v old (λ c. cleared c || here gone place c) media kept
   nothing_there none =
       let same : cleared ≡ (λ c. cleared c || here gone place c) = fun_ext (λ c. sym (ap (λ t. cleared c || t) (none c) ∙ or_false (cleared c))) in
-      subst (λ t. IsCleared v old t media kept) same state.far
+      subst (λ t. AreMarksCleared v old t media kept) same state.far
 
   module _ (first bytes : List ℕ) (of_map : IsSectorOf kept.map.bytes place first) (whole : length bytes ≡ 256) (without : ClearsIn place first bytes gone) where
     abbrev disk : ℕ → List ℕ
@@ -176,7 +176,7 @@ module _ (v : DiskVolume) (old : List ℕ) (cleared gone : ℕ → Bool) (place 
         }
 
     -- the media is sound once the sector is written
-    pub sound_then : IsSound (with_sector media (1 + place) bytes)
+    pub sound_then : IsSoundMedia (with_sector media (1 + place) bytes)
     sound_then = (
       _,
       record {
@@ -187,8 +187,8 @@ module _ (v : DiskVolume) (old : List ℕ) (cleared gone : ℕ → Bool) (place 
     )
 
     -- the sector has been written, and then what is kept has the marks no more
-    pub cleared_then : (media_now : Option (List ℕ)) (kept_now : KeptVolume) (map : ClusterMap) → media_now ≡ with_sector media (1 + place) bytes → ClearsMarks kept.map map (here gone place)
-        → kept_now ≡ record { sizes = kept.sizes; map = map } → IsCleared v old (λ c. cleared c || here gone place c) media_now kept_now
+    pub cleared_then : (media_now : Option (List ℕ)) (kept_now : MountedPart) (map : ClusterMap) → media_now ≡ with_sector media (1 + place) bytes → ClearsMarks kept.map map (here gone place)
+        → kept_now ≡ record { sizes = kept.sizes; map = map } → AreMarksCleared v old (λ c. cleared c || here gone place c) media_now kept_now
     cleared_then media_now kept_now map written freed is = record {
       now = put_sector now (1 + place) bytes;
       is = written ∙ ap (λ m. with_sector m (1 + place) bytes) state.far.is;
@@ -205,29 +205,29 @@ module _ (v : DiskVolume) (old : List ℕ) (cleared gone : ℕ → Bool) (place 
     }
 
 -- the same for some volume, as the code has it
-pub go_sector : (gone : ℕ → Bool) (place : ℕ) (media : Option (List ℕ)) (kept : KeptVolume) → MayGoOn gone place media kept → 1 + place < sector_count media
+pub go_sector : (gone : ℕ → Bool) (place : ℕ) (media : Option (List ℕ)) (kept : MountedPart) → MayGoOn gone place media kept → 1 + place < sector_count media
 go_sector gone place media kept go = sector_there go.volume go.old go.cleared gone place media kept go.is
 
-pub go_in_map : (gone : ℕ → Bool) (place : ℕ) (media : Option (List ℕ)) (kept : KeptVolume) → MayGoOn gone place media kept → AreInMap gone kept.map
+pub go_in_map : (gone : ℕ → Bool) (place : ℕ) (media : Option (List ℕ)) (kept : MountedPart) → MayGoOn gone place media kept → AreInMap gone kept.map
 go_in_map gone place media kept go = in_kept go.volume go.old go.cleared gone place media kept go.is
 
-pub go_positive : (gone : ℕ → Bool) (place : ℕ) (media : Option (List ℕ)) (kept : KeptVolume) → MayGoOn gone place media kept → 1 ≤ kept.sizes.cluster
+pub go_positive : (gone : ℕ → Bool) (place : ℕ) (media : Option (List ℕ)) (kept : MountedPart) → MayGoOn gone place media kept → 1 ≤ kept.sizes.cluster
 go_positive gone place media kept go = positive go.volume go.old go.cleared gone place media kept go.is
 
-pub clears_nothing : (gone : ℕ → Bool) (place : ℕ) (media : Option (List ℕ)) (kept : KeptVolume) → NoneHere gone place → ClearsNext gone place media media kept kept
+pub clears_nothing : (gone : ℕ → Bool) (place : ℕ) (media : Option (List ℕ)) (kept : MountedPart) → NoneHere gone place → ClearsNext gone place media media kept kept
 clears_nothing gone place media kept none v old cleared state = nothing_there v old cleared gone place media kept state none
 
-pub clears_next : (gone : ℕ → Bool) (place p : ℕ) (media now : Option (List ℕ)) (kept kept_now : KeptVolume) (first bytes : List ℕ) (map : ClusterMap)
+pub clears_next : (gone : ℕ → Bool) (place p : ℕ) (media now : Option (List ℕ)) (kept kept_now : MountedPart) (first bytes : List ℕ) (map : ClusterMap)
     → IsSectorOf kept.map.bytes place first → length bytes ≡ 256
     → ClearsIn place first bytes gone → p ≡ place → now ≡ with_sector media (1 + p) bytes → ClearsMarks kept.map map (here gone place) → kept_now ≡ record { sizes = kept.sizes; map = map }
     → ClearsNext gone place media now kept kept_now
 clears_next gone place p media now kept kept_now first bytes map of_map whole without same written freed is v old cleared state =
     cleared_then v old cleared gone place media kept state first bytes of_map whole without now kept_now map (written ∙ ap (λ q. with_sector media (1 + q) bytes) same) freed is
 
-pub go_sound : (gone : ℕ → Bool) (place p : ℕ) (media : Option (List ℕ)) (kept : KeptVolume) (first bytes : List ℕ) → IsSectorOf kept.map.bytes place first → length bytes ≡ 256
-    → ClearsIn place first bytes gone → p ≡ place → MayGoOn gone place media kept → IsSound (with_sector media (1 + p) bytes)
+pub go_sound : (gone : ℕ → Bool) (place p : ℕ) (media : Option (List ℕ)) (kept : MountedPart) (first bytes : List ℕ) → IsSectorOf kept.map.bytes place first → length bytes ≡ 256
+    → ClearsIn place first bytes gone → p ≡ place → MayGoOn gone place media kept → IsSoundMedia (with_sector media (1 + p) bytes)
 go_sound gone place p media kept first bytes of_map whole without same go =
-    subst (λ q. IsSound (with_sector media (1 + q) bytes)) (sym same) (sound_then go.volume go.old go.cleared gone place media kept go.is first bytes of_map whole without)
+    subst (λ q. IsSoundMedia (with_sector media (1 + q) bytes)) (sym same) (sound_then go.volume go.old go.cleared gone place media kept go.is first bytes of_map whole without)
 
 -- an answer that is none
 pub none_if : (o : Option ℕ) (P : Type 0) (Q : ℕ → Type 0) → is_some o ≡ false → MatchOption o P Q → P

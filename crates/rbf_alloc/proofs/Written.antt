@@ -5,7 +5,7 @@ use Rattle.std.proofs.lemmas.List.{set-get_or, get_or-set_other}
 use Rattle.std.proofs.lemmas.List.FromFn.{map-range_with_len_more}
 use Rattle.rbf_model.specs.Segments.{has}
 use Rattle.rbf_model.specs.Volume.{DiskVolume}
-use Rattle.rbf_change.specs.Agrees.{KeptVolume}
+use Rattle.rbf_change.specs.Agrees.{MountedPart}
 use Rattle.sector_cache.specs.declared.sector.Sector.{Sector}
 use Rattle.rbf_access.specs.Cached.{IsCacheOf}
 use Rattle.rbf_access.specs.Drive.{DriveCounts, MovesCounts}
@@ -82,7 +82,7 @@ cost_most written c = least (is_written written c)
     least false = omega arith
 
 -- those of the places before this one have been written
-pub record IsMarkedSoFar (k : ℕ) (segments : List (ℕ × ℕ)) (first i : ℕ) (kept kept_now : KeptVolume)
+pub record IsMarkedSoFar (k : ℕ) (segments : List (ℕ × ℕ)) (first i : ℕ) (kept kept_now : MountedPart)
     (media now : Option (List ℕ)) (written written_now : List Bool) (held : List Sector) (before after : DriveCounts) : Type
     0 where
   pub on : (v : DiskVolume) (old : List ℕ) → IsMarkedOn v old media kept written → IsMarkedOn v old now kept written_now
@@ -92,7 +92,7 @@ pub record IsMarkedSoFar (k : ℕ) (segments : List (ℕ × ℕ)) (first i : ℕ
   pub moved : MovesCounts None i before after
   pub left : (wanted : ℕ → Bool) (n : ℕ) → AreWanted k segments first i wanted n → after.calls + unwritten wanted written_now n ≤ before.calls + unwritten wanted written n
 
-pub none_marked : (k : ℕ) (segments : List (ℕ × ℕ)) (first : ℕ) (kept : KeptVolume) (media : Option (List ℕ)) (written : List Bool) (held : List Sector) (before : DriveCounts) → IsCacheOf media held
+pub none_marked : (k : ℕ) (segments : List (ℕ × ℕ)) (first : ℕ) (kept : MountedPart) (media : Option (List ℕ)) (written : List Bool) (held : List Sector) (before : DriveCounts) → IsCacheOf media held
     → IsMarkedSoFar k segments first 0 kept kept media media written written held before before
 none_marked k segments first kept media written held before cached = record {
   on = λ v old is. is;
@@ -103,7 +103,7 @@ none_marked k segments first kept media written held before cached = record {
   left = λ wanted n are. omega arith;
 }
 
-module _ (k : ℕ) (segments : List (ℕ × ℕ)) (first i : ℕ) (kept mid_kept : KeptVolume) (media mid : Option (List ℕ))
+module _ (k : ℕ) (segments : List (ℕ × ℕ)) (first i : ℕ) (kept mid_kept : MountedPart) (media mid : Option (List ℕ))
     (written mid_written : List Bool) (mid_held : List Sector) (before half : DriveCounts)
     (far : IsMarkedSoFar k segments first i kept mid_kept media mid written mid_written mid_held before half) where
   pub still_marking : IsMarking kept media written → IsMarking mid_kept mid mid_written
@@ -118,7 +118,7 @@ module _ (k : ℕ) (segments : List (ℕ × ℕ)) (first i : ℕ) (kept mid_kept
       → (v : DiskVolume) (old : List ℕ) → IsMarkedOn v old media kept written → IsMarkedOn v old now kept now_written
   on_at_fault = on_then
 
-  pub marked_more : (c : ℕ) (now_kept : KeptVolume) (now : Option (List ℕ)) (now_written : List Bool) (held : List Sector) (after : DriveCounts)
+  pub marked_more : (c : ℕ) (now_kept : MountedPart) (now : Option (List ℕ)) (now_written : List Bool) (held : List Sector) (after : DriveCounts)
       → ((v : DiskVolume) (old : List ℕ) → IsMarkedOn v old mid mid_kept mid_written → IsMarkedOn v old now mid_kept now_written)
       → is_written now_written c ≡ true → now_written ≡ set mid_written (c / 2048) true
       → c ≡ cluster_at k segments (first + i * k) → now_kept ≡ mid_kept → IsCacheOf now held → MovesCounts None (cost mid_written c) half after

@@ -5,7 +5,7 @@ use Rattle.rbf_model.specs.Space.{is_marked, cluster_count, Unused}
 use Rattle.rbf_model.specs.Volume.{DiskVolume, Vol}
 use Rattle.rbf_model.specs.Writes.{with_lost}
 use Rattle.rbf_model.specs.Laws.{IsMapSector}
-use Rattle.rbf_change.specs.Agrees.{KeptVolume, Agrees}
+use Rattle.rbf_change.specs.Agrees.{MountedPart, Agrees}
 use Rattle.rbf_change.specs.Calls.{shape}
 use Rattle.rbf_alloc.specs.Own.{here, HasHere}
 
@@ -17,7 +17,8 @@ pub record MayClear (v : DiskVolume) (image : List ℕ) (gone : ℕ → Bool) : 
 
 -- the marks of these clusters have been cleared on the media, and the kept part agrees with it; only sectors of the map
 -- have changed
-pub record IsCleared (v : DiskVolume) (old : List ℕ) (cleared : ℕ → Bool) (media : Option (List ℕ)) (kept : KeptVolume)
+pub record AreMarksCleared (v : DiskVolume) (old : List ℕ) (cleared : ℕ
+    → Bool) (media : Option (List ℕ)) (kept : MountedPart)
     : Type 0 where
   pub now : List ℕ
   pub is : media ≡ Some now
@@ -29,36 +30,36 @@ pub record IsCleared (v : DiskVolume) (old : List ℕ) (cleared : ℕ → Bool) 
 
 -- the next sector of the map is the one in this place: no mark in it has been cleared
 pub record IsClearing (v : DiskVolume) (old : List ℕ) (cleared gone : ℕ → Bool) (place : ℕ) (media : Option (List ℕ))
-    (kept : KeptVolume) : Type 0 where
+    (kept : MountedPart) : Type 0 where
   pub vol : Vol old v
   pub may : MayClear v old gone
-  pub far : IsCleared v old cleared media kept
+  pub far : AreMarksCleared v old cleared media kept
   pub fresh : (c : ℕ) → c / 2048 ≡ place → cleared c ≡ false
   pub within : place < map_sectors (image_geometry old)
 
 -- the same for some volume
-pub record MayGoOn (gone : ℕ → Bool) (place : ℕ) (media : Option (List ℕ)) (kept : KeptVolume) : Type 0 where
+pub record MayGoOn (gone : ℕ → Bool) (place : ℕ) (media : Option (List ℕ)) (kept : MountedPart) : Type 0 where
   pub volume : DiskVolume
   pub old : List ℕ
   pub cleared : ℕ → Bool
   pub is : IsClearing volume old cleared gone place media kept
 
 -- the marks of these clusters in that sector are cleared in addition
-abbrev pub ClearsNext : (ℕ → Bool) → ℕ → Option (List ℕ) → Option (List ℕ) → KeptVolume → KeptVolume → Type 0
+abbrev pub ClearsNext : (ℕ → Bool) → ℕ → Option (List ℕ) → Option (List ℕ) → MountedPart → MountedPart → Type 0
 ClearsNext gone place media now kept kept_now =
     (v : DiskVolume) (old : List ℕ) (cleared : ℕ → Bool) → IsClearing v old cleared gone place media kept
-    → IsCleared v old (λ c. cleared c || here gone place c) now kept_now
+    → AreMarksCleared v old (λ c. cleared c || here gone place c) now kept_now
 
 -- a fault occurred at a sector of the map with the mark of one of these clusters; nothing has changed
-pub record IsStopped (gone : ℕ → Bool) (place : ℕ) (media now : Option (List ℕ)) (kept kept_now : KeptVolume)
+pub record IsStopped (gone : ℕ → Bool) (place : ℕ) (media now : Option (List ℕ)) (kept kept_now : MountedPart)
     : Type 0 where
   pub some : HasHere gone place
   pub media_kept : now ≡ media
   pub volume_kept : kept_now ≡ kept
 
 -- by the answer: the marks have been cleared, or a fault occurred
-abbrev pub AnswersClearing : {Done Fault : Type 0} → (ℕ → Bool) → ℕ → Option (List ℕ) → Option (List ℕ) → KeptVolume
-    → KeptVolume → Result Done Fault → Type 0
+abbrev pub AnswersClearing : {Done Fault : Type 0} → (ℕ → Bool) → ℕ → Option (List ℕ) → Option (List ℕ) → MountedPart
+    → MountedPart → Result Done Fault → Type 0
 AnswersClearing gone place media now kept kept_now (Ok done) = ClearsNext gone place media now kept kept_now
 AnswersClearing gone place media now kept kept_now (Err fault) = IsStopped gone place media now kept kept_now
 

@@ -9,13 +9,13 @@ use Rattle.rbf_model.specs.Laws.{IsMapSector}
 use Rattle.rbf_change.specs.Calls.{shape}
 use Rattle.rbf_change.specs.Faults.{MayLose, OneIsMarked}
 use Rattle.rbf_change.specs.Tidy.{KeepsMapEnd, MayKeepMapEnd}
-use Rattle.rbf_access.specs.Mounted.{Represents}
+use Rattle.rbf_access.specs.Mounted.{RepresentsVolume}
 use Rattle.rbf_alloc.specs.Cleared.{before, not_before}
 
 -- the former file n is removed from the volume v: its descriptor is still in that sector, its clusters are marked, and
 -- no file has them
 pub record IsGone (media : Option (List ℕ)) (v : DiskVolume) (n : ℕ) (file : DiskFile) : Type 0 where
-  pub on : Represents media v
+  pub on : RepresentsVolume media v
   pub none : v.files n ≡ None
   pub number : n < (image_geometry on.image).total
   pub shown : file ≡ file_at (sector on.image) n
@@ -24,7 +24,7 @@ pub record IsGone (media : Option (List ℕ)) (v : DiskVolume) (n : ℕ) (file :
   pub unused : (c : ℕ) → has_cluster (shape v) n file c ≡ true → Unused (shape v) v.files c
 
 -- the same for some file
-pub record HasGone (media : Option (List ℕ)) (n : ℕ) : Type 0 where
+pub record FileHasGone (media : Option (List ℕ)) (n : ℕ) : Type 0 where
   pub content : DiskVolume
   pub file : DiskFile
   pub gone : IsGone media content n file

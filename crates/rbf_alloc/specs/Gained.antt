@@ -4,7 +4,7 @@ use Rattle.std.specs.List.{range_with_len}
 use Rattle.rbf_model.specs.Segments.{sectors_of, appended_segments, has}
 use Rattle.rbf_map.specs.Map.{ClusterMap, mark, Marks}
 use Rattle.rbf_map.specs.Runs.{is_clear, BeginsBestRun}
-use Rattle.rbf_change.specs.Growth.{uses, free_beside, with_clusters, IsAfter, MayGain, Gains}
+use Rattle.rbf_change.specs.Growth.{uses, free_beside, with_clusters, IsClusterAfter, MayGain, Gains}
 
 -- clusters of k sectors each, in a map of a volume that this project accepts
 pub record AreSizes (k : ℕ) (kept : ClusterMap) : Type 0 where
@@ -39,7 +39,7 @@ last_cluster k segments = option_map (λ s. s / k) (slice_get (sectors_of segmen
 -- last sector's is not free, the first of the best run
 abbrev pub IsChosenFor : ℕ → (ℕ → Bool) → List (ℕ × ℕ) → ℕ → ℕ → Type 0
 IsChosenFor k free segments wanted c =
-    ((d : ℕ) → IsAfter k segments d → free d ≡ false) → BeginsBestRun free wanted c
+    ((d : ℕ) → IsClusterAfter k segments d → free d ≡ false) → BeginsBestRun free wanted c
 
 -- each of these clusters is the one that is chosen, for itself and those after it
 abbrev pub AreChosen : ℕ → (ℕ → Bool) → List (ℕ × ℕ) → ℕ → List ℕ → Type 0
@@ -95,7 +95,7 @@ abbrev pub clusters_from : ℕ → List (ℕ × ℕ) → ℕ → ℕ → List �
 clusters_from k segments first count = map (λ i. cluster_at k segments (first + i * k)) (range_with_len 0 count)
 
 -- the segments have all of these places, and their clusters are in the map
-pub record ArePlaces (k : ℕ) (kept : ClusterMap) (segments : List (ℕ × ℕ)) (first count : ℕ) : Type 0 where
+pub record AreMapPlaces (k : ℕ) (kept : ClusterMap) (segments : List (ℕ × ℕ)) (first count : ℕ) : Type 0 where
   pub within : first + count * k ≤ length (sectors_of segments)
   pub fits : first + count * k < 2 ^ 32
   pub in_map : (i : ℕ) → i < count → cluster_at k segments (first + i * k) < kept.whole

@@ -22,7 +22,7 @@ pub record ChangesMap (old now : List ℕ) : Type 0 where
   pub end : KeepsMapEnd old now (λ _. false)
 
 -- `count` clusters that may be gained and are chosen, all of which fit the list
-pub record IsChosen (k count : ℕ) (free : ℕ → Bool) (before : List (ℕ × ℕ)) (taken : List ℕ) : Type 0 where
+pub record IsChosenGrowth (k count : ℕ) (free : ℕ → Bool) (before : List (ℕ × ℕ)) (taken : List ℕ) : Type 0 where
   pub counted : length taken ≡ count
   pub gained : Gains k free before taken
   pub best : AreChosen k free before count taken
@@ -35,7 +35,7 @@ pub record IsGrown (v : DiskVolume) (count : ℕ) (old new : Option (List ℕ)) 
   pub was : old ≡ Some image
   pub is : new ≡ Some now
   pub taken : List ℕ
-  pub chosen : IsChosen (cluster_size v) count (is_free_in v) before taken
+  pub chosen : IsChosenGrowth (cluster_size v) count (is_free_in v) before taken
   pub segments : after ≡ with_clusters (cluster_size v) before taken
   pub vol : Vol now (with_lost v (λ c. v.lost c || has taken c))
   pub changes : ChangesMap image now
@@ -47,7 +47,7 @@ pub record GrowthEnds (v : DiskVolume) (count : ℕ) (old new : Option (List ℕ
   pub was : old ≡ Some image
   pub is : new ≡ Some now
   pub taken : List ℕ
-  pub chosen : IsChosen (cluster_size v) count (is_free_in v) before taken
+  pub chosen : IsChosenGrowth (cluster_size v) count (is_free_in v) before taken
   pub left : DiskVolume
   pub vol : Vol now left
   pub lose : MayLose v left (has taken)

@@ -9,7 +9,7 @@ use Rattle.rbf_model.specs.Volume.{DiskVolume, Vol}
 use Rattle.rbf_model.specs.Writes.{with_lost}
 use Rattle.rbf_model.specs.Laws.{IsMapSector}
 use Rattle.rbf_map.specs.Map.{ClusterMap, mark, IsSectorOf}
-use Rattle.rbf_change.specs.Agrees.{KeptVolume}
+use Rattle.rbf_change.specs.Agrees.{MountedPart}
 use Rattle.rbf_change.specs.Calls.{is_free_in}
 use Rattle.rbf_alloc.specs.Gained.{is_written, cluster_at}
 
@@ -18,7 +18,7 @@ abbrev pub is_new_mark : DiskVolume → ClusterMap → ℕ → Bool
 is_new_mark v map c = is_free_in v c && (mark map.bytes c == 1)
 
 -- the kept volume is that of an image, but its map has additional marks of free clusters
-pub record IsAhead (v : DiskVolume) (image : List ℕ) (kept : KeptVolume) : Type 0 where
+pub record IsAhead (v : DiskVolume) (image : List ℕ) (kept : MountedPart) : Type 0 where
   pub vol : Vol image v
   pub sizes_are : kept.sizes ≡ image_geometry image
   pub clusters_are : kept.map.clusters ≡ cluster_count (image_geometry image)
@@ -36,7 +36,7 @@ pub record IsMarkedTo (v : DiskVolume) (old now : List ℕ) (map : ClusterMap) (
   pub others : (s : ℕ) → ¬ IsMapSector (image_geometry old) s → sector now s ≡ sector old s
 
 -- the same of the media of a drive
-pub record IsMarkedOn (v : DiskVolume) (old : List ℕ) (media : Option (List ℕ)) (kept : KeptVolume)
+pub record IsMarkedOn (v : DiskVolume) (old : List ℕ) (media : Option (List ℕ)) (kept : MountedPart)
     (written : List Bool) : Type 0 where
   pub ahead : IsAhead v old kept
   pub now : List ℕ
@@ -44,14 +44,14 @@ pub record IsMarkedOn (v : DiskVolume) (old : List ℕ) (media : Option (List �
   pub marked : IsMarkedTo v old now kept.map written
 
 -- the same for some volume
-pub record IsMarking (kept : KeptVolume) (media : Option (List ℕ)) (written : List Bool) : Type 0 where
+pub record IsMarking (kept : MountedPart) (media : Option (List ℕ)) (written : List Bool) : Type 0 where
   pub volume : DiskVolume
   pub old : List ℕ
   pub on : IsMarkedOn volume old media kept written
 
 -- every such fact about the media still holds, with more of the map's sectors written
-abbrev pub MarksMore : Option (List ℕ) → Option (List ℕ) → KeptVolume → List Bool → List Bool → Type 0
-MarksMore media now kept written written_now =
+abbrev pub NewMarks : Option (List ℕ) → Option (List ℕ) → MountedPart → List Bool → List Bool → Type 0
+NewMarks media now kept written written_now =
     (v : DiskVolume) (old : List ℕ) → IsMarkedOn v old media kept written → IsMarkedOn v old now kept written_now
 
 -- a sector of the map has been written

@@ -4,7 +4,7 @@ ghost use Rattle.rbf_access.specs.Cached.{IsCacheOf};
 ghost use Rattle.rbf_access.specs.Drive.{Counts};
 ghost use Rattle.rbf_access.specs.Faults.{file_fault};
 ghost use Rattle.rbf_access.specs.MapMarks.{marking_sectors};
-ghost use Rattle.rbf_access.specs.Mounted.{kept};
+ghost use Rattle.rbf_access.specs.Mounted.{mounted_part};
 ghost use Rattle.rbf_alloc.specs.Own.{NoneHere};
 ghost use Rattle.rbf_alloc.specs.Cleared.{AnswersClearing, MayGoOn};
 ghost use Rattle.rbf_alloc.specs.Rest.{in_rest};
@@ -29,16 +29,17 @@ pub fn release_rest(
     d: &mut dyn BlockDriver,
     cut: &CutSectors,
 ) -> Result<(), FileFault>
-    requires may { MayRelease volume.old.ident.cluster cut.now (media d.old) (kept volume.old) }
+    requires may { MayRelease volume.old.ident.cluster cut.now (media d.old)
+        (mounted_part volume.old) }
     requires cached { IsCacheOf (media d.old) volume.old.cache }
     ensures answer { (v : DiskVolume) (old : List ℕ)
-        → IsReleasing v old volume.old.ident.cluster cut.now (media d.old) (kept volume.old)
+        → IsReleasing v old volume.old.ident.cluster cut.now (media d.old) (mounted_part volume.old)
         → AnswersRelease v old (in_rest volume.old.ident.cluster cut.now)
-        (media d.new) (kept volume.new) result }
+        (media d.new) (mounted_part volume.new) result }
     ensures device { OnErr result (IsSome (file_fault result)) }
     ensures cached { IsCacheOf (media d.new) volume.new.cache }
     ensures counts { Counts BlockDriver-dyn (file_fault result)
-        (marking_sectors (kept volume.old).sizes (in_rest volume.old.ident.cluster cut.now))
+        (marking_sectors (mounted_part volume.old).sizes (in_rest volume.old.ident.cluster cut.now))
         d.old d.new }
 {
     let end = system_sectors(&volume.ident) - 1;
@@ -57,13 +58,13 @@ fn release_in(
     place: u16,
 ) -> Result<(), FileFault>
     requires go { MayGoOn (in_rest volume.old.ident.cluster cut.now) place (media d.old)
-        (kept volume.old) }
+        (mounted_part volume.old) }
     requires cached { IsCacheOf (media d.old) volume.old.cache }
     ensures answer { AnswersClearing (in_rest volume.old.ident.cluster cut.now) place
-        (media d.old) (media d.new) (kept volume.old) (kept volume.new) result }
+        (media d.old) (media d.new) (mounted_part volume.old) (mounted_part volume.new) result }
     ensures device { OnErr result (IsSome (file_fault result)) }
     ensures cached { IsCacheOf (media d.new) volume.new.cache }
-    ensures sizes { (kept volume.new).sizes ≡ (kept volume.old).sizes }
+    ensures sizes { (mounted_part volume.new).sizes ≡ (mounted_part volume.old).sizes }
     ensures counts { Counts BlockDriver-dyn (file_fault result) 1 d.old d.new }
     ensures none { NoneHere (in_rest volume.old.ident.cluster cut.now) place
         → Counts BlockDriver-dyn (file_fault result) 0 d.old d.new }

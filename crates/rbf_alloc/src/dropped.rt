@@ -9,7 +9,7 @@ ghost use Rattle.rbf_access.specs.Faults.{file_fault};
 ghost use Rattle.rbf_access.specs.MapMarks.{marking_sectors};
 ghost use Rattle.rbf_access.specs.Mounted.{IsMounted};
 ghost use Rattle.rbf_change.specs.Calls.{shape};
-ghost use Rattle.rbf_alloc.specs.Dropped.{DropEnds, HasGone, IsDropped, IsGone};
+ghost use Rattle.rbf_alloc.specs.Dropped.{DropEnds, FileHasGone, IsDropped, IsGone};
 
 use crate::own::OwnSectors;
 use crate::release::release_in;
@@ -26,7 +26,7 @@ use rbf_sector::{read_fd, system_sectors};
 /// `Device` if an access of the drive fails; then some of the clusters may still be lost.
 pub fn drop_fd(volume: &mut Volume, d: &mut dyn BlockDriver, fd: u32) -> Result<(), FileFault>
     requires mounted { IsMounted volume.old (media d.old) }
-    requires gone { HasGone (media d.old) fd }
+    requires gone { FileHasGone (media d.old) fd }
     ensures ok { (v : DiskVolume) (file : DiskFile) → IsGone (media d.old) v fd file
         → OnOk result (IsDropped v fd file (media d.old) (media d.new)) }
     ensures fault { (v : DiskVolume) (file : DiskFile) → IsGone (media d.old) v fd file
@@ -58,7 +58,7 @@ pub fn drop_own(
     own: &OwnSectors,
 ) -> Result<(), FileFault>
     requires mounted { IsMounted volume.old (media d.old) }
-    requires gone { HasGone (media d.old) own.now.fd }
+    requires gone { FileHasGone (media d.old) own.now.fd }
     requires list { own.now.segs ≡ segments_field (sector_at (media d.old) own.now.fd) }
     ensures ok { (v : DiskVolume) (file : DiskFile) → IsGone (media d.old) v own.now.fd file
         → OnOk result (IsDropped v own.now.fd file (media d.old) (media d.new)) }

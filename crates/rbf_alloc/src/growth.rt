@@ -2,7 +2,7 @@ ghost use Rattle.std.specs.Prelude.{◌≡◌, ◌↔◌, ℕ, ◌<◌, ◌≤�
 ghost use Rattle.rbf_model.specs.Volume.{DiskVolume};
 ghost use Rattle.rbf_access.specs.Drive.{Counts};
 ghost use Rattle.rbf_access.specs.Faults.{file_fault};
-ghost use Rattle.rbf_access.specs.Mounted.{IsMounted, Represents, OnVolume};
+ghost use Rattle.rbf_access.specs.Mounted.{IsMounted, RepresentsVolume, OnVolume};
 ghost use Rattle.rbf_alloc.specs.Grown.{Grows, AreTaken, NoFault, growth_calls};
 
 use crate::marks::write_marks;
@@ -33,7 +33,7 @@ pub fn grow(
     requires mounted { IsMounted volume.old (media d.old) }
     requires few { length segs.now ≤ 48 }
     requires apart { AreTaken (media d.old) segs.now }
-    ensures grows { (v : DiskVolume) → Represents (media d.old) v
+    ensures grows { (v : DiskVolume) → RepresentsVolume (media d.old) v
         → Grows v count segs.now (media d.old) (media d.new) result }
     ensures refused { OnErr result (IsNone (file_fault result) → media d.new ≡ media d.old) }
     ensures refused_calls { OnErr result (NoFault result → drive_calls d.new ≡ drive_calls d.old) }

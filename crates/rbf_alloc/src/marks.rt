@@ -4,9 +4,9 @@ ghost use Rattle.rbf_map.specs.Map.{IsSectorOf};
 ghost use Rattle.rbf_access.specs.Cached.{IsCacheOf};
 ghost use Rattle.rbf_access.specs.Drive.{Counts};
 ghost use Rattle.rbf_access.specs.Faults.{file_fault};
-ghost use Rattle.rbf_access.specs.Mounted.{kept, IsSound};
-ghost use Rattle.rbf_alloc.specs.Gained.{ArePlaces, AreSizes, is_written, clusters_from};
-ghost use Rattle.rbf_alloc.specs.Marked.{WritesMapSector, MarksMore, IsMarking, AllWritten, AreWanted, unwritten};
+ghost use Rattle.rbf_access.specs.Mounted.{mounted_part, IsSoundMedia};
+ghost use Rattle.rbf_alloc.specs.Gained.{AreMapPlaces, AreSizes, is_written, clusters_from};
+ghost use Rattle.rbf_alloc.specs.Marked.{WritesMapSector, NewMarks, IsMarking, AllWritten, AreWanted, unwritten};
 
 use crate::returned::{ClusterRange, cluster_of};
 use os9_outer::drive::BlockDriver;
@@ -21,14 +21,14 @@ pub fn write_marks(
     range: ClusterRange,
     written: &mut [bool; 256],
 ) -> Result<(), FileFault>
-    requires marking { IsMarking (kept v.old) (media d.old) written.old }
-    requires places { ArePlaces v.old.ident.cluster v.old.map segs.now range.first range.count }
+    requires marking { IsMarking (mounted_part v.old) (media d.old) written.old }
+    requires places { AreMapPlaces v.old.ident.cluster v.old.map segs.now range.first range.count }
     requires cached { IsCacheOf (media d.old) v.old.cache }
-    ensures on { MarksMore (media d.old) (media d.new) (kept v.old) written.old written.new }
+    ensures on { NewMarks (media d.old) (media d.new) (mounted_part v.old) written.old written.new }
     ensures all { OnOk result (AllWritten (clusters_from v.old.ident.cluster segs.now range.first
         range.count) written.new) }
     ensures device { OnErr result (IsSome (file_fault result)) }
-    ensures volume_kept { kept v.new ≡ kept v.old }
+    ensures volume_kept { mounted_part v.new ≡ mounted_part v.old }
     ensures cached { IsCacheOf (media d.new) v.new.cache }
     ensures counts { (wanted : ℕ → Bool) (n : ℕ) → AreWanted v.old.ident.cluster segs.now
         range.first range.count wanted n → Counts BlockDriver-dyn (file_fault result) (min
@@ -49,14 +49,15 @@ fn write_mark(
     cluster: u32,
     written: &mut [bool; 256],
 ) -> Result<(), FileFault>
-    requires marking { IsMarking (kept volume.old) (media d.old) written.old }
+    requires marking { IsMarking (mounted_part volume.old) (media d.old) written.old }
     requires in_map { cluster < volume.old.map.whole }
     requires cached { IsCacheOf (media d.old) volume.old.cache }
-    ensures on { MarksMore (media d.old) (media d.new) (kept volume.old) written.old written.new }
+    ensures on { NewMarks (media d.old) (media d.new) (mounted_part volume.old) written.old
+        written.new }
     ensures there { OnOk result (is_written written.new cluster ≡ true) }
     ensures marked { OnOk result (written.new ≡ set written.old (cluster / 2048) true) }
     ensures device { OnErr result (IsSome (file_fault result)) }
-    ensures volume_kept { kept volume.new ≡ kept volume.old }
+    ensures volume_kept { mounted_part volume.new ≡ mounted_part volume.old }
     ensures cached { IsCacheOf (media d.new) volume.new.cache }
     ensures counts { Counts BlockDriver-dyn (file_fault result)
         (if is_written written.old cluster then 0 else 1) d.old d.new }
@@ -75,12 +76,12 @@ fn write_map_sector(volume: &mut Volume, d: &mut dyn BlockDriver, n: u16) -> Res
     requires on { 1 + n < sector_count (media d.old) }
     requires cached { IsCacheOf (media d.old) volume.old.cache }
     requires sound { (bytes : List ℕ) → IsSectorOf volume.old.map.bytes n bytes
-        → IsSound (with_sector (media d.old) (1 + n) bytes) }
+        → IsSoundMedia (with_sector (media d.old) (1 + n) bytes) }
     ensures written { OnOk result
         (WritesMapSector volume.old.map n (media d.old) (media d.new)) }
     ensures media_kept { OnErr result (media d.new ≡ media d.old) }
     ensures device { OnErr result (IsSome (file_fault result)) }
-    ensures volume_kept { kept volume.new ≡ kept volume.old }
+    ensures volume_kept { mounted_part volume.new ≡ mounted_part volume.old }
     ensures cached { IsCacheOf (media d.new) volume.new.cache }
     ensures counts { Counts BlockDriver-dyn (file_fault result) 1 d.old d.new }
 {

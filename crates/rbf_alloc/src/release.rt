@@ -2,7 +2,7 @@ ghost use Rattle.std.specs.Prelude.{◌≡◌, OnErr, IsSome};
 ghost use Rattle.rbf_access.specs.Cached.{IsCacheOf};
 ghost use Rattle.rbf_access.specs.Drive.{Counts};
 ghost use Rattle.rbf_access.specs.Faults.{file_fault};
-ghost use Rattle.rbf_access.specs.Mounted.{kept};
+ghost use Rattle.rbf_access.specs.Mounted.{mounted_part};
 ghost use Rattle.rbf_alloc.specs.Own.{in_own, NoneHere};
 ghost use Rattle.rbf_alloc.specs.Cleared.{AnswersClearing, MayGoOn};
 
@@ -21,13 +21,13 @@ pub fn release_in(
     place: u16,
 ) -> Result<(), FileFault>
     requires go { MayGoOn (in_own volume.old.ident.cluster own.now) place (media d.old)
-        (kept volume.old) }
+        (mounted_part volume.old) }
     requires cached { IsCacheOf (media d.old) volume.old.cache }
     ensures answer { AnswersClearing (in_own volume.old.ident.cluster own.now) place
-        (media d.old) (media d.new) (kept volume.old) (kept volume.new) result }
+        (media d.old) (media d.new) (mounted_part volume.old) (mounted_part volume.new) result }
     ensures device { OnErr result (IsSome (file_fault result)) }
     ensures cached { IsCacheOf (media d.new) volume.new.cache }
-    ensures sizes { (kept volume.new).sizes ≡ (kept volume.old).sizes }
+    ensures sizes { (mounted_part volume.new).sizes ≡ (mounted_part volume.old).sizes }
     ensures counts { Counts BlockDriver-dyn (file_fault result) 1 d.old d.new }
     ensures none { NoneHere (in_own volume.old.ident.cluster own.now) place
         → Counts BlockDriver-dyn (file_fault result) 0 d.old d.new }

@@ -5,7 +5,7 @@ use Rattle.rbf_model.specs.Geometry.{geometry, image_geometry, sector}
 use Rattle.rbf_model.specs.File.{file_from, file_at}
 use Rattle.rbf_model.specs.Volume.{DiskVolume, Vol}
 use Rattle.rbf_model.specs.Writes.{put_sector, with_file, with_file_in_place}
-use Rattle.rbf_model.specs.Laws.{TakesClusters, FreesClusters, IsUnseen, Redescribes, AddsEntry, AppendsEntry, with_directory_entry}
+use Rattle.rbf_model.specs.Laws.{MarksFreeClusters, FreesClusters, IsUnseen, Redescribes, AddsEntry, AppendsEntry, with_directory_entry}
 use Rattle.rbf_model.proofs.ImageLaws.{takes_image, frees_image, unseen_image, overwrite_image, describe_image, enter_image, append_image, leave_image}
 use Rattle.rbf_change.specs.Calls.{shape}
 use Rattle.rbf_change.specs.Lawful.{IsLawful, AreLawful, takes, frees, unseen, overwrites, redescribes, enters, appends, leaves, done, «then»}
@@ -17,7 +17,7 @@ shape-image image v vol = ap geometry vol.sound.shows.ident
 pub lawful_step : (image : List ℕ) (v : DiskVolume) (s : ℕ) (bytes : List ℕ) (w : DiskVolume) → Vol image v → length bytes ≡ 256 → IsLawful (sector image) v s bytes w
     → Vol (put_sector image s bytes) w
 lawful_step image v s bytes _ vol whole (takes {taken = taken} law) =
-    takes_image image v vol s bytes taken whole (subst (λ g. TakesClusters (disk_of g (sector image)) v s bytes taken) (shape-image image v vol) law)
+    takes_image image v vol s bytes taken whole (subst (λ g. MarksFreeClusters (disk_of g (sector image)) v s bytes taken) (shape-image image v vol) law)
 lawful_step image v s bytes _ vol whole (frees {freed = freed} law) =
     frees_image image v vol s bytes freed whole (subst (λ g. FreesClusters (disk_of g (sector image)) v s bytes freed) (shape-image image v vol) law)
 lawful_step image v s bytes _ vol whole (unseen law) =

@@ -5,7 +5,7 @@ use Rattle.rbf_model.specs.Space.{is_marked, cluster_count}
 use Rattle.rbf_map.specs.Map.{ClusterMap, mark}
 
 -- the sizes and the root that sector 0 gives, and the map
-pub record KeptVolume : Type 0 where
+pub record MountedPart : Type 0 where
   pub sizes : Geometry
   pub map : ClusterMap
 
@@ -17,6 +17,6 @@ pub record AgreesOnMap (map : ClusterMap) (image : List ℕ) : Type 0 where
   pub marks : (c : ℕ) → c < 8 * length map.bytes → is_marked (sector image) c ≡ (mark map.bytes c == 1)
 
 -- the kept volume is that of an image
-pub record Agrees (kept : KeptVolume) (image : List ℕ) : Type 0 where
+pub record Agrees (kept : MountedPart) (image : List ℕ) : Type 0 where
   pub sizes_are : kept.sizes ≡ image_geometry image
   pub map : AgreesOnMap kept.map image

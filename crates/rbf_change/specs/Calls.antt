@@ -59,8 +59,8 @@ pub record WritesFile (k : ℕ) (free : ℕ → Bool) (at : ℕ) (bytes : List �
   pub file : new ≡ written_file old at bytes now (with_clusters k old.segments gained)
 
 -- a write at a place of file n
-abbrev pub Writes : DiskVolume → DiskVolume → ℕ → ℕ → List ℕ → TimePacket → Type 0
-Writes v w n at bytes now = Changes (WritesFile (cluster_size v) (is_free_in v) at bytes now) v w n
+abbrev pub WritesFileAt : DiskVolume → DiskVolume → ℕ → ℕ → List ℕ → TimePacket → Type 0
+WritesFileAt v w n at bytes now = Changes (WritesFile (cluster_size v) (is_free_in v) at bytes now) v w n
 
 -- a file that is made longer, and then has these segments: zeros are added
 abbrev pub lengthened_file : DiskFile → ℕ → TimePacket → List (ℕ × ℕ) → DiskFile

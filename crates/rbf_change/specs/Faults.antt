@@ -11,7 +11,7 @@ use Rattle.rbf_change.specs.Contents.{written}
 use Rattle.rbf_change.specs.Growth.{IsChoice}
 use Rattle.rbf_change.specs.Cut.{cut_file, is_given_up}
 use Rattle.rbf_change.specs.Calls.{shape, cluster_size, is_free_in, replaced, minute_of}
-use Rattle.rbf_change.specs.NewFiles.{IsEntered, Plan, Deletes}
+use Rattle.rbf_change.specs.NewFiles.{IsFileEntered, Plan, Deletes}
 
 -- the volume is the same, except that some of these clusters may be lost now
 pub record MayLose (v w : DiskVolume) (clusters : ℕ → Bool) : Type 0 where
@@ -25,10 +25,11 @@ IsPlanned v old size clusters = (clusters ≡ []) ⊎ IsChoice (cluster_size v) 
 
 -- the number of bytes of a write that may be on the disk: those up to the end of a sector, or up to the file's size if
 -- that is less; never all
-pub data IsFront (size at : ℕ) (bytes : List ℕ) : ℕ → Type 0 where
-  none : IsFront size at bytes 0
-  sector : {count : ℕ} → count < length bytes → at + count < size → (at + count) % 256 ≡ 0 → IsFront size at bytes count
-  end : {count : ℕ} → count < length bytes → at + count ≡ size → IsFront size at bytes count
+pub data IsWriteFront (size at : ℕ) (bytes : List ℕ) : ℕ → Type 0 where
+  none : IsWriteFront size at bytes 0
+  sector : {count : ℕ} → count < length bytes → at + count < size → (at + count) % 256 ≡ 0
+      → IsWriteFront size at bytes count
+  end : {count : ℕ} → count < length bytes → at + count ≡ size → IsWriteFront size at bytes count
 
 -- a file whose bytes from a place on are the first `count` of others
 abbrev pub with_front : DiskFile → ℕ → List ℕ → ℕ → DiskFile
@@ -45,7 +46,7 @@ pub record WriteEnds (v w : DiskVolume) (n at : ℕ) (bytes : List ℕ) : Type 0
   pub old : DiskFile
   pub is : v.files n ≡ Some old
   pub count : ℕ
-  pub front : IsFront (length old.contents) at bytes count
+  pub front : IsWriteFront (length old.contents) at bytes count
   pub taken : List ℕ
   pub planned : IsPlanned v old (length (written old.contents at bytes)) taken
   pub volume : MayLose (replaced v n (Some (with_front old at bytes count))) w (has taken)
@@ -84,7 +85,7 @@ pub data SizeEnds (left : List ℕ) (v w : DiskVolume) (n size : ℕ) (now : Tim
 
 -- a new file n and its directory d, some of whose clusters have been taken
 pub record EntryEnds (v w : DiskVolume) (d n : ℕ) (name : List ℕ) (plan : Plan) : Type 0 where
-  pub both : IsEntered v d n name plan
+  pub both : IsFileEntered v d n name plan
   pub volume : MayLose v w (λ c. has_cluster (shape v) n both.file c || has both.entry.gained c)
 
 -- an interrupted creation: the tree is unchanged, and clusters that were taken may be lost

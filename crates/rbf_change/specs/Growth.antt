@@ -11,7 +11,7 @@ abbrev pub uses : ℕ → List (ℕ × ℕ) → ℕ → Bool
 uses k segments c = list_any (λ s. s / k == c) (sectors_of segments)
 
 -- the cluster is the one after that of the segments' last sector
-pub record IsAfter (k : ℕ) (segments : List (ℕ × ℕ)) (c : ℕ) : Type 0 where
+pub record IsClusterAfter (k : ℕ) (segments : List (ℕ × ℕ)) (c : ℕ) : Type 0 where
   pub some : 1 ≤ length (sectors_of segments)
   pub next : c ≡ get_or (sectors_of segments) (length (sectors_of segments) - 1) 0 / k + 1
 
@@ -23,8 +23,8 @@ begins_run free c = free c && ((c == 0) || not (free (c - 1)))
 -- one that begins a run
 pub record MayGain (k : ℕ) (free : ℕ → Bool) (segments : List (ℕ × ℕ)) (c : ℕ) : Type 0 where
   pub is_free : free c ≡ true
-  pub next : (d : ℕ) → IsAfter k segments d → free d ≡ true → c ≡ d
-  pub run : IsAfter k segments c ⊎ (begins_run free c ≡ true)
+  pub next : (d : ℕ) → IsClusterAfter k segments d → free d ≡ true → c ≡ d
+  pub run : IsClusterAfter k segments c ⊎ (begins_run free c ≡ true)
 
 -- the clusters that are still free after a file with these segments has taken its own
 abbrev pub free_beside : ℕ → (ℕ → Bool) → List (ℕ × ℕ) → ℕ → Bool

@@ -5,12 +5,12 @@ use Rattle.rbf_model.specs.Geometry.{sector}
 use Rattle.rbf_model.specs.File.{DiskFile, file_from, file_at}
 use Rattle.rbf_model.specs.Volume.{DiskVolume}
 use Rattle.rbf_model.specs.Writes.{put_sector, with_file, with_file_in_place, with_lost}
-use Rattle.rbf_model.specs.Laws.{TakesClusters, FreesClusters, IsUnseen, Overwrites, with_sector_bytes, Redescribes, AddsEntry, AppendsEntry, RemovesEntry, with_directory_entry}
+use Rattle.rbf_model.specs.Laws.{MarksFreeClusters, FreesClusters, IsUnseen, Overwrites, with_sector_bytes, Redescribes, AddsEntry, AppendsEntry, RemovesEntry, with_directory_entry}
 use Rattle.rbf_change.specs.Calls.{shape}
 
 -- a write of these bytes to sector s by one of the laws, and the volume that the disk represents then
 pub data IsLawful (disk : ℕ → List ℕ) (v : DiskVolume) : ℕ → List ℕ → DiskVolume → Type 0 where
-  takes : {s : ℕ} {bytes : List ℕ} {taken : ℕ → Bool} → TakesClusters (disk_of (shape v) disk) v s bytes taken
+  takes : {s : ℕ} {bytes : List ℕ} {taken : ℕ → Bool} → MarksFreeClusters (disk_of (shape v) disk) v s bytes taken
       → IsLawful disk v s bytes (with_lost v (λ c. v.lost c || taken c))
   frees : {s : ℕ} {bytes : List ℕ} {freed : ℕ → Bool} → FreesClusters (disk_of (shape v) disk) v s bytes freed
       → IsLawful disk v s bytes (with_lost v (λ c. v.lost c && not (freed c)))

@@ -59,7 +59,7 @@ free_without g free n file c = free c && not (has_cluster g n file c)
 
 -- a new file n with a name in directory d, and the directory that has it. The file takes its clusters before the
 -- directory does
-pub record IsEntered (v : DiskVolume) (d n : ℕ) (name : List ℕ) (plan : Plan) : Type 0 where
+pub record IsFileEntered (v : DiskVolume) (d n : ℕ) (name : List ℕ) (plan : Plan) : Type 0 where
   pub old : DiskFile
   pub new : DiskFile
   pub file : DiskFile
@@ -69,25 +69,25 @@ pub record IsEntered (v : DiskVolume) (d n : ℕ) (name : List ℕ) (plan : Plan
       (32 * entry_place old.contents) (new_entry name n) plan.made old new
 
 -- it has been put into the volume
-pub record Enters (v w : DiskVolume) (d n : ℕ) (name : List ℕ) (plan : Plan) : Type 0 where
-  pub both : IsEntered v d n name plan
+pub record EntersNewFile (v w : DiskVolume) (d n : ℕ) (name : List ℕ) (plan : Plan) : Type 0 where
+  pub both : IsFileEntered v d n name plan
   pub volume : w ≡ replaced (replaced v d (Some both.new)) n (Some both.file)
 
 -- a user creates a file
 abbrev pub Creates : DiskVolume → DiskVolume → ℕ → ℕ → List ℕ → ℕ → ℕ → TimePacket → Type 0
-Creates v w d n name attributes user now = Enters v w d n name (file_plan attributes user now)
+Creates v w d n name attributes user now = EntersNewFile v w d n name (file_plan attributes user now)
 
 -- a user makes a directory
 abbrev pub MakesDirectory : DiskVolume → DiskVolume → ℕ → ℕ → List ℕ → ℕ → ℕ → TimePacket → Type 0
-MakesDirectory v w d n name attributes user now = Enters v w d n name (directory_plan attributes user now d n)
+MakesDirectory v w d n name attributes user now = EntersNewFile v w d n name (directory_plan attributes user now d n)
 
 -- why a new entry is refused: errors 215, 214, 218, 248 and 217
-pub data Refusal : Type 0 where
-  bad_path : Refusal
-  not_allowed : Refusal
-  exists : Refusal
-  no_cluster : Refusal
-  too_many_runs : Refusal
+pub data NewEntryRefusal : Type 0 where
+  bad_path : NewEntryRefusal
+  not_allowed : NewEntryRefusal
+  exists : NewEntryRefusal
+  no_cluster : NewEntryRefusal
+  too_many_runs : NewEntryRefusal
 
 -- the number of clusters that a directory still needs for a new entry
 abbrev pub entry_clusters : ℕ → DiskFile → ℕ
@@ -98,7 +98,7 @@ abbrev pub file_clusters : ℕ → ℕ → ℕ
 file_clusters k size = 1 + clusters_needed k (first_segments k 0) size
 
 -- whether a new file of a size is refused a name in a directory, and the first reason that applies
-abbrev pub entry_refusal : ℕ → ℕ → DiskFile → List ℕ → ℕ → Bool → ℕ → Option Refusal
+abbrev pub entry_refusal : ℕ → ℕ → DiskFile → List ℕ → ℕ → Bool → ℕ → Option NewEntryRefusal
 entry_refusal k free dir name user execute size =
     if is_dots name then Some bad_path
     else (if not (may_change dir user execute) then Some not_allowed

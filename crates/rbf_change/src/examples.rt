@@ -7,7 +7,7 @@ ghost use Rattle.rbf_change.specs.Growth.{clusters_needed, with_clusters, IsChoi
 ghost use Rattle.rbf_change.specs.Cut.{kept_count, cut_file};
 ghost use Rattle.rbf_change.specs.Names.{new_entry, entry_place};
 ghost use Rattle.rbf_change.specs.NewFiles.{first_segments, entry_refusal, no_cluster};
-ghost use Rattle.rbf_change.specs.Faults.{IsFront, DeletionEnds};
+ghost use Rattle.rbf_change.specs.Faults.{IsWriteFront, DeletionEnds};
 ghost use Rattle.rbf_change.specs.Examples.{short_file, scattered, only_far, near_and_far, smallest_root, file_of_two_clusters};
 
 /// A file of 255 bytes is written to at 255, at 256, at 257 and at 1,000: it then has 256, 257, 258
@@ -36,7 +36,7 @@ pub fn full_segment_list()
 /// ends that write, none of the bytes are in the file.
 pub fn write_fault()
     ensures needs_three { clusters_needed 1 (first_segments 1 9) 768 ≡ 3 }
-    ensures nothing_seen { (count : ℕ) → IsFront 0 0 (replicate 768 1) count → count ≡ 0 }
+    ensures nothing_seen { (count : ℕ) → IsWriteFront 0 0 (replicate 768 1) count → count ≡ 0 }
 {}
 
 /// A deletion that a fault ended has left the volume unchanged, or has removed the file.

@@ -10,7 +10,7 @@ use Rattle.rbf_model.specs.Fields.{directory_entry, entry_name_field, descriptor
 use Rattle.rbf_model.specs.Geometry.{Geometry, IsNumber, sector}
 use Rattle.rbf_model.specs.Tree.{dot, dot_dot, IsEntry, IsParent, of_root, of_other, HasDots, self_first, parent_first}
 use Rattle.rbf_model.specs.Faults.{Breaks}
-use Rattle.rbf_model.specs.Search.{IsFound, searchable_bytes}
+use Rattle.rbf_model.specs.Search.{IsListOfReached, searchable_bytes}
 use Rattle.rbf_model.specs.Faults.Breaks.{no_dots}
 use Rattle.rbf_sector.specs.declared.entry.Entry.{Entry}
 use Rattle.rbf_sector.specs.Ident.{geometry_of}
@@ -200,7 +200,7 @@ module _ (g : Geometry) (disk : ℕ → List ℕ) where
   }
 
   -- the least of all
-  pub least_without : (found : List ℕ) (i : ℕ) (least : Option ℕ) → IsFound (disk_of g disk) found → i ≡ length found
+  pub least_without : (found : List ℕ) (i : ℕ) (least : Option ℕ) → IsListOfReached (disk_of g disk) found → i ≡ length found
       → IsLeast (Before (λ k. IsWithoutDots (disk_of g disk) (get_or found k 0)) i) least
       → IsLeastBreach (disk_of g disk) 7 least
   least_without found i least are all is =

@@ -14,12 +14,12 @@ use Rattle.os9_base.specs.Name.{stored_name, lower, SameName, IsName}
 use Rattle.rbf_model.specs.Fields.{directory_entry, entry_name_field}
 use Rattle.rbf_model.specs.Geometry.{Geometry}
 use Rattle.rbf_model.specs.Segments.{has}
-use Rattle.rbf_model.specs.Tree.{dot, dot_dot, HasEntry, IsProper, HasNames, HasDifferentNames}
+use Rattle.rbf_model.specs.Tree.{dot, dot_dot, HasEntry, IsProper, HasEntryNames, HasDifferentNames}
 use Rattle.rbf_model.specs.Faults.{Breaks}
-use Rattle.rbf_model.specs.Search.{IsFound, searchable_bytes}
+use Rattle.rbf_model.specs.Search.{IsListOfReached, searchable_bytes}
 use Rattle.rbf_model.specs.Faults.Breaks.{bad_name, same_name}
 use Rattle.rbf_sector_rules.specs.Least.{IsLeast, Before, IsLeastBreach}
-use Rattle.rbf_check.specs.Keys.{IsKey, HasKey, IsKeyAdded, IsNamedSo, IsKeyOf, AreNamed, IsBadlyNamed, IsBadlyNamedAt}
+use Rattle.rbf_check.specs.Keys.{IsNameKey, HasKey, IsKeyAdded, IsNamedSo, IsKeyOf, AreNamed, IsBadlyNamed, IsBadlyNamedAt}
 use Rattle.rbf_sector_rules.proofs.Cases.{names_of}
 use Rattle.rbf_sector_rules.proofs.Leasts.{least_along, least_in_list}
 use Rattle.rbf_sector_rules.proofs.Options.{none_some, some_same}
@@ -69,7 +69,7 @@ lower_positive c positive = ⊎_elim
     (λ other. let e = cond-false (leb 65 c && leb c 90) (c + 32) c other in omega (arith, e))
     (cases_Bool (leb 65 c && leb c 90))
 
-not_longer : (a b q : List ℕ) → IsKey a q → IsKey b q → length a < length b → ⊥
+not_longer : (a b q : List ℕ) → IsNameKey a q → IsNameKey b q → length a < length b → ⊥
 not_longer a b q one other less =
     let k = length a in
     let none : get_or q k 0 ≡ 0 = one.behind k (omega arith) in
@@ -81,7 +81,7 @@ lower_at : (a : List ℕ) (k : ℕ) → k < length a → get_or (map lower a) k 
 lower_at a k low = get_or-map lower a k 0 0 low
 
 -- names with one key are the same, and names that are the same have one key
-pub same_of_key : (a b q : List ℕ) → IsKey a q → IsKey b q → SameName a b
+pub same_of_key : (a b q : List ℕ) → IsNameKey a q → IsNameKey b q → SameName a b
 same_of_key a b q one other =
     let lengths : length a ≡ length b = ⊎_elim
     (λ less. absurd (not_longer a b q one other less))
@@ -93,7 +93,7 @@ same_of_key a b q one other =
     let in_b : k < length b = omega arith in
     lower_at a k in_a ∙ sym (one.same k in_a) ∙ other.same k in_b ∙ sym (lower_at b k in_b))
 
-pub key_of_same : (a b p q : List ℕ) → IsKey a p → IsKey b q → SameName a b → p ≡ q
+pub key_of_same : (a b p q : List ℕ) → IsNameKey a p → IsNameKey b q → SameName a b → p ≡ q
 key_of_same a b p q one other same =
     let lengths : length a ≡ length b = sym (length_of_map lower a) ∙ ap length same ∙ length_of_map lower b in
     ext_get_or 0 p q (one.size ∙ sym other.size)
@@ -199,7 +199,7 @@ module _ (contents : List ℕ) (keys : BTreeSet (List ℕ)) (i : ℕ) (after : 2
     name_dot_dot is =
         inl (λ names. let w = names i after entry in w.2.not_parent (some_same w.0 dot_dot (entry_name_field (directory_entry contents i)) w.1 is))
 
-    module _ (name key : List ℕ) (is : entry_name_field (directory_entry contents i) ≡ Some name) (key_is : IsKey name key) where
+    module _ (name key : List ℕ) (is : entry_name_field (directory_entry contents i) ≡ Some name) (key_is : IsNameKey name key) where
       -- an earlier entry has the key
       pub name_again : HasKey keys key → IsBadlyNamed contents
       name_again had =
@@ -213,7 +213,7 @@ module _ (contents : List ℕ) (keys : BTreeSet (List ℕ)) (i : ℕ) (after : 2
       earlier_apart fresh j one j_after j_low j_entry j_is same =
           let so = named.named j j_after j_low j_entry in
           let name_same : so.name ≡ one = some_same so.name one (entry_name_field (directory_entry contents j)) so.is j_is in
-          let P : List ℕ → Type 0 = λ x. IsKey x so.key in
+          let P : List ℕ → Type 0 = λ x. IsNameKey x so.key in
           let keys_same : so.key ≡ key = key_of_same one name so.key key (subst P name_same so.key_is) key_is same in
           let Q : List ℕ → Type 0 = λ x. HasKey keys x in
           fresh (subst Q keys_same so.there)
@@ -263,7 +263,7 @@ module _ (contents : List ℕ) (keys : BTreeSet (List ℕ)) (i : ℕ) (after : 2
 
 -- all entries
 pub names_are : (contents : List ℕ) (keys : BTreeSet (List ℕ)) (i entries : ℕ) → 32 * entries ≡ length contents
-    → entries ≤ i → AreNamed contents keys i → HasNames contents × HasDifferentNames contents
+    → entries ≤ i → AreNamed contents keys i → HasEntryNames contents × HasDifferentNames contents
 names_are contents keys i entries counted all named = (
   λ k after entry.
       let within = entry.within in
@@ -277,24 +277,24 @@ names_are contents keys i entries counted all named = (
 
 -- what an answer says of the names of a directory
 module _ (g : Geometry) (disk : ℕ → List ℕ) (n : ℕ) where
-  named_well : (good : Bool) → MatchBool good (HasNames (searchable_bytes (disk_of g disk) n) × HasDifferentNames
+  named_well : (good : Bool) → MatchBool good (HasEntryNames (searchable_bytes (disk_of g disk) n) × HasDifferentNames
       (searchable_bytes (disk_of g disk) n)) (IsBadlyNamed (searchable_bytes (disk_of g disk) n)) → good ≡ true
       → (s : ℕ) → IsBadlyNamedAt (disk_of g disk) n s → ⊥
   named_well true is e s h = ⊎_elim (λ wrong. wrong is.0) (λ wrong. wrong is.1) h.1
   named_well false is e s h = absurd (false≢true e)
 
-  named_badly : (good : Bool) → MatchBool good (HasNames (searchable_bytes (disk_of g disk) n) × HasDifferentNames
+  named_badly : (good : Bool) → MatchBool good (HasEntryNames (searchable_bytes (disk_of g disk) n) × HasDifferentNames
       (searchable_bytes (disk_of g disk) n)) (IsBadlyNamed (searchable_bytes (disk_of g disk) n)) → good ≡ false
       → IsBadlyNamed (searchable_bytes (disk_of g disk) n)
   named_badly true is e = absurd (false≢true (sym e))
   named_badly false is e = is
 
 module _ (g : Geometry) (disk : ℕ → List ℕ) (n m : ℕ) (good : Bool) (same : m ≡ n)
-    (is : MatchBool good (HasNames (searchable_bytes (disk_of g disk) m) × HasDifferentNames
+    (is : MatchBool good (HasEntryNames (searchable_bytes (disk_of g disk) m) × HasDifferentNames
     (searchable_bytes (disk_of g disk) m)) (IsBadlyNamed (searchable_bytes (disk_of g disk) m))) where
-  at_n : MatchBool good (HasNames (searchable_bytes (disk_of g disk) n) × HasDifferentNames (searchable_bytes (disk_of g disk) n)) (IsBadlyNamed (searchable_bytes (disk_of g disk) n))
+  at_n : MatchBool good (HasEntryNames (searchable_bytes (disk_of g disk) n) × HasDifferentNames (searchable_bytes (disk_of g disk) n)) (IsBadlyNamed (searchable_bytes (disk_of g disk) n))
   at_n =
-      let P : ℕ → Type 0 = λ q. MatchBool good (HasNames (searchable_bytes (disk_of g disk) q) × HasDifferentNames
+      let P : ℕ → Type 0 = λ q. MatchBool good (HasEntryNames (searchable_bytes (disk_of g disk) q) × HasDifferentNames
       (searchable_bytes (disk_of g disk) q)) (IsBadlyNamed (searchable_bytes (disk_of g disk) q)) in
       subst P same is
 
@@ -305,7 +305,7 @@ module _ (g : Geometry) (disk : ℕ → List ℕ) (n m : ℕ) (good : Bool) (sam
   bad_is e = named_badly g disk n good at_n e
 
 module _ (g : Geometry) (disk : ℕ → List ℕ) where
-  pub least_badly : (found : List ℕ) (i : ℕ) (least : Option ℕ) → IsFound (disk_of g disk) found → i ≡ length found
+  pub least_badly : (found : List ℕ) (i : ℕ) (least : Option ℕ) → IsListOfReached (disk_of g disk) found → i ≡ length found
       → IsLeast (Before (λ k. IsBadlyNamedAt (disk_of g disk) (get_or found k 0)) i) least
       → IsLeastBreach (disk_of g disk) 8 least
   least_badly found i least are all is =

@@ -5,7 +5,7 @@ use Rattle.std.proofs.lemmas.Bool.{cases_eq}
 use Rattle.std.proofs.lemmas.List.{take_more, get_or-set_same, get_or-set_other, length-set}
 use Rattle.std.proofs.lemmas.List.Elements.{Contains-append_left, Contains-append_cases, Contains-push}
 use Rattle.rbf_sector_rules.specs.declared.links.Link.{Link}
-use Rattle.rbf_check.specs.Places.{ArePlaces}
+use Rattle.rbf_check.specs.Places.{AreLinkPlaces}
 use Rattle.rbf_sector_rules.proofs.Options.{none_some, some_same}
 
 -- the one element of a list
@@ -13,7 +13,7 @@ only_one : (x l : Link) → Contains (x ∷ []) l → l ≡ x
 only_one x l h =
     let first : h.0 ≡ 0 = omega (arith, h.1) in sym (ap (λ k. get_or (x ∷ []) k l) (sym first) ∙ h.2)
 
-module _ (links : List Link) (total : ℕ) (places : List (Option Link)) (are : ArePlaces links total places) (link : Link) (low : link.descriptor < total) where
+module _ (links : List Link) (total : ℕ) (places : List (Option Link)) (are : AreLinkPlaces links total places) (link : Link) (low : link.descriptor < total) where
   size : link.descriptor < length places
   size = let same = are.size in omega arith
 
@@ -24,7 +24,7 @@ module _ (links : List Link) (total : ℕ) (places : List (Option Link)) (are : 
   beside n apart = get_or-set_other places link.descriptor n (Some link) None apart
 
   -- one link more
-  pub places_push : ArePlaces (links ++ link ∷ []) total (set places link.descriptor (Some link))
+  pub places_push : AreLinkPlaces (links ++ link ∷ []) total (set places link.descriptor (Some link))
   places_push = record {
     size = length-set places link.descriptor (Some link) ∙ are.size;
     each = λ n l there. ⊎_elim
@@ -45,8 +45,8 @@ module _ (links : List Link) (total : ℕ) (places : List (Option Link)) (are : 
         (cases_eq l.descriptor link.descriptor);
   }
 
-pub places_more : (links : List Link) (total i : ℕ) (places : List (Option Link)) (d : Link) → ArePlaces (take i links) total places → i < length links → (get_or links i d).descriptor < total
-    → ArePlaces (take (i + 1) links) total (set places (get_or links i d).descriptor (Some (get_or links i d)))
+pub places_more : (links : List Link) (total i : ℕ) (places : List (Option Link)) (d : Link) → AreLinkPlaces (take i links) total places → i < length links → (get_or links i d).descriptor < total
+    → AreLinkPlaces (take (i + 1) links) total (set places (get_or links i d).descriptor (Some (get_or links i d)))
 places_more links total i places d are low below =
-    let P : List Link → Type 0 = λ xs. ArePlaces xs total (set places (get_or links i d).descriptor (Some (get_or links i d))) in
+    let P : List Link → Type 0 = λ xs. AreLinkPlaces xs total (set places (get_or links i d).descriptor (Some (get_or links i d))) in
     subst P (sym (take_more links i d low)) (places_push (take i links) total places are (get_or links i d) below)

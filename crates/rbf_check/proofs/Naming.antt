@@ -12,8 +12,8 @@ use Rattle.rbf_model.specs.Faults.Breaks.{named_twice, named_root}
 use Rattle.rbf_sector_rules.specs.declared.links.Link.{Link}
 use Rattle.rbf_sector_rules.specs.Linked.{AreLinks}
 use Rattle.rbf_sector_rules.specs.Least.{IsLeast, Before, IsLeastBreach}
-use Rattle.rbf_sector_rules.specs.Given.{IsGiven}
-use Rattle.rbf_check.specs.Named.{link_at, AreSame, IsFirst, AreFirsts, IsNamedAgain}
+use Rattle.rbf_sector_rules.specs.Given.{IsPlaceGiven}
+use Rattle.rbf_check.specs.Named.{link_at, AreSame, IsFirstLink, AreFirsts, IsNamedAgain}
 use Rattle.rbf_sector_rules.proofs.Cases.{named_of}
 use Rattle.rbf_sector_rules.proofs.Leasts.{least_along}
 use Rattle.rbf_sector_rules.proofs.Options.{some_same}
@@ -25,7 +25,7 @@ firsts_none links firsts none = record {
 }
 
 -- one link more
-module _ (links : List Link) (old new : List (Option ℕ)) (k n : ℕ) (at : (link_at links k).descriptor ≡ n) (firsts : AreFirsts links old k) (given : IsGiven old new k n) where
+module _ (links : List Link) (old new : List (Option ℕ)) (k n : ℕ) (at : (link_at links k).descriptor ≡ n) (firsts : AreFirsts links old k) (given : IsPlaceGiven old new k n) where
   none_earlier : (i : ℕ) → i < k → (link_at links i).descriptor ≡ n → (m : ℕ) × (get_or old n None ≡ Some m)
   none_earlier i low same =
       let t = firsts.there i low in (t.0, sym (ap (λ d. get_or old d None) same) ∙ t.1)
@@ -54,14 +54,14 @@ module _ (links : List Link) (old new : List (Option ℕ)) (k n : ℕ) (at : (li
   }
 
 -- a link noted before is not the one that is noted now
-pub not_again : (links : List Link) (old new : List (Option ℕ)) (k n : ℕ) → AreFirsts links old k → IsGiven old new k n → (m : ℕ) → get_or old n None ≡ Some m → get_or new n None ≡ Some k → ⊥
+pub not_again : (links : List Link) (old new : List (Option ℕ)) (k n : ℕ) → AreFirsts links old k → IsPlaceGiven old new k n → (m : ℕ) → get_or old n None ≡ Some m → get_or new n None ≡ Some k → ⊥
 not_again links old new k n firsts given m h now =
     let low = (firsts.each n m h).0 in
     let kept = given.kept n m h in
     let same : m ≡ k = some_same m k (get_or new n None) kept now in
     absurd (omega arith)
 
-first_unique : (links : List Link) (n i j : ℕ) → IsFirst links n i → IsFirst links n j → i ≡ j
+first_unique : (links : List Link) (n i j : ℕ) → IsFirstLink links n i → IsFirstLink links n j → i ≡ j
 first_unique links n i j one other =
     ⊎_elim
     (λ less. absurd (other.none_before i less one.names))
@@ -69,7 +69,7 @@ first_unique links n i j one other =
     (cases_lt i j)
 
 -- the link is named again, or not
-module _ (links : List Link) (root k j : ℕ) (low : j ≤ k) (first : IsFirst links (link_at links k).descriptor j) where
+module _ (links : List Link) (root k j : ℕ) (low : j ≤ k) (first : IsFirstLink links (link_at links k).descriptor j) where
   pub again_is : ((link_at links k).descriptor ≡ root) ⊎ (AreSame (link_at links j) (link_at links k) → ⊥) → IsLeast (IsNamedAgain links root k) (Some (link_at links k).descriptor)
   again_is why = ((refl, ⊎_elim (λ r. inl r) (λ differ. inr (j, low, first, differ)) why), λ s h. omega (arith, h.0))
 
@@ -124,11 +124,11 @@ module _ (g : Geometry) (disk : ℕ → List ℕ) (header : IsHeader g) (links :
       let c = are.all d i n link number in
       (c.0, c.1, get_or_default links c.0 (record { directory = 0; entry = 0; descriptor = 0 }) (record { directory = d; entry = i; descriptor = n }) c.1 ∙ c.2)
 
-  again_at : (n q : ℕ) → q < length links → (link_at links q).descriptor ≡ n → (f : ℕ) → IsFirst links n f
+  again_at : (n q : ℕ) → q < length links → (link_at links q).descriptor ≡ n → (f : ℕ) → IsFirstLink links n f
       → (AreSame (link_at links f) (link_at links q) → ⊥) → Before (IsNamedAgain links g.root) (length links) n
   again_at n q low names f first apart =
       let early : f ≤ q = ⊎_elim (λ less. absurd (first.none_before q less names)) (λ more. more) (cases_lt q f) in
-      let P : ℕ → Type 0 = λ d. IsFirst links d f in
+      let P : ℕ → Type 0 = λ d. IsFirstLink links d f in
       (q, low, (sym names, inr (f, early, subst P (sym names) first, apart)))
 
   -- of two entries that name a descriptor one is not the first
@@ -138,7 +138,7 @@ module _ (g : Geometry) (disk : ℕ → List ℕ) (header : IsHeader g) (links :
   again_of_two n k m k_low m_low k_names m_names differ =
       let there = all.there k k_low in
       let f = there.0 in
-      let first : IsFirst links n f = (let P : ℕ → Type 0 = λ d. IsFirst links d f in subst P k_names (all.each (link_at links k).descriptor f there.1).1) in
+      let first : IsFirstLink links n f = (let P : ℕ → Type 0 = λ d. IsFirstLink links d f in subst P k_names (all.each (link_at links k).descriptor f there.1).1) in
       ⊎_elim
       (λ same. again_at n m m_low m_names f first (λ e. differ (sym same.0 ∙ e.0, sym same.1 ∙ e.1)))
       (λ apart. again_at n k k_low k_names f first apart)
@@ -172,13 +172,13 @@ module _ (g : Geometry) (disk : ℕ → List ℕ) (header : IsHeader g) (links :
 
 -- what the note of link k leaves
 module _ (links : List Link) (old new : List (Option ℕ)) (k first : ℕ) (firsts : AreFirsts links old k)
-    (given : IsGiven old new k (link_at links k).descriptor) (noted : get_or new (link_at links k).descriptor None ≡
+    (given : IsPlaceGiven old new k (link_at links k).descriptor) (noted : get_or new (link_at links k).descriptor None ≡
     Some first) where
   pub noted_more : AreFirsts links new (k + 1)
   noted_more =
       firsts_more links old new k (link_at links k).descriptor refl firsts given (not_again links old new k (link_at links k).descriptor firsts given)
 
-  pub noted_first : (first ≤ k) × IsFirst links (link_at links k).descriptor first
+  pub noted_first : (first ≤ k) × IsFirstLink links (link_at links k).descriptor first
   noted_first =
       let f = noted_more.each (link_at links k).descriptor first noted in
       (omega (arith, f.0), f.1)

@@ -10,8 +10,8 @@ use Rattle.rbf_model.specs.Geometry.{Geometry, IsHeader, IsNumber, LieWithin, is
 use Rattle.rbf_model.specs.Segments.{has}
 use Rattle.rbf_model.specs.File.{file_at}
 use Rattle.rbf_model.specs.Space.{is_whole, is_marked, cluster_count}
-use Rattle.rbf_model.specs.Tree.{Reached, EntryNames, Links}
-use Rattle.rbf_model.specs.Tree.Reached.{root, named}
+use Rattle.rbf_model.specs.Tree.{ReachedFile, EntryNames, Links}
+use Rattle.rbf_model.specs.Tree.ReachedFile.{root, named}
 use Rattle.rbf_model.specs.Volume.{Sound, directories, free_clusters}
 use Rattle.rbf_model.specs.Search.{IsReachedOn, searchable_bytes}
 use Rattle.rbf_model.proofs.Lists.{some_is}
@@ -27,13 +27,13 @@ use Rattle.rbf_check.specs.Survey.{IsSurvey}
 use Rattle.rbf_sector_rules.proofs.Headers.{header_of, is_disk_of}
 use Rattle.rbf_sector_rules.proofs.FoundNumbers.{number_reached}
 use Rattle.rbf_check.proofs.Counted.{ceil_is}
-use Rattle.rbf_check.specs.Places.{ArePlaces}
+use Rattle.rbf_check.specs.Places.{AreLinkPlaces}
 use Rattle.rbf_check.specs.VolumeNodes.{volume_from}
 use Rattle.rbf_check.specs.Tree.{IsPlaced}
 use Rattle.rbf_check.specs.Tree.IsPlaced.{named as in_directory}
 
 -- what is reached is the root or is named by a link
-reached_cases : (g : Geometry) (dirs : ℕ → List ℕ) (n : ℕ) → Reached g dirs n → (n ≡ g.root) ⊎ ((d : ℕ) × (i : ℕ) × Links g dirs d i n × IsNumber g n)
+reached_cases : (g : Geometry) (dirs : ℕ → List ℕ) (n : ℕ) → ReachedFile g dirs n → (n ≡ g.root) ⊎ ((d : ℕ) × (i : ℕ) × Links g dirs d i n × IsNumber g n)
 reached_cases g dirs n root = inl refl
 reached_cases g dirs n (named {d = d} {i = i} from names number) = inr (d, i, record { from = from; names = names }, number)
 
@@ -107,7 +107,7 @@ module _ (survey : Survey) (is : IsSurvey survey) where
       searched_is (geometry_of survey.image.ident) (sector survey.image.bytes.now) (volume_from survey) sound_is d
       (some_is ((volume_from survey).files d) (file_at (sector survey.image.bytes.now) d) (file_is d reached))
 
-  module _ (places : List (Option Link)) (are : ArePlaces survey.links.items survey.image.ident.total places) (n : ℕ) where
+  module _ (places : List (Option Link)) (are : AreLinkPlaces survey.links.items survey.image.ident.total places) (n : ℕ) where
     -- a number that no place is kept for is no file's
     pub no_place : n ≢ survey.image.ident.root → get_or places n None ≡ None → (volume_from survey).files n ≡ None
     no_place other none = no_file n (λ reached. ⊎_elim

@@ -9,7 +9,7 @@ use Rattle.rbf_model.specs.Fields.{directory_entry, entry_name_field, descriptor
 use Rattle.rbf_model.specs.Geometry.{Geometry, IsNumber, IsHeader, HasMap, HasHeader, image_geometry, map_sectors, sector}
 use Rattle.rbf_model.specs.File.{file_at, is_directory, is_directory_size, has_room}
 use Rattle.rbf_model.specs.Space.{is_marked, owned}
-use Rattle.rbf_model.specs.Tree.{HasEntry, HasNames}
+use Rattle.rbf_model.specs.Tree.{HasEntry, HasEntryNames}
 use Rattle.std.proofs.lemmas.Option.{slice_get-get_or}
 use Rattle.rbf_model.specs.Faults.{Breaks, IsFault, ImageBreaks}
 use Rattle.rbf_model.specs.Search.{IsReachedOn, searchable_bytes}
@@ -140,10 +140,10 @@ module _ (g : Geometry) (disk : ℕ → List ℕ) where
         (cases_lt n g.total))
         (cases_lt n 1)
 
-    names_kept : (d : ℕ) → IsReachedOn (disk_of g disk) d → HasNames (searchable_bytes (disk_of g disk) d)
+    names_kept : (d : ℕ) → IsReachedOn (disk_of g disk) d → HasEntryNames (searchable_bytes (disk_of g disk) d)
     names_kept d reached i after entry =
         let field = entry_name_field (directory_entry (searchable_bytes (disk_of g disk) d) i) in
-        let bad = λ (wrong : HasNames (searchable_bytes (disk_of g disk) d) → ⊥). none 8 d (bad_name reached wrong) in
+        let bad = λ (wrong : HasEntryNames (searchable_bytes (disk_of g disk) d) → ⊥). none 8 d (bad_name reached wrong) in
         ⊎_elim
         (λ missing. absurd (bad (λ names. let w = names i after entry in none_some w.0 field missing w.1)))
         (λ there. (

@@ -10,7 +10,7 @@ use Rattle.rbf_model.specs.Geometry.{Geometry, image_geometry, sector}
 use Rattle.rbf_model.specs.File.{is_directory}
 use Rattle.rbf_model.specs.Volume.{DiskVolume, free_clusters, lost_clusters}
 use Rattle.rbf_model.specs.Keeps.{Keeps}
-use Rattle.rbf_model.specs.Search.{IsFound, volume_of, image_volume}
+use Rattle.rbf_model.specs.Search.{IsListOfReached, volume_of, image_volume}
 use Rattle.rbf_model.proofs.Images.{vol_from_keeps}
 use Rattle.rbf_check.specs.declared.survey.Survey.{Survey}
 use Rattle.rbf_sector_rules.specs.Files.{found_numbers}
@@ -59,7 +59,7 @@ module _ (survey : Survey) (is : IsSurvey survey) where
       let rest = λ (g : Geometry). drop (256 * g.total) survey.image.bytes.now in
       let P : Geometry → Type 0 = λ g. TellsVolume g (volume_of (disk_of g (sector survey.image.bytes.now)) (found_numbers survey.files.items) (rest g)) tree in
       let Q : Geometry → Type 0 = λ g. Keeps (disk_of g (sector survey.image.bytes.now)) in
-      let R : Geometry → Type 0 = λ g. IsFound (disk_of g (sector survey.image.bytes.now)) (found_numbers survey.files.items) in
+      let R : Geometry → Type 0 = λ g. IsListOfReached (disk_of g (sector survey.image.bytes.now)) (found_numbers survey.files.items) in
       let tells : TellsVolume (image_geometry survey.image.bytes.now) (image_volume survey.image.bytes.now (found_numbers survey.files.items)) tree =
       subst P (sym same) (record { numbers = are.numbers; each = are.each; free = free_is; lost = lost_is }) in
       record {
@@ -74,7 +74,7 @@ module _ (survey : Survey) (is : IsSurvey survey) where
       let same = survey.image.identified.geometry in
       let rest = λ (g : Geometry). drop (256 * g.total) survey.image.bytes.now in
       let Q : Geometry → Type 0 = λ g. Keeps (disk_of g (sector survey.image.bytes.now)) in
-      let R : Geometry → Type 0 = λ g. IsFound (disk_of g (sector survey.image.bytes.now)) (found_numbers survey.files.items) in
+      let R : Geometry → Type 0 = λ g. IsListOfReached (disk_of g (sector survey.image.bytes.now)) (found_numbers survey.files.items) in
       let S : Geometry → Type 0 = λ g. list ≡ lost_clusters g (volume_of (disk_of g (sector survey.image.bytes.now)) (found_numbers survey.files.items) (rest g)) in
       record {
         volume = image_volume survey.image.bytes.now (found_numbers survey.files.items);

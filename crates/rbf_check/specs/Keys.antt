@@ -7,10 +7,10 @@ use Rattle.std.specs.BTreeSet.{BTreeSet, contains}
 use Rattle.os9_base.specs.Name.{lower, SameName}
 use Rattle.rbf_model.specs.Fields.{directory_entry, entry_name_field}
 use Rattle.rbf_model.specs.Search.{searchable_bytes}
-use Rattle.rbf_model.specs.Tree.{HasEntry, IsProper, HasNames, HasDifferentNames}
+use Rattle.rbf_model.specs.Tree.{HasEntry, IsProper, HasEntryNames, HasDifferentNames}
 
 -- the characters of the name, none of them zero, in lower case, with zeros after them
-pub record IsKey (name key : List ℕ) : Type 0 where
+pub record IsNameKey (name key : List ℕ) : Type 0 where
   pub size : length key ≡ 29
   pub characters : (k : ℕ) → k < length name → 1 ≤ get_or name k 0
   pub same : (k : ℕ) → k < length name → get_or key k 0 ≡ lower (get_or name k 0)
@@ -32,7 +32,7 @@ pub record IsNamedSo (contents : List ℕ) (keys : BTreeSet (List ℕ)) (k : ℕ
   pub key : List ℕ
   pub is : entry_name_field (directory_entry contents k) ≡ Some name
   pub proper : IsProper name
-  pub key_is : IsKey name key
+  pub key_is : IsNameKey name key
   pub there : HasKey keys key
 
 -- an entry before place i whose name has the key
@@ -43,7 +43,7 @@ pub record IsKeyOf (contents : List ℕ) (i : ℕ) (key : List ℕ) : Type 0 whe
   pub before : place < i
   pub entry : HasEntry contents place
   pub is : entry_name_field (directory_entry contents place) ≡ Some name
-  pub key_is : IsKey name key
+  pub key_is : IsNameKey name key
 
 -- the entries of a directory before one place have proper names that differ, and the set has their keys
 pub record AreNamed (contents : List ℕ) (keys : BTreeSet (List ℕ)) (i : ℕ) : Type 0 where
@@ -55,7 +55,7 @@ pub record AreNamed (contents : List ℕ) (keys : BTreeSet (List ℕ)) (i : ℕ)
 
 -- an entry has no proper name, or two have the same name
 abbrev pub IsBadlyNamed : List ℕ → Type 0
-IsBadlyNamed contents = (HasNames contents → ⊥) ⊎ (HasDifferentNames contents → ⊥)
+IsBadlyNamed contents = (HasEntryNames contents → ⊥) ⊎ (HasDifferentNames contents → ⊥)
 
 -- the descriptor is that of a directory with such entries
 abbrev pub IsBadlyNamedAt : Disk → ℕ → ℕ → Type 0

@@ -11,13 +11,13 @@ abbrev pub AreSame : Link → Link → Type 0
 AreSame one other = (one.directory ≡ other.directory) × (one.entry ≡ other.entry)
 
 -- the first link that names descriptor n
-pub record IsFirst (links : List Link) (n j : ℕ) : Type 0 where
+pub record IsFirstLink (links : List Link) (n j : ℕ) : Type 0 where
   pub names : (link_at links j).descriptor ≡ n
   pub none_before : (i : ℕ) → i < j → (link_at links i).descriptor ≡ n → ⊥
 
 -- the table has for each descriptor the first of the links before place k that names it
 pub record AreFirsts (links : List Link) (firsts : List (Option ℕ)) (k : ℕ) : Type 0 where
-  pub each : (n j : ℕ) → get_or firsts n None ≡ Some j → (j < k) × IsFirst links n j
+  pub each : (n j : ℕ) → get_or firsts n None ≡ Some j → (j < k) × IsFirstLink links n j
   pub there : (j : ℕ) → j < k → (m : ℕ) × (get_or firsts (link_at links j).descriptor None ≡ Some m)
 
 -- the link in place k names the root's descriptor, or a descriptor whose first link is another entry
@@ -25,5 +25,5 @@ abbrev pub IsNamedAgain : List Link → ℕ → ℕ → ℕ → Type 0
 IsNamedAgain links root k n =
     (n ≡ (link_at links k).descriptor)
     × (((link_at links k).descriptor ≡ root)
-    ⊎ ((j : ℕ) × (j ≤ k) × IsFirst links (link_at links k).descriptor j
+    ⊎ ((j : ℕ) × (j ≤ k) × IsFirstLink links (link_at links k).descriptor j
     × (AreSame (link_at links j) (link_at links k) → ⊥)))

@@ -1,5 +1,5 @@
 ghost use Rattle.std.specs.Prelude.{◌≡◌, ◌+◌, ◌<◌, ◌≤◌, IfOk, MatchBool};
-ghost use Rattle.rbf_model.specs.Tree.{HasNames, HasDifferentNames};
+ghost use Rattle.rbf_model.specs.Tree.{HasEntryNames, HasDifferentNames};
 ghost use Rattle.rbf_sector_rules.specs.Files.{IsFileOn, AreFiles};
 ghost use Rattle.rbf_sector_rules.specs.Reading.{disk_on, IsDirectory, listed};
 ghost use Rattle.rbf_sector_rules.specs.Least.{IsLeast, IsLeastBreach};
@@ -58,7 +58,7 @@ fn is_well_named(
     requires { IsDirectory image.now dir.now }
     ensures { IfOk result
         (λ good. MatchBool good
-        (HasNames (listed image.now dir.now.number)
+        (HasEntryNames (listed image.now dir.now.number)
         × HasDifferentNames (listed image.now dir.now.number))
         (IsBadlyNamed (listed image.now dir.now.number))) }
 {

@@ -1,6 +1,6 @@
 ghost use Rattle.std.specs.Prelude.{◌≡◌, IfOk, OnOk, MatchBool};
 ghost use Rattle.os9_base.specs.Name as model;
-ghost use Rattle.rbf_check.specs.Keys.{IsKey, HasKey, IsKeyAdded};
+ghost use Rattle.rbf_check.specs.Keys.{IsNameKey, HasKey, IsKeyAdded};
 
 use os9_base::name::Name;
 use std::alloc::AllocError;
@@ -19,7 +19,7 @@ fn lower(character: u8) -> u8
 
 // The characters of a name in lower case, with zeros after them.
 pub fn key_of(name: &Name) -> [u8; 29]
-    ensures { IsKey name.now result }
+    ensures { IsNameKey name.now result }
 {
     let mut key = [0; 29];
     for i in 0..name.len() {

@@ -2,7 +2,7 @@ ghost use Rattle.std.specs.Prelude.{◌≡◌, ◌⊎◌, ◌+◌, ◌<◌, ◌�
 ghost use Rattle.rbf_sector_rules.specs.Reading.{disk_on};
 ghost use Rattle.rbf_sector_rules.specs.Linked.{AreLinks};
 ghost use Rattle.rbf_sector_rules.specs.Least.{IsLeast, IsLeastBreach};
-ghost use Rattle.rbf_sector_rules.specs.Given.{IsGiven};
+ghost use Rattle.rbf_sector_rules.specs.Given.{IsPlaceGiven};
 ghost use Rattle.rbf_check.specs.Named.{AreSame, AreFirsts, IsNamedAgain};
 
 use rbf_sector::Ident;
@@ -21,7 +21,7 @@ fn is_again(root: u32, first: &Link, link: &Link) -> bool
 // The first link that names the descriptor. If there is none, it is this one, which is then noted.
 fn first_of(firsts: &mut Vec<Option<usize>>, n: u32, k: usize) -> usize
     requires { n < length firsts.old.items }
-    ensures noted { IsGiven firsts.old.items firsts.new.items k n }
+    ensures noted { IsPlaceGiven firsts.old.items firsts.new.items k n }
     ensures first { slice_index_or firsts.new.items n None ≡ Some result }
 {
     match firsts[n as usize] {

@@ -8,7 +8,7 @@ ghost use Rattle.rbf_model.specs.Tree.{dot, Links};
 ghost use Rattle.rbf_sector.specs.Ident.{geometry_of};
 ghost use Rattle.rbf_sector_rules.specs.Reading.{disk_on, listed};
 ghost use Rattle.rbf_check.specs.Survey.{IsSurvey};
-ghost use Rattle.rbf_check.specs.Places.{ArePlaces};
+ghost use Rattle.rbf_check.specs.Places.{AreLinkPlaces};
 ghost use Rattle.rbf_check.specs.VolumeNodes.{volume_from};
 ghost use Rattle.rbf_check.specs.Tree.{IsPlaced};
 
@@ -31,7 +31,7 @@ pub fn list_places(
     links: &[Link],
 ) -> Result<Vec<Option<Link>>, AllocError>
     requires { All (λ link. link.descriptor < total) links.now }
-    ensures { IfOk result (λ places. ArePlaces links.now total places.items) }
+    ensures { IfOk result (λ places. AreLinkPlaces links.now total places.items) }
 {
     let mut places = vec![in alloc; None; total as usize]?;
     for link in links {
@@ -61,7 +61,7 @@ fn link_name(survey: &Survey<'_>, link: &Link) -> Name
 /// The place of the file of a descriptor, if it is reached.
 pub fn place_of(survey: &Survey<'_>, places: &[Option<Link>], n: u32) -> Option<Place>
     requires survey { IsSurvey survey.now }
-    requires places { ArePlaces survey.now.links.items survey.now.image.ident.total places.now }
+    requires places { AreLinkPlaces survey.now.links.items survey.now.image.ident.total places.now }
     requires number { n < survey.now.image.ident.total }
     ensures none { result ≡ None → (volume_from survey.now).files n ≡ None }
     ensures file { IfSome result

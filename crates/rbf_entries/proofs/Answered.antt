@@ -15,7 +15,7 @@ use Rattle.rbf_change.specs.Growth.{uses, with_clusters, clusters_needed}
 use Rattle.rbf_access.specs.Drive.{DriveCounts, MovesCounts}
 use Rattle.rbf_access.specs.Faults.{file_fault}
 use Rattle.rbf_access.specs.Cached.{IsCacheOf}
-use Rattle.rbf_access.specs.Mounted.{kept, Represents, IsMounted, IsSound}
+use Rattle.rbf_access.specs.Mounted.{mounted_part, RepresentsVolume, IsMounted, IsSoundMedia}
 use Rattle.rbf_access.specs.Reading.{IsFdOf}
 use Rattle.rbf_access.specs.declared.faults.FileFault.{FileFault}
 use Rattle.rbf_access.specs.declared.faults.FileFault.TheVariants.{Device, NoCluster, TooManyRuns}
@@ -29,7 +29,7 @@ use Rattle.rbf_entries.specs.Becomes.{with_piece}
 use Rattle.rbf_entries.proofs.Stored.{mounted_now, stored_sound}
 use Rattle.rbf_walk.proofs.Stepping.{same_content}
 use Rattle.rbf_write.specs.declared.loaded.Loaded.{Loaded}
-use Rattle.rbf_write.specs.Files.{IsLoaded}
+use Rattle.rbf_write.specs.Files.{IsDescriptorLoaded}
 use Rattle.rbf_write.specs.Finished.{IsResized}
 use Rattle.rbf_write.proofs.Steps.{own_not_free}
 use Rattle.rbf_entries.specs.Rooms.{place_clusters}
@@ -49,23 +49,23 @@ fault_answers v dir a m0 m1 TooManyRuns is stops = absurd (both_ways false refl 
 module _ (m0 : Option (List ℕ)) (a : EntryWrite) (may : MayAppend m0 a.directory a.place a.entry) (whole : length a.entry ≡ 32) where
   -- whichever volume the media represents
   pub any_file : (m1 : Option (List ℕ)) (r : Result (Unit {0}) FileFault) → AnswersEntry may.content may.dir a m0 m1 r
-      → (v : DiskVolume) (file : DiskFile) → Represents m0 v → v.files a.directory ≡ Some file
+      → (v : DiskVolume) (file : DiskFile) → RepresentsVolume m0 v → v.files a.directory ≡ Some file
       → AnswersEntry v file a m0 m1 r
   any_file m1 r answer v file on is =
       let same : may.content ≡ v = same_content m0 may.content v may.on on in
       let one : may.dir ≡ file = same_Some may.dir file (sym may.is ∙ ap (λ (w : DiskVolume). w.files a.directory) same ∙ is) in
       subst (λ f. AnswersEntry v f a m0 m1 r) one (subst (λ x. AnswersEntry x may.dir a m0 m1 r) same answer)
 
-  module _ (m1 : Option (List ℕ)) (same : m1 ≡ m0) (loaded : Loaded) (is_loaded : IsLoaded m0 a.directory loaded) where
+  module _ (m1 : Option (List ℕ)) (same : m1 ≡ m0) (loaded : Loaded) (is_loaded : IsDescriptorLoaded m0 a.directory loaded) where
     says : IsFdOf may.dir loaded.file
     says = is_loaded.says may.content may.dir may.on may.is
 
     pub few_listed : length loaded.file.segs ≤ 48
     few_listed = subst (λ xs. length xs ≤ 48) (sym says.segments_are) (few_runs m0 a may whole)
 
-    pub apart_all : (v : DiskVolume) → Represents m1 v → (c : ℕ) → uses (cluster_size v) loaded.file.segs c ≡ true → is_free_in v c ≡ false
+    pub apart_all : (v : DiskVolume) → RepresentsVolume m1 v → (c : ℕ) → uses (cluster_size v) loaded.file.segs c ≡ true → is_free_in v c ≡ false
     apart_all v on c used =
-        let here : Represents m0 v = record { image = on.image; is = sym same ∙ on.is; vol = on.vol } in
+        let here : RepresentsVolume m0 v = record { image = on.image; is = sym same ∙ on.is; vol = on.vol } in
         let one : may.content ≡ v = same_content m0 may.content v may.on here in
         own_not_free m0 v here a.directory may.dir (ap (λ (w : DiskVolume). w.files a.directory) (sym one) ∙ may.is) c
         (subst (λ xs. uses (cluster_size v) xs c ≡ true) says.segments_are used)
@@ -81,7 +81,7 @@ module _ (m0 : Option (List ℕ)) (a : EntryWrite) (may : MayAppend m0 a.directo
     module _ (volume : Volume) (mounted : IsMounted volume m1) (count : ℕ) (counts : count ≡ clusters_needed volume.ident.cluster loaded.file.segs (32 * (a.place + 1))) where
       counted : count ≡ place_clusters may.content may.dir a.place
       counted =
-          let here : Represents m1 may.content = record { image = may.on.image; is = same ∙ may.on.is; vol = may.on.vol } in
+          let here : RepresentsVolume m1 may.content = record { image = may.on.image; is = same ∙ may.on.is; vol = may.on.vol } in
           counts ∙ ap (λ k. clusters_needed k loaded.file.segs (32 * (a.place + 1))) (k_is volume may.on.image may.content may.on.vol (agrees_on volume m1 may.content mounted here))
           ∙ ap (λ xs. clusters_needed (cluster_size may.content) xs (32 * (a.place + 1))) says.segments_are
 
@@ -89,30 +89,30 @@ module _ (m0 : Option (List ℕ)) (a : EntryWrite) (may : MayAppend m0 a.directo
       count_few = let few = needs_few m0 a may whole in let same_count = counted in omega arith
 
       grows_here : (mid : Option (List ℕ)) (r : Result (List (ℕ × ℕ)) FileFault)
-          → ((v : DiskVolume) → Represents m1 v → Grows v count loaded.file.segs m1 mid r)
+          → ((v : DiskVolume) → RepresentsVolume m1 v → Grows v count loaded.file.segs m1 mid r)
           → Grows may.content count may.dir.segments m0 mid r
       grows_here mid r grows =
           subst (λ m. Grows may.content count may.dir.segments m mid r) same
           (subst (λ xs. Grows may.content count xs m1 mid r) says.segments_are (grows may.content (record { image = may.on.image; is = same ∙ may.on.is; vol = may.on.vol })))
 
-      module _ (mid : Option (List ℕ)) (e : FileFault) (grows : (v : DiskVolume) → Represents m1 v → Grows v count loaded.file.segs m1 mid (Err e)) where
+      module _ (mid : Option (List ℕ)) (e : FileFault) (grows : (v : DiskVolume) → RepresentsVolume m1 v → Grows v count loaded.file.segs m1 mid (Err e)) where
         both : (IsSome (file_fault {A = Unit {0}} (Err e))) × AnswersEntry may.content may.dir a m0 mid (Err e)
         both = growth_answers m0 a may whole count counted mid e (grows_here mid (Err e) grows)
 
         pub grow_device : IsSome (file_fault {A = Unit {0}} (Err e))
         grow_device = both.0
 
-        pub grow_answers : (v : DiskVolume) (file : DiskFile) → Represents m0 v → v.files a.directory ≡ Some file → AnswersEntry v file a m0 mid (Err e)
+        pub grow_answers : (v : DiskVolume) (file : DiskFile) → RepresentsVolume m0 v → v.files a.directory ≡ Some file → AnswersEntry v file a m0 mid (Err e)
         grow_answers = any_file mid (Err e) both.1
 
       -- the calls of the drive
-      count_is : (v : DiskVolume) (file : DiskFile) → Represents m0 v → v.files a.directory ≡ Some file → count ≡ place_clusters v file a.place
+      count_is : (v : DiskVolume) (file : DiskFile) → RepresentsVolume m0 v → v.files a.directory ≡ Some file → count ≡ place_clusters v file a.place
       count_is v file on is =
           let one_volume : may.content ≡ v = same_content m0 may.content v may.on on in
           let one : may.dir ≡ file = same_Some may.dir file (sym may.is ∙ ap (λ (w : DiskVolume). w.files a.directory) one_volume ∙ is) in
           subst (λ f. count ≡ place_clusters v f a.place) one (subst (λ x. count ≡ place_clusters x may.dir a.place) one_volume counted)
 
-      module _ (v : DiskVolume) (file : DiskFile) (on : Represents m0 v) (is : v.files a.directory ≡ Some file) (f : Option ℕ) where
+      module _ (v : DiskVolume) (file : DiskFile) (on : RepresentsVolume m0 v) (is : v.files a.directory ≡ Some file) (f : Option ℕ) where
         pub calls_grow : (t u : DriveCounts) → MovesCounts f count t u → MovesCounts f (3 + place_clusters v file a.place) t u
         calls_grow t u other = let known = count_is v file on is in counts_most f count (3 + place_clusters v file a.place) t u (omega arith) other
 
@@ -126,7 +126,7 @@ module _ (m0 : Option (List ℕ)) (a : EntryWrite) (may : MayAppend m0 a.directo
             let known = count_is v file on is in
             counts_most f (count + 2 + 1) (3 + place_clusters v file a.place) t x (omega arith) (counts_then f (count + 2) 1 t w x (counts_then None count 2 t u w other third) last)
 
-      module _ (mid : Option (List ℕ)) (longer : List (ℕ × ℕ)) (grows : (v : DiskVolume) → Represents m1 v → Grows v count loaded.file.segs m1 mid (Ok longer)) where
+      module _ (mid : Option (List ℕ)) (longer : List (ℕ × ℕ)) (grows : (v : DiskVolume) → RepresentsVolume m1 v → Grows v count loaded.file.segs m1 mid (Ok longer)) where
         grown : IsGrown may.content count m0 mid may.dir.segments longer
         grown = (grows_here mid (Ok longer) grows).grown
 
@@ -155,7 +155,7 @@ module _ (m0 : Option (List ℕ)) (a : EntryWrite) (may : MayAppend m0 a.directo
           put_on_drive = subst (λ s. s < drive_sectors mid) (sym lsn_is) (on_drive m0 a may whole count counted mid longer grown)
 
           pub put_answers : (m2 : Option (List ℕ)) (e : FileFault) → IsSome (file_fault {A = Unit {0}} (Err e))
-              → m2 ≡ mid → (v : DiskVolume) (file : DiskFile) → Represents m0 v → v.files a.directory ≡ Some file
+              → m2 ≡ mid → (v : DiskVolume) (file : DiskFile) → RepresentsVolume m0 v → v.files a.directory ≡ Some file
               → AnswersEntry v file a m0 m2 (Err e)
           put_answers m2 e device still =
               any_file m2 (Err e) (fault_answers may.content may.dir a m0 m2 e device (unput m0 a may whole count counted mid longer grown m2 still))
@@ -164,27 +164,27 @@ module _ (m0 : Option (List ℕ)) (a : EntryWrite) (may : MayAppend m0 a.directo
             written_at : m2 ≡ with_piece mid at (32 * (a.place % 8)) a.entry
             written_at = written ∙ ap (λ s. with_piece mid s (32 * (a.place % 8)) a.entry) lsn_is
 
-            pub put_mounted : (old new : Volume) → kept new ≡ kept old → IsCacheOf m2 new.cache → IsMounted old mid → IsMounted new m2
+            pub put_mounted : (old new : Volume) → mounted_part new ≡ mounted_part old → IsCacheOf m2 new.cache → IsMounted old mid → IsMounted new m2
             put_mounted = mounted_now mid m2 _ _ (put_stored m0 a may whole count counted mid longer grown m2 written_at)
 
-            pub put_sound : IsSound m2
+            pub put_sound : IsSoundMedia m2
             put_sound = stored_sound mid m2 _ _ (put_stored m0 a may whole count counted mid longer grown m2 written_at)
 
             pub store_on_drive : a.directory < drive_sectors m2
             store_on_drive = descriptor_on_drive m0 a may whole count counted mid longer grown m2 written_at
 
             pub store_answers : (m3 : Option (List ℕ)) (e : FileFault) → IsSome (file_fault {A = Unit {0}} (Err e))
-                → m3 ≡ m2 → (v : DiskVolume) (file : DiskFile) → Represents m0 v → v.files a.directory ≡ Some file
+                → m3 ≡ m2 → (v : DiskVolume) (file : DiskFile) → RepresentsVolume m0 v → v.files a.directory ≡ Some file
                 → AnswersEntry v file a m0 m3 (Err e)
             store_answers m3 e device still =
                 any_file m3 (Err e) (fault_answers may.content may.dir a m0 m3 e device (unnamed m0 a may whole count counted mid longer grown m2 written_at m3 still))
 
             module _ (bytes : List ℕ) (resized : IsResized loaded longer (32 * (a.place + 1)) a.now bytes) (m3 : Option (List ℕ)) (stored : m3 ≡ with_sector m2 a.directory bytes) where
-              pub done_answers : (v : DiskVolume) (file : DiskFile) → Represents m0 v → v.files a.directory ≡ Some file → AnswersEntry v file a m0 m3 (Ok tt)
+              pub done_answers : (v : DiskVolume) (file : DiskFile) → RepresentsVolume m0 v → v.files a.directory ≡ Some file → AnswersEntry v file a m0 m3 (Ok tt)
               done_answers = any_file m3 (Ok tt) (appended m0 a may whole count counted mid longer grown m2 written_at loaded says is_loaded.bytes_are bytes resized m3 stored)
 
-              pub done_mounted : (old new : Volume) → kept new ≡ kept old → IsCacheOf m3 new.cache → IsMounted old m2 → IsMounted new m3
+              pub done_mounted : (old new : Volume) → mounted_part new ≡ mounted_part old → IsCacheOf m3 new.cache → IsMounted old m2 → IsMounted new m3
               done_mounted = mounted_now m2 m3 _ _ (descriptor_stored m0 a may whole count counted mid longer grown m2 written_at loaded says is_loaded.bytes_are bytes resized m3 stored)
 
-              pub store_sound : IsSound m3
+              pub store_sound : IsSoundMedia m3
               store_sound = stored_sound m2 m3 _ _ (descriptor_stored m0 a may whole count counted mid longer grown m2 written_at loaded says is_loaded.bytes_are bytes resized m3 stored)

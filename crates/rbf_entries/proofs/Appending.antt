@@ -33,13 +33,13 @@ use Rattle.rbf_change.specs.Parts.{EntryIsPut}
 use Rattle.rbf_change.specs.Tidy.{KeepsListEnd, KeepsMapEnd}
 use Rattle.rbf_change.proofs.LawfulWrites.{shape-image}
 use Rattle.rbf_access.specs.Faults.{file_fault}
-use Rattle.rbf_access.specs.Mounted.{Represents}
+use Rattle.rbf_access.specs.Mounted.{RepresentsVolume}
 use Rattle.rbf_access.specs.Reading.{IsFdOf}
 use Rattle.rbf_access.specs.declared.faults.FileFault.{FileFault}
 use Rattle.rbf_access.specs.declared.faults.FileFault.TheVariants.{Device, NoCluster, TooManyRuns}
 use Rattle.rbf_access.proofs.ReadFile.{room_for, contents_are}
 use Rattle.rbf_access.proofs.Reading.{below_total}
-use Rattle.rbf_alloc.specs.Grown.{ChangesMap, IsChosen, IsGrown, GrowthEnds, Grows}
+use Rattle.rbf_alloc.specs.Grown.{ChangesMap, IsChosenGrowth, IsGrown, GrowthEnds, Grows}
 use Rattle.rbf_alloc.proofs.Chosen.{has_free, length-with}
 use Rattle.rbf_write.proofs.Redated.{same_file}
 use Rattle.rbf_write.proofs.Segments.{lost_apart}
@@ -122,7 +122,7 @@ module _ (m0 : Option (List ℕ)) (a : EntryWrite) (may : MayAppend m0 a.directo
       ap length (written_at_end dir.contents entry (32 * place) (omega arith) may.end) ∙ length-append dir.contents entry ∙ omega arith
 
   choice_of : (count : ℕ) (taken : List ℕ) → count ≡ place_clusters v dir place
-      → IsChosen k count (is_free_in v) dir.segments taken → IsChoice k (is_free_in v) dir.segments (length (written dir.contents (32 * place) entry)) taken
+      → IsChosenGrowth k count (is_free_in v) dir.segments taken → IsChoice k (is_free_in v) dir.segments (length (written dir.contents (32 * place) entry)) taken
   choice_of count taken counted chosen = record { enough = chosen.counted ∙ counted ∙ ap (clusters_needed k dir.segments) (sym size_then); gained = chosen.gained; fits = chosen.fits }
 
   -- a free cluster has no sector of the map
@@ -152,7 +152,7 @@ module _ (m0 : Option (List ℕ)) (a : EntryWrite) (may : MayAppend m0 a.directo
   named_still image1 others = file_same (sector image0) (sector image1) n (λ s h. others s (lost_no_map s (its_lost s h)))
 
   module _ (count : ℕ) (counted : count ≡ place_clusters v dir place) where
-    module _ (taken : List ℕ) (chosen : IsChosen k count (is_free_in v) dir.segments taken) where
+    module _ (taken : List ℕ) (chosen : IsChosenGrowth k count (is_free_in v) dir.segments taken) where
       within_place : place / 8 < length (sectors_of (with_clusters k dir.segments taken))
       within_place =
           let end = may.end in
@@ -251,7 +251,7 @@ module _ (m0 : Option (List ℕ)) (a : EntryWrite) (may : MayAppend m0 a.directo
       same_k : k ≡ g.cluster
       same_k = ap (λ (h : Geometry). h.cluster) shape_u
 
-      abbrev pub on_mid : Represents mid u
+      abbrev pub on_mid : RepresentsVolume mid u
       on_mid = record { image = image1; is = grown.is; vol = grown.vol }
 
       sectors_are : sectors_of segments ≡ sectors_of dir.segments ++ more
@@ -401,7 +401,7 @@ module _ (m0 : Option (List ℕ)) (a : EntryWrite) (may : MayAppend m0 a.directo
         mid2_is : mid2 ≡ Some image2
         mid2_is = put_is ∙ ap (λ m. with_piece m lsn (32 * (place % 8)) entry) grown.is
 
-        abbrev on2 : Represents mid2 u
+        abbrev on2 : RepresentsVolume mid2 u
         on2 = record { image = image2; is = mid2_is; vol = vol2 }
 
         pub put_stored : IsStored mid mid2 u u

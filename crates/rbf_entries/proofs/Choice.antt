@@ -5,7 +5,7 @@ use Rattle.std.proofs.Math.Nat.{div-eq_of_lt, mul-div_cancel}
 use Rattle.std.proofs.lemmas.Bool.{and_parts, and_from, or_right, both_ways, false_from_ne_true, cases_Bool, cases_eq, not_from_false}
 use Rattle.rbf_model.specs.Segments.{sectors_of, appended_segments, joins}
 use Rattle.rbf_change.specs.Contents.{sector_count}
-use Rattle.rbf_change.specs.Growth.{uses, IsAfter, begins_run, MayGain, free_beside, with_clusters, clusters_needed, IsChoice}
+use Rattle.rbf_change.specs.Growth.{uses, IsClusterAfter, begins_run, MayGain, free_beside, with_clusters, clusters_needed, IsChoice}
 
 -- below a free cluster one begins a run
 run_start : (free : ℕ → Bool) (c : ℕ) → free c ≡ true → (b : ℕ) × (begins_run free b ≡ true)
@@ -43,7 +43,7 @@ one_gained k free segments c is =
     at_least : (length (sectors_of segments) ≡ 0 → ⊥) → 1 ≤ length (sectors_of segments)
     at_least some = omega arith
 
-    begun : ((d : ℕ) → IsAfter k segments d → free d ≡ true → ⊥) → (d : ℕ) × MayGain k free segments d
+    begun : ((d : ℕ) → IsClusterAfter k segments d → free d ≡ true → ⊥) → (d : ℕ) × MayGain k free segments d
     begun none =
         let b = run_start free c is in (
           b.0,

@@ -27,26 +27,26 @@ use Rattle.rbf_change.specs.Contents.{sector_count, written}
 use Rattle.rbf_change.specs.Faults.{MayLose}
 use Rattle.rbf_change.specs.Growth.{uses, with_clusters, clusters_needed, IsChoice}
 use Rattle.rbf_change.specs.Names.{new_entry, entry_place, is_dots}
-use Rattle.rbf_change.specs.NewFiles.{Plan, file_plan, IsNewFile, free_without, IsEntered}
+use Rattle.rbf_change.specs.NewFiles.{Plan, file_plan, IsNewFile, free_without, IsFileEntered}
 use Rattle.rbf_change.specs.Parts.{EntryIsPut}
 use Rattle.rbf_change.specs.Tidy.{KeepsMapEnd, KeepsListEnd, IsNewList}
 use Rattle.rbf_change.proofs.LawfulWrites.{shape-image}
-use Rattle.rbf_access.specs.Mounted.{Represents}
+use Rattle.rbf_access.specs.Mounted.{RepresentsVolume}
 use Rattle.rbf_access.specs.Reading.{IsFdOf}
 use Rattle.rbf_access.proofs.ReadFile.{room_for}
-use Rattle.rbf_entries.specs.Made.{IsMade, MakingEnds}
+use Rattle.rbf_entries.specs.Made.{IsMade, FileMakingEnds}
 use Rattle.rbf_write.proofs.Steps.{few_segments, own_not_free}
-use Rattle.rbf_entries.specs.NewEntry.{EntryWrite, MayEnter, IsEntryWritten, EntryStops, IsAfterMarks, StandsBehind, sector_of_place}
-use Rattle.rbf_entries.specs.Entering.{Entering, StandsWhole, entry_calls, EnteringTook, IsEnteredOn, refusal_of}
-use Rattle.rbf_entries.specs.Rooms.{place_clusters, HasRoom}
+use Rattle.rbf_entries.specs.NewEntry.{EntryWrite, MayEnter, IsEntryWritten, EntryStops, IsAfterMarks, IsUncountedEntry, sector_of_place}
+use Rattle.rbf_entries.specs.Entering.{Entering, IsFileOnMedia, entry_calls, EnteringTook, IsEnteredOn, refusal_of}
+use Rattle.rbf_entries.specs.Rooms.{place_clusters, HasClusterRoom}
 use Rattle.rbf_entries.proofs.Choice.{one_needed, choice_exists, one_passes}
 use Rattle.rbf_entries.proofs.Needs.{needs_entry}
 use Rattle.rbf_entries.proofs.Sectors.{entry_no_map, entry_apart, untaken}
 use Rattle.rbf_entries.proofs.NewEntries.{new_length, new_number, may_enter}
-use Rattle.rbf_walk.specs.Search.{IsAbsent}
+use Rattle.rbf_walk.specs.Search.{IsAbsentName}
 use Rattle.rbf_walk.proofs.Stepping.{same_content}
 use Rattle.rbf_write.specs.declared.loaded.Loaded.{Loaded}
-use Rattle.rbf_write.specs.Files.{IsLoaded}
+use Rattle.rbf_write.specs.Files.{IsDescriptorLoaded}
 use Rattle.rbf_entries.specs.Creating.{request}
 use Rattle.rbf_entries.proofs.Placing.{place_most}
 use Rattle.rbf_entries.proofs.NewOnes.{free_in_lost, positive, first_free, free_facts, contents_are, its_cluster, still_free}
@@ -59,9 +59,9 @@ and_not_false : (t : Bool) → (t && not false) ≡ t
 and_not_false true = refl
 and_not_false false = refl
 
-module _ (m0 : Option (List ℕ)) (v : DiskVolume) (on : Represents m0 v) (d : ℕ) (name : List ℕ) (attr user : ℕ)
+module _ (m0 : Option (List ℕ)) (v : DiskVolume) (on : RepresentsVolume m0 v) (d : ℕ) (name : List ℕ) (attr user : ℕ)
     (execute : Bool) (now : TimePacket) (dir : DiskFile) (is : v.files d ≡ Some dir) (directory : is_directory dir ≡ true)
-    (place : ℕ) (named : IsName name) (proper : is_dots name ≡ false) (absent : IsAbsent dir.contents name place) (room : HasRoom v dir place 1) where
+    (place : ℕ) (named : IsName name) (proper : is_dots name ≡ false) (absent : IsAbsentName dir.contents name place) (room : HasClusterRoom v dir place 1) where
   abbrev k : ℕ
   k = cluster_size v
 
@@ -171,7 +171,7 @@ module _ (m0 : Option (List ℕ)) (v : DiskVolume) (on : Represents m0 v) (d : �
       abbrev new_dir : DiskFile
       new_dir = written_file dir (32 * entry_place dir.contents) entry now segments
 
-      abbrev both : IsEntered v d n name plan
+      abbrev both : IsFileEntered v d n name plan
       both = record {
         old = dir;
         new = new_dir;
@@ -192,7 +192,7 @@ module _ (m0 : Option (List ℕ)) (v : DiskVolume) (on : Represents m0 v) (d : �
           → ((s : ℕ) → ¬ IsMapSector (image_geometry image) s → s ≢ n → s ≢ at → sector image1 s ≡ sector image s)
           → IsAfterMarks image image1 n left (λ c. has_cluster (shape v) n file c) → (sector image1 n ≡ sector image n) ⊎ (file_at (sector image1) n ≡ file)
           → ((c : ℕ) → has gained c ≡ true → left.lost c ≡ true → file_at (sector image1) n ≡ file)
-          → (sector image1 at ≡ sector image at) ⊎ (StandsBehind image image1 dir at place entry × StandsWhole v left image1 n file gained)
+          → (sector image1 at ≡ sector image at) ⊎ (IsUncountedEntry image image1 dir at place entry × IsFileOnMedia v left image1 n file gained)
           → KeepsMapEnd image image1 (λ _. false) → EnteringTook v dir e m0 m1
       took allowed image image1 left m1 was now_is vol lose others order described grown entered_last end = record {
         allowed = allowed;
@@ -212,20 +212,20 @@ module _ (m0 : Option (List ℕ)) (v : DiskVolume) (on : Represents m0 v) (d : �
         growth = grown;
         entry =
             subst (λ p. (sector image1 (sector_of_place segments p) ≡ sector image (sector_of_place segments p)) ⊎
-            (StandsBehind image image1 dir (sector_of_place segments p) p entry × StandsWhole v left image1 n file
+            (IsUncountedEntry image image1 dir (sector_of_place segments p) p entry × IsFileOnMedia v left image1 n file
             gained))
             absent.free_is entered_last;
         end = end;
       }
 
   -- a fault came before the descriptor was written
-  number_stays : {m1 : Option (List ℕ)} (ends : MakingEnds v plan m0 m1) → sector ends.now ends.number ≡ sector ends.image ends.number
+  number_stays : {m1 : Option (List ℕ)} (ends : FileMakingEnds v plan m0 m1) → sector ends.now ends.number ≡ sector ends.image ends.number
   number_stays ends =
       ends.others ends.number
       (subst (λ i. ¬ IsMapSector (image_geometry i) ends.number) (same_Some on.image ends.image (sym on.is ∙ ends.was))
       (no_map ends.number ends.file ends.chosen ends.number (first_free m0 v on ends.number plan refl ends.file ends.chosen)))
 
-  pub unmade : refusal_of v dir e ≡ None → (m1 : Option (List ℕ)) → MakingEnds v plan m0 m1 → EnteringTook v dir e m0 m1
+  pub unmade : refusal_of v dir e ≡ None → (m1 : Option (List ℕ)) → FileMakingEnds v plan m0 m1 → EnteringTook v dir e m0 m1
   unmade allowed m1 ends =
       let c = some_choice ends.number ends.file ends.chosen in
       took ends.number ends.file ends.chosen c.0 c.1 allowed ends.image ends.now ends.left m1 ends.was ends.is ends.vol
@@ -263,7 +263,7 @@ module _ (m0 : Option (List ℕ)) (v : DiskVolume) (on : Represents m0 v) (d : �
     left_is : made.left ≡ u
     left_is = made.made.volume
 
-    abbrev on_mid : Represents mid made.left
+    abbrev on_mid : RepresentsVolume mid made.left
     on_mid = record { image = made.now; is = made.is; vol = made.vol }
 
     vol_mid : Vol made.now u
@@ -349,7 +349,7 @@ module _ (m0 : Option (List ℕ)) (v : DiskVolume) (on : Represents m0 v) (d : �
         assoc true b t h = refl
         assoc false b t h = h
 
-    enough_left : HasRoom u dir place 0
+    enough_left : HasClusterRoom u dir place 0
     enough_left =
         let enough = room.enough in
         let left = still_free m0 v on n plan refl file new in
@@ -369,7 +369,7 @@ module _ (m0 : Option (List ℕ)) (v : DiskVolume) (on : Represents m0 v) (d : �
       place_is = absent.free_is;
       new = may_enter dir.contents name place n named proper absent.nowhere;
       ready = ready_entry;
-      room = subst (λ x. HasRoom x dir place 0) (sym left_is) enough_left;
+      room = subst (λ x. HasClusterRoom x dir place 0) (sym left_is) enough_left;
     })
 
     its_free : is_free_in v (n / k) ≡ true
@@ -397,7 +397,7 @@ module _ (m0 : Option (List ℕ)) (v : DiskVolume) (on : Represents m0 v) (d : �
         absurd (omega arith)
 
     -- the directory's descriptor is as it was read
-    pub read_still : (loaded : Loaded) → IsLoaded m0 d loaded → IsLoaded mid d loaded
+    pub read_still : (loaded : Loaded) → IsDescriptorLoaded m0 d loaded → IsDescriptorLoaded mid d loaded
     read_still loaded read = record {
       number_is = read.number_is;
       bytes_are = read.bytes_are ∙ ap (λ m. sector_at m d) made.was ∙ sym (made.writes.others d d_no_map (λ same. apart (sym same))) ∙ sym (ap (λ m. sector_at m d) made.is);
@@ -457,7 +457,7 @@ module _ (m0 : Option (List ℕ)) (v : DiskVolume) (on : Represents m0 v) (d : �
         written_then : WritesFile k (free_then n file) (32 * place) (new_entry name n) now put_in.old put_in.new
         written_then = subst (λ f. WritesFile k f (32 * place) (new_entry name n) now put_in.old put_in.new) free_is put_in.written
 
-        both_then : IsEntered v d n name plan
+        both_then : IsFileEntered v d n name plan
         both_then = record {
           old = put_in.old;
           new = put_in.new;

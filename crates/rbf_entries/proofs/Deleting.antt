@@ -20,12 +20,12 @@ use Rattle.rbf_sector.specs.declared.fd.Fd.{Fd}
 use Rattle.rbf_access.specs.Drive.{DriveCounts, MovesCounts}
 use Rattle.rbf_access.specs.declared.volume.Volume.{Volume}
 use Rattle.rbf_access.specs.Cached.{IsCacheOf}
-use Rattle.rbf_access.specs.Mounted.{kept, Represents, HasFile, IsMounted, IsSound}
+use Rattle.rbf_access.specs.Mounted.{mounted_part, RepresentsVolume, HasFile, IsMounted, IsSoundMedia}
 use Rattle.rbf_access.specs.Reading.{IsFdOf, OnFile}
 use Rattle.rbf_access.proofs.Counting.{counts_then, counts_most, counts_within}
 use Rattle.rbf_access.proofs.ReadFile.{room_for}
 use Rattle.rbf_access.proofs.Reading.{below_total}
-use Rattle.rbf_walk.specs.Search.{OnFd, IsFoundAt, IsAbsent, IsSearched, sectors_searched}
+use Rattle.rbf_walk.specs.Search.{OnFd, IsNameFoundAt, IsAbsentName, IsSearched, sectors_searched}
 use Rattle.rbf_access.specs.declared.faults.FileFault.TheVariants.{Device, NoCluster, TooManyRuns}
 use Rattle.rbf_change.specs.Parts.{EntryIsFreed}
 use Rattle.rbf_walk.specs.declared.error.DirError.{DirError}
@@ -80,7 +80,7 @@ module _ (g : Geometry) (files : ℕ → Option DiskFile) (tree : IsTree g files
 module _ (media : Option (List ℕ)) (dir : ℕ) (has : HasFile media dir) (fd : Fd) (known : OnFile media dir (λ file. IsFdOf file fd)) (name : List ℕ) (user : ℕ) (execute : Bool)
     (test : Bool) (tested : (file : DiskFile) → IsFdOf file fd → test ≡ may_change file user execute) where
   -- a directory that may not be changed
-  pub closed_end : (v : DiskVolume) (file : DiskFile) → Represents media v → v.files dir ≡ Some file → test ≡ false → deletion_end v.files file name user execute ≡ not_allowed
+  pub closed_end : (v : DiskVolume) (file : DiskFile) → RepresentsVolume media v → v.files dir ≡ Some file → test ≡ false → deletion_end v.files file name user execute ≡ not_allowed
   closed_end v file on is fails =
       cond-false (may_change file user execute) (deletion_of v.files user (look_up file.contents name)) not_allowed (sym (tested file (known v file on is)) ∙ fails)
 
@@ -91,21 +91,22 @@ module _ (media : Option (List ℕ)) (dir : ℕ) (has : HasFile media dir) (fd :
     by_fields : (file : DiskFile) → IsFdOf file fd → by_fd ≡ may_search file user execute
     by_fields file of = ap₂ (λ a o. (bit_at a 7 == 1) && permits a o user (if execute then 4 else 1)) of.attributes_are of.owner_is
 
-    on_now : (v : DiskVolume) → Represents media v → Represents now v
+    on_now : (v : DiskVolume) → RepresentsVolume media v → RepresentsVolume now v
     on_now v on = record { image = on.image; is = same ∙ on.is; vol = on.vol }
 
-    pub absent_end : (v : DiskVolume) (file : DiskFile) → Represents media v → v.files dir ≡ Some file → (free : ℕ) → answer ≡ Absent free → deletion_end v.files file name user execute ≡ not_found
+    pub absent_end : (v : DiskVolume) (file : DiskFile) → RepresentsVolume media v → v.files dir ≡ Some file
+        → (free : ℕ) → answer ≡ Absent free → deletion_end v.files file name user execute ≡ not_found
     absent_end v file on is free absent =
         let fields = known v file on is in
-        let none : IsAbsent file.contents name free = subst (IsSearched file.contents name) absent (searched v dir file (on_now v on) is fields) in
+        let none : IsAbsentName file.contents name free = subst (IsSearched file.contents name) absent (searched v dir file (on_now v on) is fields) in
         cond-true (may_change file user execute) (deletion_of v.files user (look_up file.contents name)) not_allowed (sym (tested file fields) ∙ passes)
         ∙ ap (deletion_of v.files user) none.names_none
 
     module _ (place n : ℕ) (found : answer ≡ Found place n) where
-      at : (v : DiskVolume) (file : DiskFile) → Represents media v → v.files dir ≡ Some file → IsFoundAt file.contents name place n
+      at : (v : DiskVolume) (file : DiskFile) → RepresentsVolume media v → v.files dir ≡ Some file → IsNameFoundAt file.contents name place n
       at v file on is = subst (IsSearched file.contents name) found (searched v dir file (on_now v on) is (known v file on is))
 
-      pub name_found : (v : DiskVolume) (file : DiskFile) → Represents media v → v.files dir ≡ Some file → is_some (look_up file.contents name) ≡ true
+      pub name_found : (v : DiskVolume) (file : DiskFile) → RepresentsVolume media v → v.files dir ≡ Some file → is_some (look_up file.contents name) ≡ true
       name_found v file on is = ap is_some (at v file on is).names
 
       -- its sector is one of the directory's
@@ -125,22 +126,22 @@ module _ (media : Option (List ℕ)) (dir : ℕ) (has : HasFile media dir) (fd :
           arrives_on media dir n user execute name has
           (found_walked media dir has fd known user execute name by_fd by_fields has.content has.on now same answer searched open_to place n found)
 
-      found_end : (v : DiskVolume) (file : DiskFile) → Represents media v → v.files dir ≡ Some file
+      found_end : (v : DiskVolume) (file : DiskFile) → RepresentsVolume media v → v.files dir ≡ Some file
           → deletion_end v.files file name user execute ≡ (if may_delete (v.files n) user then arrives n else not_allowed)
       found_end v file on is =
           cond-true (may_change file user execute) (deletion_of v.files user (look_up file.contents name)) not_allowed (sym (tested file (known v file on is)) ∙ passes)
           ∙ ap (deletion_of v.files user) (at v file on is).names
 
       module _ (target : Fd) (read : OnFile media n (λ file. IsFdOf file target)) (may : Bool) (asked : (file : DiskFile) → IsFdOf file target → may ≡ may_delete (Some file) user) where
-        may_is : (v : DiskVolume) → Represents media v → may ≡ may_delete (v.files n) user
+        may_is : (v : DiskVolume) → RepresentsVolume media v → may ≡ may_delete (v.files n) user
         may_is v on =
             let there = file_in media n names_file v on in
             asked names_file.file (read v names_file.file on there) ∙ ap (λ o. may_delete o user) (sym there)
 
-        pub kept_end : may ≡ false → (v : DiskVolume) (file : DiskFile) → Represents media v → v.files dir ≡ Some file → deletion_end v.files file name user execute ≡ not_allowed
+        pub kept_end : may ≡ false → (v : DiskVolume) (file : DiskFile) → RepresentsVolume media v → v.files dir ≡ Some file → deletion_end v.files file name user execute ≡ not_allowed
         kept_end fails v file on is = found_end v file on is ∙ cond-false (may_delete (v.files n) user) (arrives n) not_allowed (sym (may_is v on) ∙ fails)
 
-        pub deleted_end : may ≡ true → (v : DiskVolume) (file : DiskFile) → Represents media v → v.files dir ≡ Some file → deletion_end v.files file name user execute ≡ arrives n
+        pub deleted_end : may ≡ true → (v : DiskVolume) (file : DiskFile) → RepresentsVolume media v → v.files dir ≡ Some file → deletion_end v.files file name user execute ≡ arrives n
         deleted_end goes v file on is = found_end v file on is ∙ cond-true (may_delete (v.files n) user) (arrives n) not_allowed (sym (may_is v on) ∙ goes)
 
         pub may_be_freed : may ≡ true → (lsn : ℕ) → slice_get (sectors_of fd.segs) (place / 8) ≡ Some lsn
@@ -223,7 +224,7 @@ pub read_before : (media now : Option (List ℕ)) (n : ℕ) (fd : Fd) → now �
 read_before media now n fd same read = subst (λ m. OnFile m n (λ file. IsFdOf file fd)) same read
 
 pub read_here : (media now : Option (List ℕ)) (n : ℕ) (fd : Fd) (v : DiskVolume) (file : DiskFile) (fact : DiskFile
-    → Type 0) → now ≡ media → Represents media v → v.files n ≡ Some file → IsFdOf file fd → OnFd now fd fact → fact file
+    → Type 0) → now ≡ media → RepresentsVolume media v → v.files n ≡ Some file → IsFdOf file fd → OnFd now fd fact → fact file
 read_here media now n fd v file fact same on is known read = read v n file (record { image = on.image; is = same ∙ on.is; vol = on.vol }) is known
 
 pub same_answer : (end : WalkEnd) (e : DirError) (r : Result ℕ DirError) → r ≡ Err e → AnswersWalk end (Err e) → AnswersWalk end r
@@ -262,13 +263,13 @@ module _ (media now : Option (List ℕ)) (d : ℕ) (name : List ℕ) (found : De
       (becomes_now media now may.place.content (without media now d found.place may frees.written) (free_stored media now d found.place may frees.written) (λ v w. EntryIsFreed v w d found.place)
       (free_changes media now d found.place may frees.written))
 
-  pub freed_mounted : (old new : Volume) → kept new ≡ kept old → IsCacheOf now new.cache → IsMounted old media → IsMounted new now
+  pub freed_mounted : (old new : Volume) → mounted_part new ≡ mounted_part old → IsCacheOf now new.cache → IsMounted old media → IsMounted new now
   freed_mounted =
       let may = frees.at.free in
       mounted_now media now may.place.content (without media now d found.place may frees.written) (free_stored media now d found.place may frees.written)
 
 -- so the media is sound
-pub freed_sound : (media now : Option (List ℕ)) (d : ℕ) (name : List ℕ) (found : Deletable) → FreesOn media now d name found → IsSound now
+pub freed_sound : (media now : Option (List ℕ)) (d : ℕ) (name : List ℕ) (found : Deletable) → FreesOn media now d name found → IsSoundMedia now
 freed_sound media now d name found frees =
     let may = frees.at.free in
     stored_sound media now may.place.content (without media now d found.place may frees.written) (free_stored media now d found.place may frees.written)

@@ -10,7 +10,7 @@ use Rattle.rbf_change.specs.Names.{deletion_end}
 use Rattle.rbf_access.specs.Drive.{DriveCounts, MovesCounts}
 use Rattle.rbf_access.specs.Faults.{file_fault}
 use Rattle.rbf_access.specs.MapMarks.{marking_sectors}
-use Rattle.rbf_access.specs.Mounted.{Represents}
+use Rattle.rbf_access.specs.Mounted.{RepresentsVolume}
 use Rattle.rbf_access.specs.Reading.{OnVolumeFile}
 use Rattle.rbf_access.specs.declared.faults.FileFault.{FileFault}
 use Rattle.rbf_access.specs.declared.faults.FileFault.TheVariants.{Device, NoCluster, TooManyRuns}
@@ -75,7 +75,7 @@ refused_still (Err e) media now same = λ none. same
 
 -- the file that was found, in whichever volume the media represents
 module _ (media : Option (List ℕ)) (d : ℕ) (name : List ℕ) (found : Deletable) (at : IsDeletable media d name found) where
-  pub file_found : (u : DiskVolume) → Represents media u → u.files found.descriptor ≡ Some at.free.file
+  pub file_found : (u : DiskVolume) → RepresentsVolume media u → u.files found.descriptor ≡ Some at.free.file
   file_found u on =
       ap (λ (x : DiskVolume). x.files found.descriptor) (same_content media u at.free.place.content on at.free.place.on)
       ∙ ap at.free.place.content.files at.descriptor_is ∙ at.free.names
@@ -86,19 +86,19 @@ module _ (media : Option (List ℕ)) (d : ℕ) (name : List ℕ) (found : Deleta
 
     -- its deletion begins where the search for it ended
     pub answer_here : (now : Option (List ℕ)) (r : Result (Unit {0}) FileFault)
-        → ((e : ℕ) (other : List ℕ) (u : DiskVolume) → IsDeletable mid e other found → Represents mid u → AnswersDeletionOf u e found.descriptor other mid now r)
-        → (u : DiskVolume) → Represents media u → AnswersDeletionOf u d found.descriptor name media now r
+        → ((e : ℕ) (other : List ℕ) (u : DiskVolume) → IsDeletable mid e other found → RepresentsVolume mid u → AnswersDeletionOf u e found.descriptor other mid now r)
+        → (u : DiskVolume) → RepresentsVolume media u → AnswersDeletionOf u d found.descriptor name media now r
     answer_here now r answers u on =
-        subst (λ m. (e : ℕ) (other : List ℕ) (x : DiskVolume) → IsDeletable m e other found → Represents m x → AnswersDeletionOf x e found.descriptor other m now r) same answers d name u at on
+        subst (λ m. (e : ℕ) (other : List ℕ) (x : DiskVolume) → IsDeletable m e other found → RepresentsVolume m x → AnswersDeletionOf x e found.descriptor other m now r) same answers d name u at on
 
     pub calls_here : (f : Option ℕ) (s t : DriveCounts) → OnVolumeFile mid found.descriptor (λ x file. MovesCounts f (file_deletion_calls x found.descriptor file) s t)
-        → (u : DiskVolume) → Represents media u → MovesCounts f (file_deletion_calls u found.descriptor at.free.file) s t
+        → (u : DiskVolume) → RepresentsVolume media u → MovesCounts f (file_deletion_calls u found.descriptor at.free.file) s t
     calls_here f s t moves u on =
         subst (λ m. OnVolumeFile m found.descriptor (λ x file. MovesCounts f (file_deletion_calls x found.descriptor file) s t)) same moves u at.free.file on (file_found u on)
 
 -- a fault ended it, of a user who is allowed the deletion
 pub stops_so : (media now : Option (List ℕ)) (d n : ℕ) (name : List ℕ) (user : ℕ) (execute : Bool) → OnVolumeFile media d (λ x file. deletion_end x.files file name user execute ≡ arrives n)
-    → (u : DiskVolume) → Represents media u → (fault : FileFault) → AnswersDeletionOf u d n name media now (Err fault) → DeletionStops u d name user execute media now
+    → (u : DiskVolume) → RepresentsVolume media u → (fault : FileFault) → AnswersDeletionOf u d n name media now (Err fault) → DeletionStops u d name user execute media now
 stops_so media now d n name user execute allowed u on (Device k) (inl same) = as_before same
 stops_so media now d n name user execute allowed u on (Device k) (inr half) = lost_now (record { half = half; allowed = allowed u half.deletes.dir on half.deletes.is })
 stops_so media now d n name user execute allowed u on NoCluster answer = absurd answer

@@ -12,13 +12,13 @@ use Rattle.rbf_change.specs.Names.{entry_place}
 use Rattle.rbf_change.specs.NewFiles.{entry_clusters}
 use Rattle.rbf_change.specs.Growth.{clusters_needed}
 use Rattle.rbf_access.specs.Drive.{DriveCounts, MovesCounts}
-use Rattle.rbf_access.specs.Mounted.{Represents}
+use Rattle.rbf_access.specs.Mounted.{RepresentsVolume}
 use Rattle.rbf_access.specs.Reading.{IsFdOf}
 use Rattle.rbf_access.proofs.Counting.{counts_most}
-use Rattle.rbf_entries.specs.Entries.{IsPlace, MayFill}
+use Rattle.rbf_entries.specs.Entries.{IsEntryPlace, MayFill}
 use Rattle.rbf_walk.proofs.Stepping.{same_content}
 use Rattle.rbf_write.specs.declared.loaded.Loaded.{Loaded}
-use Rattle.rbf_write.specs.Files.{IsLoaded}
+use Rattle.rbf_write.specs.Files.{IsDescriptorLoaded}
 use Rattle.rbf_entries.specs.Rooms.{place_clusters}
 use Rattle.rbf_entries.specs.NewEntry.{EntryWrite, MayEnter, MayAppend}
 use Rattle.rbf_entries.specs.Entering.{entry_calls}
@@ -31,12 +31,12 @@ three_or_four c few = ⊎_elim
     (λ none. subst (λ n. 3 + c ≤ n) (sym (cond-false (nat_lt 0 c) 4 3 (le-ltb 0 c none))) (omega arith))
     (cases_lt 0 c)
 
-module _ (m0 : Option (List ℕ)) (d place : ℕ) (entry : List ℕ) (may : MayEnter m0 d place entry) (loaded : Loaded) (is_loaded : IsLoaded m0 d loaded) where
+module _ (m0 : Option (List ℕ)) (d place : ℕ) (entry : List ℕ) (may : MayEnter m0 d place entry) (loaded : Loaded) (is_loaded : IsDescriptorLoaded m0 d loaded) where
   says : IsFdOf may.dir loaded.file
   says = is_loaded.says may.content may.dir may.on may.is
 
   -- whichever volume the media represents
-  any : (P : DiskVolume → DiskFile → Type 0) → P may.content may.dir → (v : DiskVolume) (file : DiskFile) → Represents m0 v → v.files d ≡ Some file → P v file
+  any : (P : DiskVolume → DiskFile → Type 0) → P may.content may.dir → (v : DiskVolume) (file : DiskFile) → RepresentsVolume m0 v → v.files d ≡ Some file → P v file
   any P here v file on is =
       let same : may.content ≡ v = same_content m0 may.content v may.on on in
       let one : may.dir ≡ file = same_Some may.dir file (sym may.is ∙ ap (λ (w : DiskVolume). w.files d) same ∙ is) in
@@ -49,7 +49,7 @@ module _ (m0 : Option (List ℕ)) (d place : ℕ) (entry : List ℕ) (may : MayE
     free : is_used (directory_entry may.dir.contents place) ≡ false
     free = place_free may.dir.contents place may.place_is low
 
-    its_place : IsPlace m0 d place
+    its_place : IsEntryPlace m0 d place
     its_place = record {
       content = may.content;
       on = may.on;
@@ -64,7 +64,8 @@ module _ (m0 : Option (List ℕ)) (d place : ℕ) (entry : List ℕ) (may : MayE
     unfolding its_place
     may_fill = record { place = its_place; free = free; new = may.new; ready = may.ready }
 
-    pub fill_calls : (v : DiskVolume) (file : DiskFile) → Represents m0 v → v.files d ≡ Some file → (f : Option ℕ) (s t : DriveCounts) → MovesCounts f 2 s t → MovesCounts f (entry_calls v file) s t
+    pub fill_calls : (v : DiskVolume) (file : DiskFile) → RepresentsVolume m0 v → v.files d ≡ Some file
+        → (f : Option ℕ) (s t : DriveCounts) → MovesCounts f 2 s t → MovesCounts f (entry_calls v file) s t
     fill_calls = any (λ v file. (f : Option ℕ) (s t : DriveCounts) → MovesCounts f 2 s t → MovesCounts f (entry_calls v file) s t) (λ f s t moved.
         let there = low in
         let at = may.place_is in
@@ -103,7 +104,7 @@ module _ (m0 : Option (List ℕ)) (d place : ℕ) (entry : List ℕ) (may : MayE
           (subst (λ c. 3 + c ≤ (if nat_lt 0 (entry_clusters (cluster_size may.content) may.dir) then 4 else 3)) same
           (three_or_four (entry_clusters (cluster_size may.content) may.dir) (subst (λ c. c ≤ 1) (sym same) (needs_few m0 a may_append whole))))
 
-      pub append_calls : (v : DiskVolume) (file : DiskFile) → Represents m0 v → v.files d ≡ Some file
+      pub append_calls : (v : DiskVolume) (file : DiskFile) → RepresentsVolume m0 v → v.files d ≡ Some file
           → (f : Option ℕ) (s t : DriveCounts) → MovesCounts f (3 + place_clusters v file place) s t
           → MovesCounts f (entry_calls v file) s t
       append_calls = any (λ v file. (f : Option ℕ) (s t : DriveCounts) → MovesCounts f (3 + place_clusters v file place) s t → MovesCounts f (entry_calls v file) s t)

@@ -26,7 +26,7 @@ use Rattle.rbf_change.specs.Parts.{EntryIsPut}
 use Rattle.rbf_change.proofs.LawfulWrites.{shape-image}
 use Rattle.rbf_access.specs.Faults.{file_fault}
 use Rattle.rbf_access.specs.Cached.{IsCacheOf}
-use Rattle.rbf_access.specs.Mounted.{kept, Represents, IsMounted, IsSound}
+use Rattle.rbf_access.specs.Mounted.{mounted_part, RepresentsVolume, IsMounted, IsSoundMedia}
 use Rattle.rbf_access.specs.Reading.{IsFdOf}
 use Rattle.rbf_access.specs.declared.faults.FileFault.{FileFault}
 use Rattle.rbf_access.specs.declared.volume.Volume.{Volume}
@@ -39,7 +39,7 @@ use Rattle.rbf_entries.proofs.Puts.{filled, fill_stored, fill_changes, listed_pl
 use Rattle.rbf_entries.proofs.Stored.{IsStored, mounted_now, stored_sound}
 use Rattle.rbf_walk.proofs.Stepping.{same_content}
 use Rattle.rbf_write.specs.declared.loaded.Loaded.{Loaded}
-use Rattle.rbf_write.specs.Files.{IsLoaded}
+use Rattle.rbf_write.specs.Files.{IsDescriptorLoaded}
 use Rattle.rbf_write.proofs.Laid.{same_mark, same_end}
 use Rattle.rbf_write.proofs.Steps.{few_segments}
 use Rattle.rbf_entries.specs.NewEntry.{EntryWrite, WritesEntry, IsEntryWritten, EntryStops, AnswersEntry, sector_of_place}
@@ -68,7 +68,7 @@ module _ (m0 : Option (List ℕ)) (d place : ℕ) (entry : List ℕ) (may : MayF
 
   -- whichever volume the media represents
   any_file : (now : TimePacket) (m1 : Option (List ℕ)) (r : Result (Unit {0}) FileFault)
-      → AnswersEntry v dir (a now) m0 m1 r → (w : DiskVolume) (file : DiskFile) → Represents m0 w → w.files d ≡ Some file
+      → AnswersEntry v dir (a now) m0 m1 r → (w : DiskVolume) (file : DiskFile) → RepresentsVolume m0 w → w.files d ≡ Some file
       → AnswersEntry w file (a now) m0 m1 r
   any_file now m1 r answer w file on is =
       let same : v ≡ w = same_content m0 v w may.place.on on in
@@ -110,11 +110,11 @@ module _ (m0 : Option (List ℕ)) (d place : ℕ) (entry : List ℕ) (may : MayF
   }
 
   unfilled_answers : (now : TimePacket) (m1 : Option (List ℕ)) (e : FileFault)
-      → IsSome (file_fault {A = Unit {0}} (Err e)) → m1 ≡ m0 → (w : DiskVolume) (file : DiskFile) → Represents m0 w
+      → IsSome (file_fault {A = Unit {0}} (Err e)) → m1 ≡ m0 → (w : DiskVolume) (file : DiskFile) → RepresentsVolume m0 w
       → w.files d ≡ Some file → AnswersEntry w file (a now) m0 m1 (Err e)
   unfilled_answers now m1 e device same = any_file now m1 (Err e) (fault_answers v dir (a now) m0 m1 e device (unfilled now m1 same))
 
-  module _ (loaded : Loaded) (is_loaded : IsLoaded m0 d loaded) where
+  module _ (loaded : Loaded) (is_loaded : IsDescriptorLoaded m0 d loaded) where
     says : IsFdOf dir loaded.file
     says = is_loaded.says v dir may.place.on may.place.is
 
@@ -140,10 +140,10 @@ module _ (m0 : Option (List ℕ)) (d place : ℕ) (entry : List ℕ) (may : MayF
         stored : IsStored m0 m1 v after
         stored = fill_stored m0 m1 d place entry may whole entry_at
 
-        pub fill_sound : IsSound m1
+        pub fill_sound : IsSoundMedia m1
         fill_sound = stored_sound m0 m1 v after stored
 
-        fill_mounted : (old new : Volume) → kept new ≡ kept old → IsCacheOf m1 new.cache → IsMounted old m0 → IsMounted new m1
+        fill_mounted : (old new : Volume) → mounted_part new ≡ mounted_part old → IsCacheOf m1 new.cache → IsMounted old m0 → IsMounted new m1
         fill_mounted = mounted_now m0 m1 v after stored
 
         abbrev at : ℕ
@@ -234,20 +234,23 @@ module _ (m0 : Option (List ℕ)) (d place : ℕ) (entry : List ℕ) (may : MayF
           writes = subst (λ xs. WritesEntry image0 image1 xs (a now)) (sym (segments_stay now)) (writes now);
         }
 
-        filled_answers : (now : TimePacket) (w : DiskVolume) (file : DiskFile) → Represents m0 w → w.files d ≡ Some file → AnswersEntry w file (a now) m0 m1 (Ok tt)
+        filled_answers : (now : TimePacket) (w : DiskVolume) (file : DiskFile) → RepresentsVolume m0 w → w.files d ≡ Some file → AnswersEntry w file (a now) m0 m1 (Ok tt)
         filled_answers now = any_file now m1 (Ok tt) (is_written now)
 
   -- as it is written, or is not
-  pub entry_answers : (now : TimePacket) (loaded : Loaded) → IsLoaded m0 d loaded → (lsn : ℕ)
+  pub entry_answers : (now : TimePacket) (loaded : Loaded) → IsDescriptorLoaded m0 d loaded → (lsn : ℕ)
       → slice_get (sectors_of loaded.file.segs) (place / 8) ≡ Some lsn
       → (m1 : Option (List ℕ)) (r : Result (Unit {0}) FileFault)
       → OnOk r (m1 ≡ with_piece m0 lsn (32 * (place % 8)) entry) → OnErr r (m1 ≡ m0) → OnErr r (IsSome (file_fault r))
-      → (w : DiskVolume) (file : DiskFile) → Represents m0 w → w.files d ≡ Some file
+      → (w : DiskVolume) (file : DiskFile) → RepresentsVolume m0 w → w.files d ≡ Some file
       → AnswersEntry w file (a now) m0 m1 r
   entry_answers now loaded is_loaded lsn there m1 (Ok x) written_to still device = filled_answers loaded is_loaded lsn there m1 written_to now
   entry_answers now loaded is_loaded lsn there m1 (Err e) written_to still device = unfilled_answers now m1 e device still
 
-  pub entry_mounted : (loaded : Loaded) → IsLoaded m0 d loaded → (lsn : ℕ) → slice_get (sectors_of loaded.file.segs) (place / 8) ≡ Some lsn → (m1 : Option (List ℕ)) (r : Result (Unit {0}) FileFault)
-      → OnOk r (m1 ≡ with_piece m0 lsn (32 * (place % 8)) entry) → OnErr r (m1 ≡ m0) → (old new : Volume) → kept new ≡ kept old → IsCacheOf m1 new.cache → IsMounted old m0 → IsMounted new m1
+  pub entry_mounted : (loaded : Loaded) → IsDescriptorLoaded m0 d loaded → (lsn : ℕ)
+      → slice_get (sectors_of loaded.file.segs) (place / 8) ≡ Some lsn → (m1 : Option (List ℕ))
+      (r : Result (Unit {0}) FileFault)
+      → OnOk r (m1 ≡ with_piece m0 lsn (32 * (place % 8)) entry) → OnErr r (m1 ≡ m0) → (old new : Volume)
+      → mounted_part new ≡ mounted_part old → IsCacheOf m1 new.cache → IsMounted old m0 → IsMounted new m1
   entry_mounted loaded is_loaded lsn there m1 (Ok x) written_to still old new same cached mounted = fill_mounted loaded is_loaded lsn there m1 written_to old new same cached mounted
   entry_mounted loaded is_loaded lsn there m1 (Err e) written_to still old new same cached mounted = mounted_still _ _ _ _ same still cached mounted

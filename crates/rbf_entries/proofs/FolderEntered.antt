@@ -26,7 +26,7 @@ use Rattle.rbf_change.specs.Growth.{IsChoice, with_clusters, clusters_needed}
 use Rattle.rbf_change.specs.Names.{new_entry, entry_place, is_dots, may_change}
 use Rattle.rbf_change.specs.NewFiles.{Plan, directory_plan, IsNewFile, file_clusters, free_without, entry_clusters, no_cluster, too_many_runs}
 use Rattle.rbf_change.specs.Tidy.{IsNewList, KeepsListEnd, KeepsMapEnd}
-use Rattle.rbf_access.specs.Mounted.{Represents}
+use Rattle.rbf_access.specs.Mounted.{RepresentsVolume}
 use Rattle.rbf_access.specs.Reading.{IsFdOf}
 use Rattle.rbf_change.proofs.LawfulWrites.{shape-image}
 use Rattle.rbf_model.proofs.Free.{free_parts}
@@ -34,9 +34,9 @@ use Rattle.os9_outer.specs.Drive.{sector_at}
 use Rattle.rbf_access.proofs.ReadFile.{room_for}
 use Rattle.rbf_model.proofs.Owners.{owns_own}
 use Rattle.rbf_model.proofs.Space.{cluster_from_owns}
-use Rattle.rbf_entries.specs.NewEntry.{MayEnter, IsEntryWritten, EntryStops, IsAfterMarks, StandsBehind, sector_of_place}
-use Rattle.rbf_entries.specs.Entering.{Entering, refusal_of, written_sectors, IsEnteredOn, StandsWhole, EnteringStops, took, entry_calls}
-use Rattle.rbf_entries.specs.Rooms.{place_clusters, HasRoom, HasNoSegment}
+use Rattle.rbf_entries.specs.NewEntry.{MayEnter, IsEntryWritten, EntryStops, IsAfterMarks, IsUncountedEntry, sector_of_place}
+use Rattle.rbf_entries.specs.Entering.{Entering, refusal_of, written_sectors, IsEnteredOn, IsFileOnMedia, EnteringStops, took, entry_calls}
+use Rattle.rbf_entries.specs.Rooms.{place_clusters, HasClusterRoom, HasNoSegment}
 use Rattle.rbf_entries.proofs.Needs.{needs_entry}
 use Rattle.rbf_entries.proofs.Placing.{place_most}
 use Rattle.rbf_entries.proofs.Sectors.{entry_no_map, entry_apart, untaken}
@@ -46,7 +46,7 @@ use Rattle.rbf_entries.proofs.NewEntries.{may_enter, new_length, new_number}
 use Rattle.rbf_entries.specs.Places.{IsNewPlace}
 use Rattle.rbf_walk.proofs.Stepping.{same_content}
 use Rattle.rbf_write.specs.declared.loaded.Loaded.{Loaded}
-use Rattle.rbf_write.specs.Files.{IsLoaded}
+use Rattle.rbf_write.specs.Files.{IsDescriptorLoaded}
 use Rattle.rbf_write.proofs.Contents.{length-laid}
 use Rattle.rbf_entries.specs.Asked.{folder_request}
 use Rattle.rbf_entries.specs.FolderMade.{first_sector, ClustersTaken, IsFolderMade, FolderEnds}
@@ -77,7 +77,7 @@ written_past contents [] at whole = absurd (omega arith)
 written_past contents (b ∷ bytes) at whole = omega (arith, length-laid contents (b ∷ bytes) at)
 
 -- a file's own sector lies in no free cluster
-own_not_free_sector : (media : Option (List ℕ)) (v : DiskVolume) → Represents media v → (d : ℕ) (dir : DiskFile)
+own_not_free_sector : (media : Option (List ℕ)) (v : DiskVolume) → RepresentsVolume media v → (d : ℕ) (dir : DiskFile)
     → v.files d ≡ Some dir → (s : ℕ) → has (owned_sectors d dir) s ≡ true → is_free_in v (s / cluster_size v) ≡ false
 own_not_free_sector media v on d dir is s own = false_from_ne_true (is_free_in v (s / cluster_size v)) (λ free.
     let facts =
@@ -86,7 +86,7 @@ own_not_free_sector media v on d dir is s own = false_from_ne_true (is_free_in v
     both_ways (has_cluster (shape v) d dir (s / cluster_size v)) (subst (λ h. Unused h v.files (s / cluster_size v)) (sym (shape-image on.image v on.vol)) facts.2 d dir is)
     (cluster_from_owns (shape v) d dir s (owns_own (shape v) d dir s own)))
 
-pub number_below_all : (media : Option (List ℕ)) (v : DiskVolume) → Represents media v → (d : ℕ) (dir : DiskFile) → v.files d ≡ Some dir → d < 16777216
+pub number_below_all : (media : Option (List ℕ)) (v : DiskVolume) → RepresentsVolume media v → (d : ℕ) (dir : DiskFile) → v.files d ≡ Some dir → d < 16777216
 number_below_all media v on d dir is =
     let low = own_below (image_geometry on.image) (sector on.image) v on.vol.sound d dir d is (or_left (d == d) (has (sectors_of dir.segments) d) (eq-eqb d d refl)) in
     let most = on.vol.header.header.most in
@@ -108,7 +108,7 @@ and_false : (a b : Bool) → (a ≡ true → b ≡ false) → (a && b) ≡ false
 and_false true b none = none refl
 and_false false b none = refl
 
-module _ (media : Option (List ℕ)) (v : DiskVolume) (on : Represents media v) (d place : ℕ) (dir : DiskFile)
+module _ (media : Option (List ℕ)) (v : DiskVolume) (on : RepresentsVolume media v) (d place : ℕ) (dir : DiskFile)
     (dir_is : v.files d ≡ Some dir) (name : List ℕ) (attr user : ℕ) (time : TimePacket)
     (spot : IsNewPlace dir name user false place) where
   abbrev e : Entering
@@ -173,7 +173,7 @@ module _ (media : Option (List ℕ)) (v : DiskVolume) (on : Represents media v) 
   directory : is_directory dir ≡ true
   directory = (and_parts (is_directory dir) (file_permits dir user 1) (and_parts (is_directory dir && file_permits dir user 1) (file_permits dir user 2) spot.allowed).0).0
 
-  module _ (room : HasRoom v dir place need) where
+  module _ (room : HasClusterRoom v dir place need) where
     pub roomy : refusal_of v dir e ≡ None
     roomy =
         let same : entry_clusters k dir ≡ place_clusters v dir place = clusters_are in
@@ -243,7 +243,7 @@ module _ (media : Option (List ℕ)) (v : DiskVolume) (on : Represents media v) 
           let counted = takes.counted in
           omega arith
 
-      pub room_left : HasRoom left dir place 0
+      pub room_left : HasClusterRoom left dir place 0
       room_left = record { enough = let few = free_enough room.enough in omega arith; few = room.few }
 
       whole : length entry ≡ 32
@@ -333,8 +333,8 @@ module _ (media : Option (List ℕ)) (v : DiskVolume) (on : Represents media v) 
           entry =
               subst (λ p. (sector ends.now (sector_of_place (with_clusters k dir.segments c.0) p) ≡ sector ends.image
               (sector_of_place (with_clusters k dir.segments c.0) p)) ⊎
-              (StandsBehind ends.image ends.now dir (sector_of_place (with_clusters k dir.segments c.0) p) p
-              (new_entry name ends.number) × StandsWhole v ends.left ends.now ends.number ends.file c.0)) (sym place_is)
+              (IsUncountedEntry ends.image ends.now dir (sector_of_place (with_clusters k dir.segments c.0) p) p
+              (new_entry name ends.number) × IsFileOnMedia v ends.left ends.now ends.number ends.file c.0)) (sym place_is)
               (inl (ends.others (sector_of_place (with_clusters k dir.segments c.0) place) (entry_not_map ends.number ends.file ends.chosen ends.takes c.0 c.1 ends.image ends.was)
               (entry_away ends.number ends.file ends.chosen ends.takes c.0 c.1 (first_sector ends.file) (first_own ends.number ends.file ends.chosen ends.takes))));
           end = ends.end;
@@ -356,7 +356,7 @@ module _ (media : Option (List ℕ)) (v : DiskVolume) (on : Represents media v) 
       left_is : made.left ≡ lost_left
       left_is = made.made.volume
 
-      abbrev pub on_mid : Represents mid made.left
+      abbrev pub on_mid : RepresentsVolume mid made.left
       on_mid = record { image = made.now; is = made.is; vol = made.vol }
 
       pub dir_mid : made.left.files d ≡ Some dir
@@ -381,7 +381,7 @@ module _ (media : Option (List ℕ)) (v : DiskVolume) (on : Represents media v) 
         place_is = spot.absent.free_is;
         new = may_enter dir.contents name place n spot.named spot.proper spot.absent.nowhere;
         ready = subst (IsReady (image_disk made.now) made.left d) (sym number) made.ready;
-        room = subst (λ x. HasRoom x dir place 0) (sym left_is) (room_left n file made.made.made made.takes);
+        room = subst (λ x. HasClusterRoom x dir place 0) (sym left_is) (room_left n file made.made.made made.takes);
       })
 
       pub calls_left : entry_calls made.left dir ≡ entry_calls v dir
@@ -428,7 +428,7 @@ module _ (media : Option (List ℕ)) (v : DiskVolume) (on : Represents media v) 
       d_used : is_free_in v (d / k) ≡ false
       d_used = own_not_free_sector media v on d dir dir_is d dir_own
 
-      pub read_still : (loaded : Loaded) → IsLoaded media d loaded → IsLoaded mid d loaded
+      pub read_still : (loaded : Loaded) → IsDescriptorLoaded media d loaded → IsDescriptorLoaded mid d loaded
       read_still loaded read = record {
         number_is = read.number_is;
         bytes_are = read.bytes_are ∙ ap (λ m. sector_at m d) made.was ∙ sym (kept_used d d_no_map d_used) ∙ sym (ap (λ m. sector_at m d) made.is);
@@ -455,7 +455,7 @@ module _ (media : Option (List ℕ)) (v : DiskVolume) (on : Represents media v) 
         entry_sector = sector_of_place (with_clusters k dir.segments stops.taken) place
 
         abbrev Ordered : List ℕ → ℕ → Type 0
-        Ordered i s = (sector stops.now s ≡ sector i s) ⊎ (StandsBehind i stops.now dir s place (new_entry name n) × ((c : ℕ) → has stops.taken c ≡ true → stops.left.lost c ≡ true))
+        Ordered i s = (sector stops.now s ≡ sector i s) ⊎ (IsUncountedEntry i stops.now dir s place (new_entry name n) × ((c : ℕ) → has stops.taken c ≡ true → stops.left.lost c ≡ true))
 
         stops_order : Ordered made.now entry_sector
         stops_order = subst (λ i. Ordered i entry_sector) stops_image
@@ -497,8 +497,8 @@ module _ (media : Option (List ℕ)) (v : DiskVolume) (on : Represents media v) 
           entry =
               subst (λ p. (sector stops.now (sector_of_place (with_clusters k dir.segments stops.taken) p) ≡ sector
               made.image (sector_of_place (with_clusters k dir.segments stops.taken) p)) ⊎
-              (StandsBehind made.image stops.now dir (sector_of_place (with_clusters k dir.segments stops.taken) p) p
-              (new_entry name n) × StandsWhole v stops.left stops.now n file stops.taken)) (sym place_is)
+              (IsUncountedEntry made.image stops.now dir (sector_of_place (with_clusters k dir.segments stops.taken) p) p
+              (new_entry name n) × IsFileOnMedia v stops.left stops.now n file stops.taken)) (sym place_is)
               (⊎_elim
               (λ still. inl (still ∙ entry_was))
               (λ behind. inr (
@@ -566,7 +566,7 @@ module _ (media : Option (List ℕ)) (v : DiskVolume) (on : Represents media v) 
         abbrev lsn : ℕ
         lsn = sector_of_place new_dir.segments place
 
-        on_after : Represents new done.after
+        on_after : RepresentsVolume new done.after
         on_after = record { image = done.now; is = done.is; vol = done.vol }
 
         new_size : 32 * (place + 1) ≤ length new_dir.contents

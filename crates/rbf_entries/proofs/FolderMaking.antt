@@ -32,12 +32,12 @@ use Rattle.rbf_change.specs.Tidy.{IsNewList, KeepsMapEnd}
 use Rattle.rbf_change.proofs.LawfulWrites.{shape-image}
 use Rattle.rbf_access.specs.Faults.{file_fault}
 use Rattle.rbf_access.specs.MapMarks.{marking_sectors}
-use Rattle.rbf_access.specs.Mounted.{Represents, IsMounted}
+use Rattle.rbf_access.specs.Mounted.{RepresentsVolume, IsMounted}
 use Rattle.rbf_access.specs.declared.faults.FileFault.{FileFault}
 use Rattle.rbf_access.specs.declared.faults.FileFault.TheVariants.{Device, NoCluster, TooManyRuns}
 use Rattle.rbf_access.specs.declared.volume.Volume.{Volume}
 use Rattle.rbf_alloc.specs.Gained.{IsTooMany}
-use Rattle.rbf_alloc.specs.Grown.{IsChosen, IsGrown, GrowthEnds, Grows, is_gained}
+use Rattle.rbf_alloc.specs.Grown.{IsChosenGrowth, IsGrown, GrowthEnds, Grows, is_gained}
 use Rattle.rbf_alloc.proofs.Chosen.{has_free, uses_more}
 use Rattle.rbf_alloc.proofs.Growing.{agrees_on}
 use Rattle.rbf_sector.specs.declared.fd.Fd.{Fd}
@@ -90,11 +90,11 @@ same_tests true b one other = sym (one refl)
 same_tests false true one other = other refl
 same_tests false false one other = refl
 
-pub positive_of : (media : Option (List ℕ)) (v : DiskVolume) → Represents media v → 1 ≤ cluster_size v
+pub positive_of : (media : Option (List ℕ)) (v : DiskVolume) → RepresentsVolume media v → 1 ≤ cluster_size v
 positive_of media v on = subst (λ (s : Geometry). 1 ≤ s.cluster) (sym (shape-image on.image v on.vol)) (cluster_positive (image_geometry on.image).cluster on.vol.sound.shape.header.clusters)
 
 -- a sector of a free cluster lies behind the map
-pub past_system : (media : Option (List ℕ)) (v : DiskVolume) (on : Represents media v) (s : ℕ) → is_free_in v (s / cluster_size v) ≡ true → map_sectors (image_geometry on.image) < s
+pub past_system : (media : Option (List ℕ)) (v : DiskVolume) (on : RepresentsVolume media v) (s : ℕ) → is_free_in v (s / cluster_size v) ≡ true → map_sectors (image_geometry on.image) < s
 past_system media v on s free = ⊎_elim
     (λ low.
     let g : Geometry = image_geometry on.image in
@@ -105,7 +105,7 @@ past_system media v on s free = ⊎_elim
     (λ high. let h : 1 + map_sectors (image_geometry on.image) ≤ s = high in omega arith)
     (cases_lt s (1 + map_sectors (image_geometry on.image)))
 
-no_map : (media : Option (List ℕ)) (v : DiskVolume) (on : Represents media v) (image : List ℕ) (s : ℕ)
+no_map : (media : Option (List ℕ)) (v : DiskVolume) (on : RepresentsVolume media v) (image : List ℕ) (s : ℕ)
     → media ≡ Some image → is_free_in v (s / cluster_size v) ≡ true → IsMapSector (image_geometry image) s → ⊥
 no_map media v on image s was free map =
     let same : on.image ≡ image = same_Some on.image image (sym on.is ∙ was) in
@@ -115,8 +115,8 @@ no_map media v on image s was free map =
     absurd (omega arith)
 
 -- the clusters that have been chosen for it
-module _ (media : Option (List ℕ)) (v : DiskVolume) (on : Represents media v) (parent attr owner : ℕ) (now : TimePacket) (taken : List ℕ)
-    (chosen : IsChosen (cluster_size v) (file_clusters (cluster_size v) 64) (is_free_in v) [] taken) where
+module _ (media : Option (List ℕ)) (v : DiskVolume) (on : RepresentsVolume media v) (parent attr owner : ℕ) (now : TimePacket) (taken : List ℕ)
+    (chosen : IsChosenGrowth (cluster_size v) (file_clusters (cluster_size v) 64) (is_free_in v) [] taken) where
   abbrev g : Geometry
   g = image_geometry on.image
 
@@ -302,7 +302,7 @@ module _ (media : Option (List ℕ)) (v : DiskVolume) (on : Represents media v) 
   }
 
 -- the clusters have been taken
-module _ (media mid : Option (List ℕ)) (v : DiskVolume) (on : Represents media v) (parent attr owner : ℕ)
+module _ (media mid : Option (List ℕ)) (v : DiskVolume) (on : RepresentsVolume media v) (parent attr owner : ℕ)
     (now : TimePacket) (after : List (ℕ × ℕ)) (grown : IsGrown v (file_clusters (cluster_size v) 64) media mid [] after)
   where
     abbrev sectors : ℕ
@@ -326,7 +326,7 @@ module _ (media mid : Option (List ℕ)) (v : DiskVolume) (on : Represents media
     abbrev planned : ℕ → Plan
     planned = directory_plan attr owner now parent
 
-    abbrev pub on_mid : Represents mid u
+    abbrev pub on_mid : RepresentsVolume mid u
     on_mid = record { image = old; is = grown.is; vol = grown.vol }
 
     taken_lost : (c : ℕ) → has grown.taken c ≡ true → u.lost c ≡ true
@@ -381,7 +381,7 @@ module _ (media mid : Option (List ℕ)) (v : DiskVolume) (on : Represents media
       abbrev image1 : List ℕ
       image1 = image_then mid u on_mid start start_lost one one_whole
 
-      abbrev pub on_listed : Represents listed u
+      abbrev pub on_listed : RepresentsVolume listed u
       on_listed = on_then mid u on_mid start start_lost one one_whole listed listed_is
 
       first_name : first_sector folder ≡ start
@@ -592,7 +592,7 @@ folder_fault media mid new v parent plan after e r is device grows ends = subst 
     by_fault NoCluster some = absurd (false≢true some)
     by_fault TooManyRuns some = absurd (false≢true some)
 
-pub folder_refused : (media mid : Option (List ℕ)) (v : DiskVolume) (on : Represents media v) (parent attr owner : ℕ) (now : TimePacket) (e : FileFault) (r : Result ℕ FileFault) → r ≡ Err e
+pub folder_refused : (media mid : Option (List ℕ)) (v : DiskVolume) (on : RepresentsVolume media v) (parent attr owner : ℕ) (now : TimePacket) (e : FileFault) (r : Result ℕ FileFault) → r ≡ Err e
     → Grows v (need v) [] media mid (Err e) → MakesFolder v parent (directory_plan attr owner now parent) media mid r
 folder_refused media mid v on parent attr owner now e r is grows = subst (MakesFolder v parent plan_of media mid) (sym is) (by_fault e grows)
   where
@@ -617,7 +617,7 @@ folder_refused media mid v on parent attr owner now e r is grows = subst (MakesF
 -- As the code has it.
 
 -- sectors of a cluster, as they are kept
-pub kept_size : (volume : Volume) (media : Option (List ℕ)) (v : DiskVolume) → IsMounted volume media → Represents media v → volume.ident.cluster ≡ cluster_size v
+pub kept_size : (volume : Volume) (media : Option (List ℕ)) (v : DiskVolume) → IsMounted volume media → RepresentsVolume media v → volume.ident.cluster ≡ cluster_size v
 kept_size volume media v mounted on =
     let agrees = agrees_on volume media v mounted on in
     ap (λ (s : Geometry). s.cluster) (agrees.sizes_are ∙ sym (shape-image on.image v on.vol))
@@ -644,7 +644,8 @@ fd_as fd attr owner now k size m begins segs is list same place =
     }) (list ∙ ap (λ x. run_of x m) same ∙ ap (run_of size) place)
 
 -- the code stores at the places that it read from the list
-module _ (media mid : Option (List ℕ)) (v : DiskVolume) (on : Represents media v) (parent attr owner : ℕ) (now : TimePacket) (after : List (ℕ × ℕ)) (grown : IsGrown v (need v) media mid [] after)
+module _ (media mid : Option (List ℕ)) (v : DiskVolume) (on : RepresentsVolume media v) (parent attr owner : ℕ)
+    (now : TimePacket) (after : List (ℕ × ℕ)) (grown : IsGrown v (need v) media mid [] after)
     (m f : ℕ) (m_at : slice_get (sectors_of after) 0 ≡ Some m) (f_at : slice_get (sectors_of after) 1 ≡ Some f) where
   m_is : m ≡ n media v on parent attr owner now grown.taken grown.chosen
   m_is = number_is media v on parent attr owner now grown.taken grown.chosen after m grown.segments m_at

@@ -28,10 +28,10 @@ use Rattle.rbf_change.specs.Tidy.{IsMapEnd, KeepsMapEnd, MayKeepMapEnd}
 use Rattle.rbf_change.proofs.LawfulWrites.{shape-image}
 use Rattle.rbf_access.specs.Drive.{DriveCounts, MovesCounts}
 use Rattle.rbf_access.specs.MapMarks.{marking_sectors}
-use Rattle.rbf_access.specs.Mounted.{Represents}
+use Rattle.rbf_access.specs.Mounted.{RepresentsVolume}
 use Rattle.rbf_access.proofs.ReadFile.{room_for}
 use Rattle.rbf_alloc.specs.Cleared.{before}
-use Rattle.rbf_alloc.specs.Dropped.{IsGone, HasGone, OnlyMap, freed, IsDropped, StopsAtPlace, DropEnds}
+use Rattle.rbf_alloc.specs.Dropped.{IsGone, FileHasGone, OnlyMap, freed, IsDropped, StopsAtPlace, DropEnds}
 use Rattle.rbf_entries.specs.Becomes.{RepresentsOne}
 use Rattle.rbf_entries.specs.Deletions.{FreesOn}
 use Rattle.rbf_entries.specs.declared.deletion.Deletable.{Deletable}
@@ -54,10 +54,10 @@ module _ (media mid : Option (List ℕ)) (d : ℕ) (name : List ℕ) (found : De
   abbrev v : DiskVolume
   v = frees.at.free.place.content
 
-  abbrev on : Represents media v
+  abbrev on : RepresentsVolume media v
   on = frees.at.free.place.on
 
-  pub on_before : Represents media v
+  pub on_before : RepresentsVolume media v
   on_before = on
 
   abbrev image : List ℕ
@@ -132,7 +132,7 @@ module _ (media mid : Option (List ℕ)) (d : ℕ) (name : List ℕ) (found : De
       let same : found.on.image ≡ half = same_Some found.on.image half (sym found.on.is ∙ mid_is) in
       subst (λ i. Vol i w) same (subst (λ u. Vol found.on.image u) found.changed found.on.vol)
 
-  on_half : Represents mid w
+  on_half : RepresentsVolume mid w
   on_half = record { image = half; is = mid_is; vol = half_vol }
 
   -- the file is no directory, so it is not the one that had the entry
@@ -319,11 +319,11 @@ module _ (media mid : Option (List ℕ)) (d : ℕ) (name : List ℕ) (found : De
       → (same : DiskFile) → v.files n ≡ Some same → MovesCounts f (marking_sectors (shape v) (has_cluster (shape v) n same)) s t
   calls_of_file f s t moves same is = subst (λ x. MovesCounts f (marking_sectors (shape v) (has_cluster (shape v) n x)) s t) (same_Some file same (sym file_there ∙ is)) moves
 
-pub has_gone : (media mid : Option (List ℕ)) (d : ℕ) (name : List ℕ) (found : Deletable) → FreesOn media mid d name found → HasGone mid found.descriptor
+pub has_gone : (media mid : Option (List ℕ)) (d : ℕ) (name : List ℕ) (found : Deletable) → FreesOn media mid d name found → FileHasGone mid found.descriptor
 has_gone media mid d name found frees = record { content = w media mid d name found frees; file = file media mid d name found frees; gone = gone media mid d name found frees }
 
 -- of whichever volume the media represents
-module _ (media mid : Option (List ℕ)) (d : ℕ) (name : List ℕ) (found : Deletable) (frees : FreesOn media mid d name found) (u : DiskVolume) (on_u : Represents media u) where
+module _ (media mid : Option (List ℕ)) (d : ℕ) (name : List ℕ) (found : Deletable) (frees : FreesOn media mid d name found) (u : DiskVolume) (on_u : RepresentsVolume media u) where
   same_volume : v media mid d name found frees ≡ u
   same_volume = same_content media (v media mid d name found frees) u (on_before media mid d name found frees) on_u
 

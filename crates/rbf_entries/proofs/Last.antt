@@ -18,9 +18,9 @@ use Rattle.rbf_model.proofs.Owners.{owns_own}
 use Rattle.rbf_model.proofs.Space.{cluster_from_owns}
 use Rattle.rbf_change.specs.Calls.{shape, cluster_size, is_free_in, replaced, WritesFile}
 use Rattle.rbf_change.specs.Names.{new_entry, entry_place}
-use Rattle.rbf_change.specs.NewFiles.{Plan, IsEntered, IsNewFile, free_without}
+use Rattle.rbf_change.specs.NewFiles.{Plan, IsFileEntered, IsNewFile, free_without}
 use Rattle.rbf_change.proofs.LawfulWrites.{shape-image}
-use Rattle.rbf_access.specs.Mounted.{Represents}
+use Rattle.rbf_access.specs.Mounted.{RepresentsVolume}
 
 -- Numbers of a range that a test passes.
 
@@ -110,7 +110,7 @@ listed_count (y ∷ ys) a m =
     omega arith
 
 -- a new file that is on the media: its clusters are lost
-module _ (media : Option (List ℕ)) (v : DiskVolume) (on : Represents media v) (n : ℕ) (plan : Plan) (file : DiskFile) (new : IsNewFile (cluster_size v) (is_free_in v) n plan file)
+module _ (media : Option (List ℕ)) (v : DiskVolume) (on : RepresentsVolume media v) (n : ℕ) (plan : Plan) (file : DiskFile) (new : IsNewFile (cluster_size v) (is_free_in v) n plan file)
     (fresh : (c : ℕ) → has_cluster (shape v) n file c ≡ true → is_free_in v c ≡ true) where
   abbrev left : DiskVolume
   left = with_lost v (λ c. v.lost c || has_cluster (shape v) n file c)
@@ -172,7 +172,7 @@ module _ (media : Option (List ℕ)) (v : DiskVolume) (on : Represents media v) 
     -- what the directory gains, it may gain in the volume that was before
     abbrev pub entered : (name : List ℕ) (new_dir : DiskFile)
         → WritesFile (cluster_size v) (is_free_in left) (32 * entry_place dir.contents) (new_entry name n) plan.made dir new_dir
-        → IsEntered v d n name plan
+        → IsFileEntered v d n name plan
     entered name new_dir wrote = record {
       old = dir;
       new = new_dir;

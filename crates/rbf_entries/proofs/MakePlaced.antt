@@ -11,17 +11,17 @@ use Rattle.rbf_change.specs.NewFiles.{not_allowed, exists}
 use Rattle.rbf_sector.specs.declared.fd.Fd.{Fd}
 use Rattle.rbf_access.specs.Drive.{DriveCounts, MovesCounts}
 use Rattle.rbf_access.specs.Faults.{file_fault}
-use Rattle.rbf_access.specs.Mounted.{Represents}
+use Rattle.rbf_access.specs.Mounted.{RepresentsVolume}
 use Rattle.rbf_access.specs.Reading.{IsFdOf, OnFile}
 use Rattle.rbf_access.specs.declared.faults.FileFault.{FileFault}
 use Rattle.rbf_access.specs.declared.faults.FileFault.TheVariants.{Device, NoCluster, TooManyRuns}
 use Rattle.rbf_access.proofs.Counting.{no_calls, counts_then, counts_most, counts_within}
-use Rattle.rbf_walk.specs.Search.{OnFd, IsFoundAt, IsSearched, sectors_searched}
+use Rattle.rbf_walk.specs.Search.{OnFd, IsNameFoundAt, IsSearched, sectors_searched}
 use Rattle.rbf_walk.specs.declared.directory.Searched.{Searched}
 use Rattle.rbf_walk.specs.declared.directory.Searched.TheVariants.{Found, Absent}
 use Rattle.rbf_walk.specs.declared.error.DirError.{DirError}
 use Rattle.rbf_walk.specs.declared.error.DirError.TheVariants.{File}
-use Rattle.rbf_entries.specs.Places.{IsRefused, IsNewPlace, AnswersPlace, place_calls}
+use Rattle.rbf_entries.specs.Places.{IsEntryRefused, IsNewPlace, AnswersPlace, place_calls}
 
 -- a fault of the drive
 pub fault_placed : (A : Type 0) (dir : DiskFile) (name : List ℕ) (user : ℕ) (execute : Bool) → is_dots name ≡ false
@@ -37,14 +37,15 @@ fault_placed A dir name user execute proper fault r is device = subst (AnswersPl
 module _ (media : Option (List ℕ)) (dir : ℕ) (fd : Fd) (known : OnFile media dir (λ file. IsFdOf file fd))
     (name : List ℕ) (user : ℕ) (execute : Bool) (dots : Bool) (is_dots_is : dots ≡ is_dots name) (named : IsName name)
     (proper : dots ≡ false)
-    (test : Bool) (tested : (file : DiskFile) → IsFdOf file fd → test ≡ may_change file user execute) (v : DiskVolume) (file : DiskFile) (on : Represents media v) (is : v.files dir ≡ Some file) where
+    (test : Bool) (tested : (file : DiskFile) → IsFdOf file fd → test ≡ may_change file user execute) (v : DiskVolume)
+    (file : DiskFile) (on : RepresentsVolume media v) (is : v.files dir ≡ Some file) where
   none_dots : is_dots name ≡ false
   none_dots = sym is_dots_is ∙ proper
 
   test_is : test ≡ may_change file user execute
   test_is = tested file (known v file on is)
 
-  pub closed_refused : test ≡ false → IsRefused file name user execute not_allowed
+  pub closed_refused : test ≡ false → IsEntryRefused file name user execute not_allowed
   closed_refused fails k free size =
       let shut : not (may_change file user execute) ≡ true = ap not (sym test_is ∙ fails) in
       cond-false (is_dots name) _ _ none_dots ∙ cond-true (not (may_change file user execute)) _ _ shut
@@ -56,9 +57,9 @@ module _ (media : Option (List ℕ)) (dir : ℕ) (fd : Fd) (known : OnFile media
     answered : IsSearched file.contents name answer
     answered = searched v dir file (record { image = on.image; is = same ∙ on.is; vol = on.vol }) is (known v file on is)
 
-    pub found_refused : (place n : ℕ) → answer ≡ Found place n → IsRefused file name user execute exists
+    pub found_refused : (place n : ℕ) → answer ≡ Found place n → IsEntryRefused file name user execute exists
     found_refused place n found k free size =
-        let at : IsFoundAt file.contents name place n = subst (IsSearched file.contents name) found answered in
+        let at : IsNameFoundAt file.contents name place n = subst (IsSearched file.contents name) found answered in
         cond-false (is_dots name) _ _ none_dots
         ∙ cond-false (not (may_change file user execute)) _ _ (ap not allowed)
         ∙ cond-true (is_some (look_up file.contents name)) _ _ (ap is_some at.names)

@@ -36,18 +36,18 @@ use Rattle.rbf_change.specs.NewFiles.{file_plan, first_segments, IsNewFile, file
 use Rattle.rbf_change.specs.Tidy.{IsNewList}
 use Rattle.rbf_change.proofs.LawfulWrites.{shape-image}
 use Rattle.rbf_access.specs.Faults.{file_fault}
-use Rattle.rbf_access.specs.Mounted.{Represents, IsMounted}
+use Rattle.rbf_access.specs.Mounted.{RepresentsVolume, IsMounted}
 use Rattle.rbf_access.specs.declared.faults.FileFault.{FileFault}
 use Rattle.rbf_access.specs.declared.faults.FileFault.TheVariants.{Device, NoCluster, TooManyRuns}
 use Rattle.rbf_access.proofs.Reading.{below_total}
 use Rattle.rbf_alloc.specs.Gained.{IsTooMany}
 use Rattle.rbf_alloc.proofs.Growing.{agrees_on}
 use Rattle.rbf_access.specs.declared.volume.Volume.{Volume}
-use Rattle.rbf_alloc.specs.Grown.{IsChosen, IsGrown, GrowthEnds, Grows}
+use Rattle.rbf_alloc.specs.Grown.{IsChosenGrowth, IsGrown, GrowthEnds, Grows}
 use Rattle.rbf_sector.specs.declared.fd.Fd.{Fd}
 use Rattle.rbf_entries.proofs.Stored.{IsStored}
 use Rattle.rbf_entries.specs.Described.{IsReadAs}
-use Rattle.rbf_entries.specs.Made.{IsMade, MakingEnds, Makes}
+use Rattle.rbf_entries.specs.Made.{IsMade, FileMakingEnds, MakesNewFile}
 use Rattle.rbf_entries.proofs.NewDescriptor.{first_more, first_none, same_file}
 
 -- a list of one number
@@ -135,7 +135,8 @@ empty_file attr owner now k n = record {
 }
 
 -- the cluster that has been chosen for it
-module _ (media : Option (List ℕ)) (v : DiskVolume) (on : Represents media v) (attr owner : ℕ) (now : TimePacket) (taken : List ℕ) (chosen : IsChosen (cluster_size v) 1 (is_free_in v) [] taken) where
+module _ (media : Option (List ℕ)) (v : DiskVolume) (on : RepresentsVolume media v) (attr owner : ℕ)
+    (now : TimePacket) (taken : List ℕ) (chosen : IsChosenGrowth (cluster_size v) 1 (is_free_in v) [] taken) where
   abbrev g : Geometry
   g = image_geometry on.image
 
@@ -267,7 +268,7 @@ module _ (media : Option (List ℕ)) (v : DiskVolume) (on : Represents media v) 
   lose_as left lose = record { same = lose.same; still = lose.still; only = λ d h. sym (lost_is d) ∙ lose.only d h }
 
 -- the descriptor is written into the cluster that has been taken
-module _ (media mid : Option (List ℕ)) (v : DiskVolume) (on : Represents media v) (attr owner : ℕ) (now : TimePacket) (after : List (ℕ × ℕ)) (grown : IsGrown v 1 media mid [] after)
+module _ (media mid : Option (List ℕ)) (v : DiskVolume) (on : RepresentsVolume media v) (attr owner : ℕ) (now : TimePacket) (after : List (ℕ × ℕ)) (grown : IsGrown v 1 media mid [] after)
     (m : ℕ) (m_is : m ≡ n media v on attr owner now grown.taken grown.chosen) where
   abbrev sectors : ℕ
   sectors = cluster_size v
@@ -299,7 +300,7 @@ module _ (media mid : Option (List ℕ)) (v : DiskVolume) (on : Represents media
       (c media v on attr owner now grown.taken grown.chosen) refl) in
       ap u.lost there ∙ or_right (v.lost (c media v on attr owner now grown.taken grown.chosen)) (has grown.taken (c media v on attr owner now grown.taken grown.chosen)) his
 
-  pub on_mid : Represents mid u
+  pub on_mid : RepresentsVolume mid u
   on_mid = record { image = old; is = grown.is; vol = grown.vol }
 
   module _ (bytes : List ℕ) (whole : length bytes ≡ 256) where
@@ -415,7 +416,7 @@ module _ (media mid : Option (List ℕ)) (v : DiskVolume) (on : Represents media
       }
 
   -- a fault came before it was written
-  pub unwritten : (new : Option (List ℕ)) → new ≡ mid → MakingEnds v (file_plan attr owner now) media new
+  pub unwritten : (new : Option (List ℕ)) → new ≡ mid → FileMakingEnds v (file_plan attr owner now) media new
   unwritten new same = record {
     image = grown.image;
     now = old;
@@ -436,8 +437,8 @@ module _ (media mid : Option (List ℕ)) (v : DiskVolume) (on : Represents media
   }
 
 -- the cluster could not be taken
-pub untaken : (media mid : Option (List ℕ)) (v : DiskVolume) (on : Represents media v) (attr owner : ℕ) (now : TimePacket)
-    → GrowthEnds v 1 media mid [] → MakingEnds v (file_plan attr owner now) media mid
+pub untaken : (media mid : Option (List ℕ)) (v : DiskVolume) (on : RepresentsVolume media v) (attr owner : ℕ) (now : TimePacket)
+    → GrowthEnds v 1 media mid [] → FileMakingEnds v (file_plan attr owner now) media mid
 untaken media mid v on attr owner now ends = record {
   image = ends.image;
   now = ends.now;
@@ -458,11 +459,11 @@ untaken media mid v on attr owner now ends = record {
 needs_one : (k : ℕ) → 1 ≤ k → file_clusters k 0 ≡ 1
 needs_one k positive = sym (ap (λ x. 1 + x) (none_needed k (first_segments k 0) positive))
 
-positive_of : (media : Option (List ℕ)) (v : DiskVolume) → Represents media v → 1 ≤ cluster_size v
+positive_of : (media : Option (List ℕ)) (v : DiskVolume) → RepresentsVolume media v → 1 ≤ cluster_size v
 positive_of media v on = subst (λ (s : Geometry). 1 ≤ s.cluster) (sym (shape-image on.image v on.vol)) (cluster_positive (image_geometry on.image).cluster on.vol.sound.shape.header.clusters)
 
-pub makes_ok : (media mid new : Option (List ℕ)) (v : DiskVolume) (on : Represents media v) (attr owner : ℕ) (now : TimePacket) (after : List (ℕ × ℕ)) (m : ℕ) → Grows v 1 [] media mid (Ok after)
-    → IsMade v m (file_plan attr owner now) media new → Makes v (file_plan attr owner now) media new (Ok m)
+pub makes_ok : (media mid new : Option (List ℕ)) (v : DiskVolume) (on : RepresentsVolume media v) (attr owner : ℕ) (now : TimePacket) (after : List (ℕ × ℕ)) (m : ℕ) → Grows v 1 [] media mid (Ok after)
+    → IsMade v m (file_plan attr owner now) media new → MakesNewFile v (file_plan attr owner now) media new (Ok m)
 makes_ok media mid new v on attr owner now after m grows made = record {
   made = made;
   full = (λ is. absurd (cc is), λ low. let is = grows.full.1 (subst (λ x. free_total v < x) (needs_one (cluster_size v) (positive_of media v on)) low) in absurd (cc is));
@@ -470,12 +471,12 @@ makes_ok media mid new v on attr owner now after m grows made = record {
   ends = tt;
 }
 
-pub makes_fault : (media mid new : Option (List ℕ)) (v : DiskVolume) (on : Represents media v) (attr owner : ℕ) (now : TimePacket) (after : List (ℕ × ℕ)) (e : FileFault) (r : Result ℕ FileFault)
+pub makes_fault : (media mid new : Option (List ℕ)) (v : DiskVolume) (on : RepresentsVolume media v) (attr owner : ℕ) (now : TimePacket) (after : List (ℕ × ℕ)) (e : FileFault) (r : Result ℕ FileFault)
     → r ≡ Err e → IsSome (file_fault {A = Unit {0}} (Err e))
-    → Grows v 1 [] media mid (Ok after) → MakingEnds v (file_plan attr owner now) media new → Makes v (file_plan attr owner now) media new r
-makes_fault media mid new v on attr owner now after e r is device grows ends = subst (Makes v (file_plan attr owner now) media new) (sym is) (by_fault e device)
+    → Grows v 1 [] media mid (Ok after) → FileMakingEnds v (file_plan attr owner now) media new → MakesNewFile v (file_plan attr owner now) media new r
+makes_fault media mid new v on attr owner now after e r is device grows ends = subst (MakesNewFile v (file_plan attr owner now) media new) (sym is) (by_fault e device)
   where
-    by_fault : (f : FileFault) → IsSome (file_fault {A = Unit {0}} (Err f)) → Makes v (file_plan attr owner now) media new (Err f)
+    by_fault : (f : FileFault) → IsSome (file_fault {A = Unit {0}} (Err f)) → MakesNewFile v (file_plan attr owner now) media new (Err f)
     by_fault (Device x) some = record {
       made = tt;
       full = (λ eq. absurd (cc eq), λ low. let eq = grows.full.1 (subst (λ y. free_total v < y) (needs_one (cluster_size v) (positive_of media v on)) low) in absurd (cc eq));
@@ -485,11 +486,11 @@ makes_fault media mid new v on attr owner now after e r is device grows ends = s
     by_fault NoCluster some = absurd (false≢true some)
     by_fault TooManyRuns some = absurd (false≢true some)
 
-pub makes_refused : (media mid : Option (List ℕ)) (v : DiskVolume) (on : Represents media v) (attr owner : ℕ) (now : TimePacket) (e : FileFault) (r : Result ℕ FileFault) → r ≡ Err e
-    → Grows v 1 [] media mid (Err e) → Makes v (file_plan attr owner now) media mid r
-makes_refused media mid v on attr owner now e r is grows = subst (Makes v (file_plan attr owner now) media mid) (sym is) (by_fault e grows)
+pub makes_refused : (media mid : Option (List ℕ)) (v : DiskVolume) (on : RepresentsVolume media v) (attr owner : ℕ) (now : TimePacket) (e : FileFault) (r : Result ℕ FileFault) → r ≡ Err e
+    → Grows v 1 [] media mid (Err e) → MakesNewFile v (file_plan attr owner now) media mid r
+makes_refused media mid v on attr owner now e r is grows = subst (MakesNewFile v (file_plan attr owner now) media mid) (sym is) (by_fault e grows)
   where
-    by_fault : (f : FileFault) → Grows v 1 [] media mid (Err f) → Makes v (file_plan attr owner now) media mid (Err f)
+    by_fault : (f : FileFault) → Grows v 1 [] media mid (Err f) → MakesNewFile v (file_plan attr owner now) media mid (Err f)
     by_fault (Device x) grows = record {
       made = tt;
       full = (λ eq. absurd (cc eq), λ low. let eq = grows.full.1 (subst (λ y. free_total v < y) (needs_one (cluster_size v) (positive_of media v on)) low) in absurd (cc eq));
@@ -510,7 +511,7 @@ pub empty_grows : (v : DiskVolume) (media mid : Option (List ℕ)) (segments : L
     → segments ≡ [] → Grows v 1 segments media mid r → Grows v 1 [] media mid r
 empty_grows v media mid segments r none grows = subst (λ xs. Grows v 1 xs media mid r) none grows
 
-pub first_there : (media mid : Option (List ℕ)) (v : DiskVolume) (on : Represents media v) (attr owner : ℕ) (now : TimePacket) (after : List (ℕ × ℕ)) (grown : IsGrown v 1 media mid [] after)
+pub first_there : (media mid : Option (List ℕ)) (v : DiskVolume) (on : RepresentsVolume media v) (attr owner : ℕ) (now : TimePacket) (after : List (ℕ × ℕ)) (grown : IsGrown v 1 media mid [] after)
     → IsSome (slice_get (sectors_of after) 0)
 first_there media mid v on attr owner now after grown =
     let list : after ≡ with_clusters (cluster_size v) [] (c media v on attr owner now grown.taken grown.chosen ∷ []) =
@@ -522,7 +523,8 @@ first_there media mid v on attr owner now after grown =
     (positive media v on attr owner now grown.taken grown.chosen) in
     subst IsSome (sym is) refl
 
-pub number_few : (media mid : Option (List ℕ)) (v : DiskVolume) (on : Represents media v) (attr owner : ℕ) (now : TimePacket) (after : List (ℕ × ℕ)) (grown : IsGrown v 1 media mid [] after) (m : ℕ)
+pub number_few : (media mid : Option (List ℕ)) (v : DiskVolume) (on : RepresentsVolume media v) (attr owner : ℕ)
+    (now : TimePacket) (after : List (ℕ × ℕ)) (grown : IsGrown v 1 media mid [] after) (m : ℕ)
     → m ≡ n media v on attr owner now grown.taken grown.chosen → m < 524288
 number_few media mid v on attr owner now after grown m is =
     let low = number_low media v on attr owner now grown.taken grown.chosen in
@@ -534,7 +536,7 @@ pub kept_cluster : (volume : Volume) (media mid : Option (List ℕ)) (v : DiskVo
     → IsMounted volume mid → volume.ident.cluster ≡ cluster_size v
 kept_cluster volume media mid v after grown mounted =
     let u : DiskVolume = with_lost v (λ d. v.lost d || has grown.taken d) in
-    let on : Represents mid u = record { image = grown.now; is = grown.is; vol = grown.vol } in
+    let on : RepresentsVolume mid u = record { image = grown.now; is = grown.is; vol = grown.vol } in
     let agrees = agrees_on volume mid u mounted on in
     ap (λ (s : Geometry). s.cluster) (agrees.sizes_are ∙ sym (shape-image grown.now u grown.vol))
 

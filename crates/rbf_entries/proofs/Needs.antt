@@ -14,7 +14,7 @@ use Rattle.rbf_change.specs.Contents.{sector_count, extended, written}
 use Rattle.rbf_change.specs.Growth.{clusters_needed}
 use Rattle.rbf_sector.specs.declared.fd.Fd.{Fd}
 use Rattle.rbf_access.specs.declared.volume.Volume.{Volume}
-use Rattle.rbf_access.specs.Mounted.{kept}
+use Rattle.rbf_access.specs.Mounted.{mounted_part}
 use Rattle.rbf_access.specs.Reading.{IsFdOf}
 use Rattle.rbf_alloc.proofs.Growing.{k_is}
 use Rattle.rbf_write.proofs.Contents.{length-laid}
@@ -49,7 +49,7 @@ ceil_few t k some = fewer (div_ceil t k) (div_ceil_times t k some).1
         omega arith
 
 -- what the directory needs
-pub needs_is : (volume : Volume) (image : List ℕ) (on : DiskVolume) (file : DiskFile) (fd : Fd) (place more : ℕ) → Agrees (kept volume) image → Vol image on → IsFdOf file fd
+pub needs_is : (volume : Volume) (image : List ℕ) (on : DiskVolume) (file : DiskFile) (fd : Fd) (place more : ℕ) → Agrees (mounted_part volume) image → Vol image on → IsFdOf file fd
     → more ≡ clusters_needed volume.ident.cluster fd.segs (32 * (place + 1)) → more ≡ place_clusters on file place
 needs_is volume image on file fd place more agrees vol says is =
     is ∙ ap (λ k. clusters_needed k fd.segs (32 * (place + 1))) (k_is volume image on vol agrees) ∙ ap (λ xs. clusters_needed (cluster_size on) xs (32 * (place + 1))) says.segments_are

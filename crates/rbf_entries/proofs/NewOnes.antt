@@ -21,7 +21,7 @@ use Rattle.rbf_change.specs.Contents.{sector_count}
 use Rattle.rbf_change.specs.Growth.{with_clusters, clusters_needed}
 use Rattle.rbf_change.specs.NewFiles.{Plan, IsNewFile, first_segments, free_without}
 use Rattle.rbf_change.proofs.LawfulWrites.{shape-image}
-use Rattle.rbf_access.specs.Mounted.{Represents}
+use Rattle.rbf_access.specs.Mounted.{RepresentsVolume}
 use Rattle.rbf_entries.proofs.NewDescriptor.{first_more, first_none}
 
 -- how many of a range pass, where one is left out
@@ -80,7 +80,7 @@ one_cluster k segments some =
     let low : k - 1 < k = omega arith in
     ap (λ n. n / k) none ∙ div-eq_of_lt low
 
-module _ (media : Option (List ℕ)) (v : DiskVolume) (on : Represents media v) (n : ℕ) (plan : Plan)
+module _ (media : Option (List ℕ)) (v : DiskVolume) (on : RepresentsVolume media v) (n : ℕ) (plan : Plan)
     (bare : length plan.contents ≡ 0) (file : DiskFile) (new : IsNewFile (cluster_size v) (is_free_in v) n plan file) where
   abbrev k : ℕ
   k = cluster_size v

@@ -34,7 +34,7 @@ use Rattle.std.specs.List.{slice_get}
 use Rattle.std.proofs.lemmas.Option.{get_or_from_slice_get}
 use Rattle.rbf_access.proofs.ReadFile.{room_for}
 use Rattle.rbf_entries.specs.Becomes.{with_piece}
-use Rattle.rbf_entries.specs.Entries.{sector_of_entry, IsPlace, MayFill, MayFree, with_entry_bytes}
+use Rattle.rbf_entries.specs.Entries.{sector_of_entry, IsEntryPlace, MayFill, MayFree, with_entry_bytes}
 use Rattle.rbf_entries.proofs.Stored.{IsStored}
 
 -- A write inside a file changes neither its size nor its segments.
@@ -67,7 +67,7 @@ no_clusters k size sectors some fits =
     let low : k - 1 < k = omega arith in
     sym (ap (λ n. n / k) none ∙ div-eq_of_lt low)
 
-module _ (media : Option (List ℕ)) (d i : ℕ) (place : IsPlace media d i) where
+module _ (media : Option (List ℕ)) (d i : ℕ) (place : IsEntryPlace media d i) where
   abbrev pub image : List ℕ
   image = place.on.image
 
@@ -251,7 +251,7 @@ freed_below media d i may = below media d i may.place (freed_entry (directory_en
 
 -- The sector of an entry, found by the directory's descriptor.
 
-pub listed_place : (media : Option (List ℕ)) (d i : ℕ) (place : IsPlace media d i) (fd : Fd) → IsFdOf place.dir fd → i / 8 < length (sectors_of fd.segs)
+pub listed_place : (media : Option (List ℕ)) (d i : ℕ) (place : IsEntryPlace media d i) (fd : Fd) → IsFdOf place.dir fd → i / 8 < length (sectors_of fd.segs)
 listed_place media d i place fd known =
     let room = room_for media place.content place.on d place.dir place.is in
     let within = place.within in

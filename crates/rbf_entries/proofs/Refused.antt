@@ -11,18 +11,18 @@ use Rattle.rbf_model.proofs.Owners.{cluster_positive}
 use Rattle.rbf_change.specs.Calls.{cluster_size, free_total}
 use Rattle.rbf_change.specs.Growth.{clusters_needed}
 use Rattle.rbf_change.specs.Names.{is_dots, may_change}
-use Rattle.rbf_change.specs.NewFiles.{Refusal, no_cluster, too_many_runs, entry_clusters, file_clusters, first_segments}
+use Rattle.rbf_change.specs.NewFiles.{NewEntryRefusal, no_cluster, too_many_runs, entry_clusters, file_clusters, first_segments}
 use Rattle.rbf_change.proofs.LawfulWrites.{shape-image}
-use Rattle.rbf_access.specs.Mounted.{Represents}
-use Rattle.rbf_walk.specs.Search.{IsAbsent}
+use Rattle.rbf_access.specs.Mounted.{RepresentsVolume}
+use Rattle.rbf_walk.specs.Search.{IsAbsentName}
 use Rattle.rbf_entries.specs.Entering.{refusal_of}
-use Rattle.rbf_entries.specs.Rooms.{place_clusters, HasRoom, HasNoSegment}
+use Rattle.rbf_entries.specs.Rooms.{place_clusters, HasClusterRoom, HasNoSegment}
 use Rattle.rbf_entries.specs.Creating.{request}
 use Rattle.rbf_entries.proofs.NewOnes.{one_cluster}
 
-module _ (media : Option (List ℕ)) (v : DiskVolume) (on : Represents media v) (d : ℕ) (name : List ℕ) (attr user : ℕ)
+module _ (media : Option (List ℕ)) (v : DiskVolume) (on : RepresentsVolume media v) (d : ℕ) (name : List ℕ) (attr user : ℕ)
     (execute : Bool) (now : TimePacket) (dir : DiskFile) (place : ℕ) (proper : is_dots name ≡ false)
-    (allowed : may_change dir user execute ≡ true) (absent : IsAbsent dir.contents name place) where
+    (allowed : may_change dir user execute ≡ true) (absent : IsAbsentName dir.contents name place) where
   abbrev k : ℕ
   k = cluster_size v
 
@@ -38,7 +38,7 @@ module _ (media : Option (List ℕ)) (v : DiskVolume) (on : Represents media v) 
   total_is : total ≡ 1 + place_clusters v dir place
   total_is = let one = one_cluster k (first_segments k 0) positive in let same = its_clusters in omega arith
 
-  abbrev last : Option Refusal
+  abbrev last : Option NewEntryRefusal
   last = if nat_lt 0 (entry_clusters k dir) && (length dir.segments == 48) then Some too_many_runs else None
 
   reaches : refusal_of v dir (request d name attr user execute now) ≡ (if nat_lt (free_total v) total then Some no_cluster else last)
@@ -60,7 +60,7 @@ module _ (media : Option (List ℕ)) (v : DiskVolume) (on : Represents media v) 
       ∙ cond-true (nat_lt 0 (entry_clusters k dir) && (length dir.segments == 48)) (Some too_many_runs) None
       (and_from (nat_lt 0 (entry_clusters k dir)) (length dir.segments == 48) (lt-ltb 0 (entry_clusters k dir) (let same = its_clusters in omega arith)) (eq-eqb (length dir.segments) 48 h.full))
 
-  pub is_allowed : HasRoom v dir place 1 → refusal_of v dir (request d name attr user execute now) ≡ None
+  pub is_allowed : HasClusterRoom v dir place 1 → refusal_of v dir (request d name attr user execute now) ≡ None
   is_allowed h =
       not_full h.enough
       ∙ cond-false (nat_lt 0 (entry_clusters k dir) && (length dir.segments == 48)) (Some too_many_runs) None
@@ -73,7 +73,7 @@ module _ (media : Option (List ℕ)) (v : DiskVolume) (on : Represents media v) 
       (cases_eq (place_clusters v dir place) 0)))
 
 -- a file without contents needs the cluster of its descriptor
-pub needs_one : (media : Option (List ℕ)) (v : DiskVolume) → Represents media v → file_clusters (cluster_size v) 0 ≡ 1
+pub needs_one : (media : Option (List ℕ)) (v : DiskVolume) → RepresentsVolume media v → file_clusters (cluster_size v) 0 ≡ 1
 needs_one media v on =
     let some : 1 ≤ cluster_size v =
     subst (λ (s : Geometry). 1 ≤ s.cluster) (sym (shape-image on.image v on.vol))

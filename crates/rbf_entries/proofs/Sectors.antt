@@ -20,7 +20,7 @@ use Rattle.rbf_change.specs.Faults.{MayLose}
 use Rattle.rbf_change.specs.Growth.{with_clusters, clusters_needed, IsChoice}
 use Rattle.rbf_change.specs.NewFiles.{free_without}
 use Rattle.rbf_change.proofs.LawfulWrites.{shape-image}
-use Rattle.rbf_access.specs.Mounted.{Represents}
+use Rattle.rbf_access.specs.Mounted.{RepresentsVolume}
 use Rattle.rbf_access.proofs.ReadFile.{room_for}
 use Rattle.rbf_alloc.proofs.Chosen.{has_free, length-with}
 use Rattle.rbf_write.proofs.Gained.{cluster_sectors, sectors_with}
@@ -28,7 +28,7 @@ use Rattle.rbf_entries.specs.NewEntry.{sector_of_place}
 use Rattle.rbf_entries.proofs.Longer.{in_taken}
 use Rattle.rbf_entries.proofs.Needs.{needs_entry}
 
-module _ (media : Option (List ℕ)) (v : DiskVolume) (on : Represents media v) where
+module _ (media : Option (List ℕ)) (v : DiskVolume) (on : RepresentsVolume media v) where
   abbrev k : ℕ
   k = cluster_size v
 

@@ -10,9 +10,9 @@ use Rattle.std.specs.List.{range_with_len}
 use Rattle.rbf_model.specs.Segments.{AreDistinct, has, sectors_of}
 use Rattle.rbf_model.proofs.Growth.{cluster_of_range, distinct_range}
 use Rattle.rbf_segs.proofs.Runs.{sectors_of-appended}
-use Rattle.rbf_change.specs.Growth.{Gains, MayGain, IsAfter, IsChoice, begins_run, free_beside, with_clusters, uses, clusters_needed}
+use Rattle.rbf_change.specs.Growth.{Gains, MayGain, IsClusterAfter, IsChoice, begins_run, free_beside, with_clusters, uses, clusters_needed}
 use Rattle.rbf_change.specs.NewFiles.{first_segments, free_but, file_clusters}
-use Rattle.rbf_alloc.specs.Grown.{IsChosen}
+use Rattle.rbf_alloc.specs.Grown.{IsChosenGrowth}
 use Rattle.rbf_entries.proofs.Making.{one_of}
 use Rattle.rbf_entries.proofs.NewDescriptor.{first_more}
 use Rattle.rbf_entries.specs.FolderMade.{new_sectors}
@@ -108,7 +108,7 @@ module _ (free : ℕ → Bool) (c d : ℕ) (gains : Gains 1 free [] (c ∷ d ∷
 
   d_begins : begins_run before d ≡ true
   d_begins = ⊎_elim
-      (λ (next : IsAfter 1 ((n, 1) ∷ []) d).
+      (λ (next : IsClusterAfter 1 ((n, 1) ∷ []) d).
       let place : d ≡ n / 1 + 1 = next.next in
       next_begins d c (place ∙ ap (λ x. x + 1) (one_is c)) d_free c_taken)
       (λ run. run)
@@ -121,7 +121,7 @@ module _ (free : ℕ → Bool) (c d : ℕ) (gains : Gains 1 free [] (c ∷ d ∷
     run = inr (subst (λ f. begins_run f d ≡ true) same d_begins);
   }
 
-space_one : (free : ℕ → Bool) (taken : List ℕ) → IsChosen 1 (file_clusters 1 64) free [] taken → IsSpace 1 free taken
+space_one : (free : ℕ → Bool) (taken : List ℕ) → IsChosenGrowth 1 (file_clusters 1 64) free [] taken → IsSpace 1 free taken
 space_one free taken chosen =
     let two = two_of taken chosen.counted in
     let c = two.0 in
@@ -167,7 +167,7 @@ none_needed k n more =
 pub needs_one : (k : ℕ) → 1 < k → file_clusters k 64 ≡ 1
 needs_one k more = ap (λ x. 1 + x) (none_needed k 0 more)
 
-space_more : (k : ℕ) (free : ℕ → Bool) (taken : List ℕ) → 1 < k → IsChosen k (file_clusters k 64) free [] taken → IsSpace k free taken
+space_more : (k : ℕ) (free : ℕ → Bool) (taken : List ℕ) → 1 < k → IsChosenGrowth k (file_clusters k 64) free [] taken → IsSpace k free taken
 space_more k free taken more chosen =
     let one = one_of taken (chosen.counted ∙ needs_one k more) in
     let c = one.0 in
@@ -207,11 +207,11 @@ space_more k free taken more chosen =
           first_at = at_one n k more;
         }
 
-pub space_of : (k : ℕ) (free : ℕ → Bool) (taken : List ℕ) → 1 ≤ k → IsChosen k (file_clusters k 64) free [] taken → IsSpace k free taken
+pub space_of : (k : ℕ) (free : ℕ → Bool) (taken : List ℕ) → 1 ≤ k → IsChosenGrowth k (file_clusters k 64) free [] taken → IsSpace k free taken
 space_of k free taken positive chosen = ⊎_elim
     (λ one.
     let is : k ≡ 1 = eqb-true k 1 one in
-    subst (λ x. IsSpace x free taken) (sym is) (space_one free taken (subst (λ x. IsChosen x (file_clusters x 64) free [] taken) is chosen)))
+    subst (λ x. IsSpace x free taken) (sym is) (space_one free taken (subst (λ x. IsChosenGrowth x (file_clusters x 64) free [] taken) is chosen)))
     (λ many.
     let differ : k ≢ 1 = λ e. both_ways (k == 1) many (eq-eqb k 1 e) in
     space_more k free taken (omega arith) chosen)

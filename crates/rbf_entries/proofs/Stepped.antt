@@ -13,21 +13,21 @@ use Rattle.rbf_change.specs.Names.{may_change, new_entry}
 use Rattle.rbf_change.specs.NewFiles.{file_plan}
 use Rattle.rbf_access.specs.Drive.{DriveCounts, MovesCounts}
 use Rattle.rbf_access.specs.Faults.{file_fault}
-use Rattle.rbf_access.specs.Mounted.{kept, Represents, HasFile, IsMounted}
+use Rattle.rbf_access.specs.Mounted.{mounted_part, RepresentsVolume, HasFile, IsMounted}
 use Rattle.rbf_access.specs.Reading.{IsFdOf, OnFile, OnVolumeFile}
 use Rattle.rbf_access.specs.declared.faults.FileFault.{FileFault}
 use Rattle.rbf_access.specs.declared.faults.FileFault.TheVariants.{Device, NoCluster, TooManyRuns}
 use Rattle.rbf_access.specs.declared.volume.Volume.{Volume}
-use Rattle.rbf_entries.specs.Made.{IsMade, Makes}
+use Rattle.rbf_entries.specs.Made.{IsMade, MakesNewFile}
 use Rattle.rbf_alloc.proofs.Growing.{agrees_on}
 use Rattle.rbf_walk.specs.declared.error.DirError.{DirError}
 use Rattle.rbf_walk.specs.declared.error.DirError.TheVariants.{NotAllowed, BadPath, NotFound, Exists, File}
 use Rattle.rbf_walk.proofs.Stepping.{same_content}
 use Rattle.rbf_write.specs.declared.loaded.Loaded.{Loaded}
-use Rattle.rbf_write.specs.Files.{IsLoaded}
+use Rattle.rbf_write.specs.Files.{IsDescriptorLoaded}
 use Rattle.rbf_entries.specs.NewEntry.{MayEnter, AnswersEntry}
 use Rattle.rbf_entries.specs.Entering.{AnswersEntering, unchanged, took as stops_after, entry_calls, entering_calls, refusal_of, widened}
-use Rattle.rbf_entries.specs.Rooms.{AnswersRoom, HasRoom}
+use Rattle.rbf_entries.specs.Rooms.{AnswersRoom, HasClusterRoom}
 use Rattle.rbf_entries.specs.declared.place.NewPlace.{NewPlace}
 use Rattle.rbf_entries.specs.Places.{AnswersPlace, IsNewPlace, IsFoundFor}
 use Rattle.rbf_entries.proofs.FoundPlace.{asked}
@@ -38,7 +38,7 @@ use Rattle.rbf_entries.proofs.Refused.{is_full, is_too_long, is_allowed, needs_o
 -- what the call answers of any volume that the media represents
 abbrev pub Answered : Option (List ℕ) → Option (List ℕ) → ℕ → List ℕ → ℕ → ℕ → Bool → TimePacket → Result ℕ DirError → Type 0
 Answered m0 m1 d name attr user execute now r =
-    (v : DiskVolume) (file : DiskFile) → Represents m0 v → v.files d ≡ Some file → AnswersEntering v file (request d name attr user execute now) m0 m1 r
+    (v : DiskVolume) (file : DiskFile) → RepresentsVolume m0 v → v.files d ≡ Some file → AnswersEntering v file (request d name attr user execute now) m0 m1 r
 
 -- there is no place
 pub no_place : (m0 m1 : Option (List ℕ)) → m1 ≡ m0 → (d : ℕ) (name : List ℕ) (attr user : ℕ) (execute : Bool) (now : TimePacket) (e : DirError)
@@ -67,7 +67,7 @@ module _ (m0 : Option (List ℕ)) (d place : ℕ) (name : List ℕ) (attr user :
   directory = directory_of has.file user execute spot.allowed
 
   -- whichever volume the media represents
-  any : (P : DiskVolume → DiskFile → Type 0) → P has.content has.file → (v : DiskVolume) (file : DiskFile) → Represents m0 v → v.files d ≡ Some file → P v file
+  any : (P : DiskVolume → DiskFile → Type 0) → P has.content has.file → (v : DiskVolume) (file : DiskFile) → RepresentsVolume m0 v → v.files d ≡ Some file → P v file
   any P here v file on is =
       let same : has.content ≡ v = same_content m0 has.content v has.on on in
       let one : has.file ≡ file = same_Some has.file file (sym has.is ∙ ap (λ (w : DiskVolume). w.files d) same ∙ is) in
@@ -76,21 +76,23 @@ module _ (m0 : Option (List ℕ)) (d place : ℕ) (name : List ℕ) (attr user :
   answered : (m1 : Option (List ℕ)) (r : Result ℕ DirError) → AnswersEntering has.content has.file (request d name attr user execute now) m0 m1 r → Answered m0 m1 d name attr user execute now r
   answered m1 r here = any (λ v file. AnswersEntering v file (request d name attr user execute now) m0 m1 r) here
 
-  module _ (m1 : Option (List ℕ)) (same : m1 ≡ m0) (loaded : Loaded) (read : IsLoaded m0 d loaded) (volume : Volume) (mounted : IsMounted volume m1) where
-    on1 : Represents m1 has.content
+  module _ (m1 : Option (List ℕ)) (same : m1 ≡ m0) (loaded : Loaded) (read : IsDescriptorLoaded m0 d loaded) (volume : Volume) (mounted : IsMounted volume m1) where
+    on1 : RepresentsVolume m1 has.content
     on1 = record { image = has.on.image; is = same ∙ has.on.is; vol = has.on.vol }
 
-    agrees : Agrees (kept volume) has.on.image
+    agrees : Agrees (mounted_part volume) has.on.image
     unfolding on1
     agrees = agrees_on volume m1 has.content mounted on1
 
     room_of : (r : Result (Unit {0}) FileFault) → ((image : List ℕ) (on : DiskVolume) (file : DiskFile)
-        → Agrees (kept volume) image → Vol image on → IsFdOf file loaded.file → AnswersRoom on file place 1 r)
+        → Agrees (mounted_part volume) image → Vol image on → IsFdOf file loaded.file → AnswersRoom on file place 1 r)
         → AnswersRoom has.content has.file place 1 r
     room_of r answers = answers has.on.image has.content has.file agrees has.on.vol (read.says has.content has.file has.on has.is)
 
     -- there is no room
-    pub no_room : (e : FileFault) → ((image : List ℕ) (on : DiskVolume) (file : DiskFile) → Agrees (kept volume) image → Vol image on → IsFdOf file loaded.file → AnswersRoom on file place 1 (Err e))
+    pub no_room : (e : FileFault) → ((image : List ℕ) (on : DiskVolume) (file : DiskFile)
+        → Agrees (mounted_part volume) image → Vol image on → IsFdOf file loaded.file → AnswersRoom on file place 1
+        (Err e))
         → (file_fault {A = ℕ} (Err e) ≡ None) × Answered m0 m1 d name attr user execute now (Err (File e))
     no_room (Device x) answers = absurd (room_of (Err (Device x)) answers)
     no_room NoCluster answers = (
@@ -108,25 +110,26 @@ module _ (m0 : Option (List ℕ)) (d place : ℕ) (name : List ℕ) (attr user :
       }),
     )
 
-    module _ (answers : (image : List ℕ) (on : DiskVolume) (file : DiskFile) → Agrees (kept volume) image → Vol image on → IsFdOf file loaded.file → AnswersRoom on file place 1 (Ok tt)) where
-      room : HasRoom has.content has.file place 1
+    module _ (answers : (image : List ℕ) (on : DiskVolume) (file : DiskFile) → Agrees (mounted_part volume) image → Vol image on → IsFdOf file loaded.file → AnswersRoom on file place 1 (Ok tt)) where
+      room : HasClusterRoom has.content has.file place 1
       room = room_of (Ok tt) answers
 
       allowed : refusal_of has.content has.file (request d name attr user execute now) ≡ None
       allowed = is_allowed m0 has.content has.on d name attr user execute now has.file place spot.proper spot.allowed spot.absent room
 
       makes_here : (mid : Option (List ℕ)) (r : Result ℕ FileFault)
-          → ((v : DiskVolume) → Represents m1 v → Makes v (file_plan attr user now) m1 mid r)
-          → Makes has.content (file_plan attr user now) m0 mid r
-      makes_here mid r makes = subst (λ m. Makes has.content (file_plan attr user now) m mid r) same (makes has.content on1)
+          → ((v : DiskVolume) → RepresentsVolume m1 v → MakesNewFile v (file_plan attr user now) m1 mid r)
+          → MakesNewFile has.content (file_plan attr user now) m0 mid r
+      makes_here mid r makes = subst (λ m. MakesNewFile has.content (file_plan attr user now) m mid r) same (makes has.content on1)
 
       -- no file was made
       pub not_made : (mid : Option (List ℕ)) (e : FileFault)
-          → ((v : DiskVolume) → Represents m1 v → Makes v (file_plan attr user now) m1 mid (Err e))
+          → ((v : DiskVolume) → RepresentsVolume m1 v → MakesNewFile v (file_plan attr user now) m1 mid (Err e))
           → (IsSome (file_fault {A = ℕ} (Err e))) × Answered m0 mid d name attr user execute now (Err (File e))
       not_made mid e makes = by_fault e (makes_here mid (Err e) makes)
         where
-          by_fault : (f : FileFault) → Makes has.content (file_plan attr user now) m0 mid (Err f) → (IsSome (file_fault {A = ℕ} (Err f))) × Answered m0 mid d name attr user execute now (Err (File f))
+          by_fault : (f : FileFault) → MakesNewFile has.content (file_plan attr user now) m0 mid (Err f)
+              → (IsSome (file_fault {A = ℕ} (Err f))) × Answered m0 mid d name attr user execute now (Err (File f))
           by_fault (Device x) here = (
             refl,
             answered mid (Err (File (Device x))) (
@@ -141,19 +144,19 @@ module _ (m0 : Option (List ℕ)) (d place : ℕ) (name : List ℕ) (attr user :
               absurd (omega arith)
           by_fault TooManyRuns here = absurd (here.runs refl)
 
-      module _ (mid : Option (List ℕ)) (n : ℕ) (makes : (v : DiskVolume) → Represents m1 v → Makes v (file_plan attr user now) m1 mid (Ok n)) where
+      module _ (mid : Option (List ℕ)) (n : ℕ) (makes : (v : DiskVolume) → RepresentsVolume m1 v → MakesNewFile v (file_plan attr user now) m1 mid (Ok n)) where
         made : IsMade has.content n (file_plan attr user now) m0 mid
         made = (makes_here mid (Ok n) makes).made
 
         pub number_low : n < 16777216
         number_low = low m0 has.content has.on d name attr user execute now has.file has.is directory place spot.named spot.proper spot.absent room n mid made
 
-        pub read_there : IsLoaded mid loaded.number loaded
+        pub read_there : IsDescriptorLoaded mid loaded.number loaded
         read_there =
-            subst (λ m. IsLoaded mid m loaded) (sym read.number_is)
+            subst (λ m. IsDescriptorLoaded mid m loaded) (sym read.number_is)
             (read_still m0 has.content has.on d name attr user execute now has.file has.is directory place spot.named spot.proper spot.absent room n mid made loaded read)
 
-        on_mid : Represents mid made.left
+        on_mid : RepresentsVolume mid made.left
         on_mid = record { image = made.now; is = made.is; vol = made.vol }
 
         left_file : made.left.files d ≡ Some has.file
@@ -161,7 +164,7 @@ module _ (m0 : Option (List ℕ)) (d place : ℕ) (name : List ℕ) (attr user :
 
         pub entry_calls_here : (f : Option ℕ) (t u : DriveCounts)
             → OnVolumeFile mid loaded.number (λ on file. MovesCounts f (entry_calls on file) t u)
-            → (v : DiskVolume) (file : DiskFile) → Represents m0 v → v.files d ≡ Some file
+            → (v : DiskVolume) (file : DiskFile) → RepresentsVolume m0 v → v.files d ≡ Some file
             → MovesCounts f (entry_calls v file) t u
         entry_calls_here f t u moved = any (λ v file. MovesCounts f (entry_calls v file) t u)
             (subst (λ m. MovesCounts f m t u) (calls_left m0 has.content has.on d name attr user execute now has.file has.is directory place spot.named spot.proper spot.absent room n mid made)
@@ -207,13 +210,13 @@ module _ (m0 : Option (List ℕ)) (d place : ℕ) (name : List ℕ) (attr user :
 -- the place was found before
 module _ (m0 m1 : Option (List ℕ)) (same : m1 ≡ m0) (d : ℕ) (name : List ℕ) (user : ℕ) (execute : Bool) (found : NewPlace) (is : IsFoundFor m0 d user execute found) where
   pub answer_there : (attr : ℕ) (now : TimePacket) (r : Result ℕ FileFault) (m2 : Option (List ℕ))
-      → ((v : DiskVolume) (file : DiskFile) → Represents m1 v → v.files found.dir.number ≡ Some file
+      → ((v : DiskVolume) (file : DiskFile) → RepresentsVolume m1 v → v.files found.dir.number ≡ Some file
       → AnswersEntering v file (request found.dir.number name attr found.by.user found.by.execute now) m1 m2 (widened r))
       → Answered m0 m2 d name attr user execute now (widened r)
   answer_there attr now r m2 = asked m0 m1 same d name user execute found is (λ m n u x v file. AnswersEntering v file (request n name attr u x now) m m2 (widened r))
 
   pub calls_there : (r : Result ℕ FileFault) (t u : DriveCounts)
-      → ((v : DiskVolume) (file : DiskFile) → Represents m1 v → v.files found.dir.number ≡ Some file
+      → ((v : DiskVolume) (file : DiskFile) → RepresentsVolume m1 v → v.files found.dir.number ≡ Some file
       → MovesCounts (file_fault r) (entering_calls v file 2 (widened r)) t u)
-      → (v : DiskVolume) (file : DiskFile) → Represents m0 v → v.files d ≡ Some file → MovesCounts (file_fault r) (entering_calls v file 2 (widened r)) t u
+      → (v : DiskVolume) (file : DiskFile) → RepresentsVolume m0 v → v.files d ≡ Some file → MovesCounts (file_fault r) (entering_calls v file 2 (widened r)) t u
   calls_there r t u = asked m0 m1 same d name user execute found is (λ m n w x v file. MovesCounts (file_fault r) (entering_calls v file 2 (widened r)) t u)

@@ -9,10 +9,10 @@ use Rattle.rbf_model.specs.Writes.{put_sector}
 use Rattle.rbf_model.proofs.Bytes.{put_beside, marked_beside}
 use Rattle.rbf_model.proofs.Lifted.{sector_put}
 use Rattle.rbf_map.specs.Map.{ClusterMap}
-use Rattle.rbf_change.specs.Agrees.{KeptVolume, Agrees, AgreesOnMap}
+use Rattle.rbf_change.specs.Agrees.{MountedPart, Agrees, AgreesOnMap}
 use Rattle.rbf_access.specs.declared.volume.Volume.{Volume}
 use Rattle.rbf_access.specs.Cached.{IsCacheOf}
-use Rattle.rbf_access.specs.Mounted.{kept, Represents, IsMounted, IsSound}
+use Rattle.rbf_access.specs.Mounted.{mounted_part, RepresentsVolume, IsMounted, IsSoundMedia}
 use Rattle.rbf_walk.proofs.Stepping.{same_content}
 use Rattle.rbf_entries.specs.Becomes.{RepresentsOne, Becomes}
 
@@ -45,12 +45,12 @@ module _ (image : List ℕ) (v : DiskVolume) (vol : Vol image v) (s : ℕ) (byte
   }
 
   -- what is kept of the volume is still that of the image
-  pub agrees_still : (k : KeptVolume) → Agrees k image → Agrees k (put_sector image s bytes)
+  pub agrees_still : (k : MountedPart) → Agrees k image → Agrees k (put_sector image s bytes)
   agrees_still k agrees = record { sizes_are = agrees.sizes_are ∙ shape_same; map = map_still k.map agrees.map }
 
 -- a write of one sector that makes of the volume another
 pub record IsStored (media now : Option (List ℕ)) (v w : DiskVolume) : Type 0 where
-  pub on : Represents media v
+  pub on : RepresentsVolume media v
   pub lsn : ℕ
   pub bytes : List ℕ
   pub whole : length bytes ≡ 256
@@ -63,19 +63,19 @@ module _ (media now : Option (List ℕ)) (v w : DiskVolume) (stored : IsStored m
   now_is : now ≡ Some (put_sector stored.on.image stored.lsn stored.bytes)
   now_is = stored.is ∙ ap (λ m. with_sector m stored.lsn stored.bytes) stored.on.is
 
-  pub represents_now : Represents now w
+  pub represents_now : RepresentsVolume now w
   represents_now = record { image = put_sector stored.on.image stored.lsn stored.bytes; is = now_is; vol = stored.vol }
 
   -- the volume stays mounted
-  pub mounted_now : (old new : Volume) → kept new ≡ kept old → IsCacheOf now new.cache → IsMounted old media → IsMounted new now
+  pub mounted_now : (old new : Volume) → mounted_part new ≡ mounted_part old → IsCacheOf now new.cache → IsMounted old media → IsMounted new now
   unfolding represents_now
   mounted_now old new same cached mounted = record {
     content = w;
     on = represents_now;
     agrees =
         let images : mounted.on.image ≡ stored.on.image = one_image mounted.on.image stored.on.image (sym mounted.on.is ∙ stored.on.is) in
-        let here : Agrees (kept old) stored.on.image = subst (Agrees (kept old)) images mounted.agrees in
-        let still = agrees_still stored.on.image v stored.on.vol stored.lsn stored.bytes stored.whole stored.past stored.below (kept old) here in
+        let here : Agrees (mounted_part old) stored.on.image = subst (Agrees (mounted_part old)) images mounted.agrees in
+        let still = agrees_still stored.on.image v stored.on.vol stored.lsn stored.bytes stored.whole stored.past stored.below (mounted_part old) here in
         subst (λ k. Agrees k (put_sector stored.on.image stored.lsn stored.bytes)) (sym same) still;
     cached = cached;
   }
@@ -89,5 +89,5 @@ module _ (media now : Option (List ℕ)) (v w : DiskVolume) (stored : IsStored m
       subst (λ x. RepresentsOne now (change x)) (same_content media v u stored.on on) (record { volume = w; on = represents_now; changed = done })
 
 -- so it is sound
-pub stored_sound : (media now : Option (List ℕ)) (v w : DiskVolume) → IsStored media now v w → IsSound now
+pub stored_sound : (media now : Option (List ℕ)) (v w : DiskVolume) → IsStored media now v w → IsSoundMedia now
 stored_sound media now v w stored = (w, represents_now media now v w stored)

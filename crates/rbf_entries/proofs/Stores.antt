@@ -14,11 +14,11 @@ use Rattle.rbf_model.proofs.ImageLaws.{unseen_image}
 use Rattle.rbf_model.proofs.Lifted.{sector_put}
 use Rattle.rbf_change.specs.Calls.{cluster_size}
 use Rattle.rbf_change.proofs.LawfulWrites.{shape-image}
-use Rattle.rbf_access.specs.Mounted.{Represents}
+use Rattle.rbf_access.specs.Mounted.{RepresentsVolume}
 use Rattle.rbf_access.proofs.Reading.{below_total}
 use Rattle.rbf_entries.proofs.Stored.{IsStored}
 
-module _ (media : Option (List ℕ)) (u : DiskVolume) (on : Represents media u) (s : ℕ) (lost : u.lost (s / cluster_size u) ≡ true) (bytes : List ℕ) (whole : length bytes ≡ 256) where
+module _ (media : Option (List ℕ)) (u : DiskVolume) (on : RepresentsVolume media u) (s : ℕ) (lost : u.lost (s / cluster_size u) ≡ true) (bytes : List ℕ) (whole : length bytes ≡ 256) where
   abbrev g : Geometry
   g = image_geometry on.image
 
@@ -70,7 +70,7 @@ module _ (media : Option (List ℕ)) (u : DiskVolume) (on : Represents media u) 
   pub now_is : (new : Option (List ℕ)) → new ≡ with_sector media s bytes → new ≡ Some image_then
   now_is new written = written ∙ ap (λ m. with_sector m s bytes) on.is
 
-  abbrev pub on_then : (new : Option (List ℕ)) → new ≡ with_sector media s bytes → Represents new u
+  abbrev pub on_then : (new : Option (List ℕ)) → new ≡ with_sector media s bytes → RepresentsVolume new u
   on_then new written = record { image = image_then; is = now_is new written; vol = vol_then }
 
   pub stored : (new : Option (List ℕ)) → new ≡ with_sector media s bytes → IsStored media new u u

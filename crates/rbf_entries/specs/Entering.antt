@@ -11,13 +11,13 @@ use Rattle.rbf_change.specs.Calls.{shape, cluster_size, free_total}
 use Rattle.rbf_change.specs.Contents.{sector_count}
 use Rattle.rbf_change.specs.Faults.{EntryEnds}
 use Rattle.rbf_change.specs.Names.{new_entry, entry_place, is_dots}
-use Rattle.rbf_change.specs.NewFiles.{Plan, Enters, Refusal, bad_path, not_allowed, exists, no_cluster, too_many_runs, entry_refusal, entry_clusters}
+use Rattle.rbf_change.specs.NewFiles.{Plan, EntersNewFile, NewEntryRefusal, bad_path, not_allowed, exists, no_cluster, too_many_runs, entry_refusal, entry_clusters}
 use Rattle.rbf_change.specs.Tidy.{IsNewList, KeepsListEnd, KeepsMapEnd}
 use Rattle.rbf_access.specs.declared.faults.FileFault.{FileFault}
 use Rattle.rbf_access.specs.declared.faults.FileFault.TheVariants.{Device, NoCluster, TooManyRuns}
 use Rattle.rbf_walk.specs.declared.error.DirError.{DirError}
 use Rattle.rbf_walk.specs.declared.error.DirError.TheVariants.{NotAllowed, BadPath, NotFound, Exists, File}
-use Rattle.rbf_entries.specs.NewEntry.{sector_of_place, IsAfterMarks, StandsBehind}
+use Rattle.rbf_entries.specs.NewEntry.{sector_of_place, IsAfterMarks, IsUncountedEntry}
 
 -- the written sectors of a new file n: its descriptor, and the sectors of its contents
 abbrev pub written_sectors : ℕ → DiskFile → List ℕ
@@ -32,7 +32,7 @@ pub record Entering : Type 0 where
   pub plan : ℕ → Plan
 
 -- whether the volume refuses it, and why
-abbrev pub refusal_of : DiskVolume → DiskFile → Entering → Option Refusal
+abbrev pub refusal_of : DiskVolume → DiskFile → Entering → Option NewEntryRefusal
 refusal_of v dir e =
     entry_refusal (cluster_size v) (free_total v) dir e.name e.user e.execute (length (e.plan 0).contents)
 
@@ -46,7 +46,7 @@ pub record IsEnteredOn (v : DiskVolume) (dir : DiskFile) (e : Entering) (old new
   pub is : new ≡ Some now
   pub after : DiskVolume
   pub vol : Vol now after
-  pub enters : Enters v after e.directory n e.name (e.plan n)
+  pub enters : EntersNewFile v after e.directory n e.name (e.plan n)
   -- the sector of the entry has the entry's 32 bytes, and its other bytes are unchanged
   pub filled : sector now (sector_of_place enters.both.new.segments (entry_place dir.contents))
       ≡ put_at (sector image (sector_of_place enters.both.new.segments (entry_place dir.contents)))
@@ -62,7 +62,7 @@ pub record IsEnteredOn (v : DiskVolume) (dir : DiskFile) (e : Entering) (old new
 
 -- a new file n is on the media, and all clusters that it and its directory take were marked before: they are lost in
 -- the volume that is left
-pub record StandsWhole (v left : DiskVolume) (now : List ℕ) (n : ℕ) (file : DiskFile) (gained : List ℕ) : Type 0 where
+pub record IsFileOnMedia (v left : DiskVolume) (now : List ℕ) (n : ℕ) (file : DiskFile) (gained : List ℕ) : Type 0 where
   pub shown : file_at (sector now) n ≡ file
   pub marked : (c : ℕ) → (has_cluster (shape v) n file c || has gained c) ≡ true → left.lost c ≡ true
 
@@ -92,9 +92,9 @@ pub record EnteringTook (v : DiskVolume) (dir : DiskFile) (e : Entering) (old ne
   -- the entry's sector is unchanged, or it was written after the file that it names and after all marks
   pub entry : (sector now (sector_of_place ends.both.new.segments (entry_place dir.contents))
       ≡ sector image (sector_of_place ends.both.new.segments (entry_place dir.contents)))
-      ⊎ (StandsBehind image now dir (sector_of_place ends.both.new.segments (entry_place dir.contents))
+      ⊎ (IsUncountedEntry image now dir (sector_of_place ends.both.new.segments (entry_place dir.contents))
       (entry_place dir.contents) (new_entry e.name number)
-      × StandsWhole v left now number ends.both.file ends.both.entry.gained)
+      × IsFileOnMedia v left now number ends.both.file ends.both.entry.gained)
   pub end : KeepsMapEnd image now (λ _. false)
 
 -- a fault occurred before the entry was in the directory
@@ -103,7 +103,7 @@ pub data EnteringStops (v : DiskVolume) (dir : DiskFile) (e : Entering) (old new
   took : EnteringTook v dir e old new → EnteringStops v dir e old new
 
 -- the request was refused, and the media is unchanged
-pub record EnteringIsRefused (v : DiskVolume) (dir : DiskFile) (e : Entering) (reason : Refusal)
+pub record EnteringIsRefused (v : DiskVolume) (dir : DiskFile) (e : Entering) (reason : NewEntryRefusal)
     (old new : Option (List ℕ)) : Type 0 where
   pub because : refusal_of v dir e ≡ Some reason
   pub media_kept : new ≡ old

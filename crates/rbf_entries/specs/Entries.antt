@@ -7,7 +7,7 @@ use Rattle.rbf_model.specs.Laws.{IsReady}
 use Rattle.rbf_model.specs.Segments.{sectors_of}
 use Rattle.rbf_model.specs.Volume.{DiskVolume}
 use Rattle.rbf_model.specs.Writes.{IsNewEntry}
-use Rattle.rbf_access.specs.Mounted.{Represents}
+use Rattle.rbf_access.specs.Mounted.{RepresentsVolume}
 use Rattle.rbf_entries.specs.Becomes.{with_piece}
 
 -- the sector that holds the entry in place i of a directory: each sector has 8
@@ -19,9 +19,9 @@ abbrev pub with_entry_bytes : Option (List ℕ) → DiskFile → ℕ → List �
 with_entry_bytes media dir i bytes = with_piece media (sector_of_entry dir i) (32 * (i % 8)) bytes
 
 -- a place after the first two of directory d of the volume that the media represents
-pub record IsPlace (media : Option (List ℕ)) (d i : ℕ) : Type 0 where
+pub record IsEntryPlace (media : Option (List ℕ)) (d i : ℕ) : Type 0 where
   pub content : DiskVolume
-  pub on : Represents media content
+  pub on : RepresentsVolume media content
   pub dir : DiskFile
   pub is : content.files d ≡ Some dir
   pub directory : is_directory dir ≡ true
@@ -30,14 +30,14 @@ pub record IsPlace (media : Option (List ℕ)) (d i : ℕ) : Type 0 where
 
 -- a free place, and the entry of a new file, which is on the disk, by a name that is not in the directory
 pub record MayFill (media : Option (List ℕ)) (d i : ℕ) (entry : List ℕ) : Type 0 where
-  pub place : IsPlace media d i
+  pub place : IsEntryPlace media d i
   pub free : is_used (directory_entry place.dir.contents i) ≡ false
   pub new : IsNewEntry place.dir.contents i entry (descriptor_field entry)
   pub ready : IsReady (image_disk place.on.image) place.content d (descriptor_field entry)
 
 -- the place of a used entry that names a file, not a directory
 pub record MayFree (media : Option (List ℕ)) (d i : ℕ) : Type 0 where
-  pub place : IsPlace media d i
+  pub place : IsEntryPlace media d i
   pub used : is_used (directory_entry place.dir.contents i) ≡ true
   pub file : DiskFile
   pub names : place.content.files (descriptor_field (directory_entry place.dir.contents i)) ≡ Some file

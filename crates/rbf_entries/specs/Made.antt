@@ -36,7 +36,7 @@ pub record IsMade (v : DiskVolume) (n : ℕ) (plan : Plan) (old new : Option (Li
   pub writes : WritesDescriptor image now n
 
 -- a fault occurred before that: clusters that the file was to have may be lost
-pub record MakingEnds (v : DiskVolume) (plan : Plan) (old new : Option (List ℕ)) : Type 0 where
+pub record FileMakingEnds (v : DiskVolume) (plan : Plan) (old new : Option (List ℕ)) : Type 0 where
   pub image : List ℕ
   pub now : List ℕ
   pub was : old ≡ Some image
@@ -51,7 +51,7 @@ pub record MakingEnds (v : DiskVolume) (plan : Plan) (old new : Option (List ℕ
   pub end : KeepsMapEnd image now (λ _. false)
 
 -- the answers of a call that makes a file in the volume that the media represents before
-pub record Makes (v : DiskVolume) (plan : Plan) (old new : Option (List ℕ)) (result : Result ℕ FileFault)
+pub record MakesNewFile (v : DiskVolume) (plan : Plan) (old new : Option (List ℕ)) (result : Result ℕ FileFault)
     : Type 0 where
   -- the answer is the number of the new file, which is on the media
   pub made : IfOk result (λ n. IsMade v n plan old new)
@@ -60,4 +60,4 @@ pub record Makes (v : DiskVolume) (plan : Plan) (old new : Option (List ℕ)) (r
   -- it never has too many segments
   pub runs : ¬ IsErrOf result fault.TooManyRuns
   -- an access of the drive has failed
-  pub ends : IfSome (file_fault result) (λ _. MakingEnds v plan old new)
+  pub ends : IfSome (file_fault result) (λ _. FileMakingEnds v plan old new)

@@ -16,10 +16,10 @@ use Rattle.rbf_change.specs.Growth.{with_clusters, IsChoice}
 use Rattle.rbf_change.specs.Names.{entry_place}
 use Rattle.rbf_change.specs.Parts.{EntryIsPut}
 use Rattle.rbf_change.specs.Tidy.{KeepsListEnd, KeepsMapEnd}
-use Rattle.rbf_access.specs.Mounted.{Represents}
+use Rattle.rbf_access.specs.Mounted.{RepresentsVolume}
 use Rattle.rbf_access.specs.declared.faults.FileFault.{FileFault}
 use Rattle.rbf_access.specs.declared.faults.FileFault.TheVariants.{Device, NoCluster, TooManyRuns}
-use Rattle.rbf_entries.specs.Rooms.{HasRoom}
+use Rattle.rbf_entries.specs.Rooms.{HasClusterRoom}
 use Rattle.rbf_entries.specs.declared.place.NewPlace.{NewPlace}
 
 -- an entry that is written into a place of a directory, at a time
@@ -38,26 +38,26 @@ entry_at found entry now =
 -- the directory
 pub record MayEnter (media : Option (List ℕ)) (d place : ℕ) (entry : List ℕ) : Type 0 where
   pub content : DiskVolume
-  pub on : Represents media content
+  pub on : RepresentsVolume media content
   pub dir : DiskFile
   pub is : content.files d ≡ Some dir
   pub directory : is_directory dir ≡ true
   pub place_is : place ≡ entry_place dir.contents
   pub new : IsNewEntry dir.contents place entry (descriptor_field entry)
   pub ready : IsReady (image_disk on.image) content d (descriptor_field entry)
-  pub room : HasRoom content dir place 0
+  pub room : HasClusterRoom content dir place 0
 
 -- the same, if the place is the one after the last entry
 pub record MayAppend (media : Option (List ℕ)) (d place : ℕ) (entry : List ℕ) : Type 0 where
   pub content : DiskVolume
-  pub on : Represents media content
+  pub on : RepresentsVolume media content
   pub dir : DiskFile
   pub is : content.files d ≡ Some dir
   pub directory : is_directory dir ≡ true
   pub end : length dir.contents ≡ 32 * place
   pub new : IsNewEntry dir.contents place entry (descriptor_field entry)
   pub ready : IsReady (image_disk on.image) content d (descriptor_field entry)
-  pub room : HasRoom content dir place 0
+  pub room : HasClusterRoom content dir place 0
 
 -- the sector of a file with these segments that holds an entry
 abbrev pub sector_of_place : List (ℕ × ℕ) → ℕ → ℕ
@@ -92,7 +92,7 @@ IsAfterMarks old now s left clusters =
 
 -- the sector of an entry has the entry's 32 bytes, and its other bytes are unchanged; the entry is after the last entry
 -- of the directory, which does not count it yet
-pub record StandsBehind (old now : List ℕ) (dir : DiskFile) (s place : ℕ) (entry : List ℕ) : Type 0 where
+pub record IsUncountedEntry (old now : List ℕ) (dir : DiskFile) (s place : ℕ) (entry : List ℕ) : Type 0 where
   pub end : length dir.contents ≡ 32 * place
   pub filled : sector now s ≡ put_at (sector old s) (32 * (place % 8)) entry
 
@@ -114,7 +114,7 @@ pub record EntryStops (v : DiskVolume) (dir : DiskFile) (a : EntryWrite) (old ne
   -- the entry's sector is unchanged, or it was written after the marks of all clusters that the directory gains
   pub order : (sector now (sector_of_place (with_clusters (cluster_size v) dir.segments taken) a.place)
       ≡ sector image (sector_of_place (with_clusters (cluster_size v) dir.segments taken) a.place))
-      ⊎ (StandsBehind image now dir (sector_of_place (with_clusters (cluster_size v) dir.segments taken) a.place)
+      ⊎ (IsUncountedEntry image now dir (sector_of_place (with_clusters (cluster_size v) dir.segments taken) a.place)
       a.place a.entry × ((c : ℕ) → has taken c ≡ true → left.lost c ≡ true))
   -- the file that it names is unchanged
   pub named : file_at (sector now) (descriptor_field a.entry) ≡ file_at (sector image) (descriptor_field a.entry)

@@ -12,7 +12,7 @@ abbrev pub place_clusters : DiskVolume → DiskFile → ℕ → ℕ
 place_clusters v dir place = clusters_needed (cluster_size v) dir.segments (32 * (place + 1))
 
 -- there is room for `clusters` clusters, and for those of the directory
-pub record HasRoom (v : DiskVolume) (dir : DiskFile) (place clusters : ℕ) : Type 0 where
+pub record HasClusterRoom (v : DiskVolume) (dir : DiskFile) (place clusters : ℕ) : Type 0 where
   pub enough : clusters + place_clusters v dir place ≤ free_total v
   pub few : 0 < place_clusters v dir place → length dir.segments < 48
 
@@ -24,7 +24,7 @@ pub record HasNoSegment (v : DiskVolume) (dir : DiskFile) (place clusters : ℕ)
 
 -- each answer of the test with its cause
 abbrev pub AnswersRoom : DiskVolume → DiskFile → ℕ → ℕ → Result (Unit {0}) FileFault → Type 0
-AnswersRoom v dir place clusters (Ok done) = HasRoom v dir place clusters
+AnswersRoom v dir place clusters (Ok done) = HasClusterRoom v dir place clusters
 AnswersRoom v dir place clusters (Err (Device n)) = ⊥
 AnswersRoom v dir place clusters (Err NoCluster) = free_total v < clusters + place_clusters v dir place
 AnswersRoom v dir place clusters (Err TooManyRuns) = HasNoSegment v dir place clusters

@@ -3,7 +3,7 @@ ghost use Rattle.rbf_access.specs.Drive.{Counts};
 ghost use Rattle.rbf_access.specs.Faults.{file_fault};
 ghost use Rattle.rbf_access.specs.Mounted.{IsMounted};
 ghost use Rattle.rbf_access.specs.Reading.{OnVolumeFile};
-ghost use Rattle.rbf_write.specs.Files.{IsLoaded};
+ghost use Rattle.rbf_write.specs.Files.{IsDescriptorLoaded};
 ghost use Rattle.rbf_entries.specs.NewEntry.{MayAppend, AnswersEntry, entry_at};
 ghost use Rattle.rbf_entries.specs.Rooms.{place_clusters};
 
@@ -26,7 +26,7 @@ pub fn append_entry(
     now: TimePacket,
 ) -> Result<(), FileFault>
     requires mounted { IsMounted v.old (media d.old) }
-    requires read { IsLoaded (media d.old) found.now.dir.number found.now.dir }
+    requires read { IsDescriptorLoaded (media d.old) found.now.dir.number found.now.dir }
     requires place { MayAppend (media d.old) found.now.dir.number found.now.place entry.now }
     ensures answer { OnVolumeFile (media d.old) found.now.dir.number (λ on file. AnswersEntry on
         file (entry_at found.now entry.now now) (media d.old) (media d.new) result) }

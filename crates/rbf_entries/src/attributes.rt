@@ -4,7 +4,7 @@ ghost use Rattle.rbf_change.specs.Calls.{SetsAttributes};
 ghost use Rattle.rbf_change.specs.NewFiles.{owns_file};
 ghost use Rattle.rbf_access.specs.Drive.{Counts};
 ghost use Rattle.rbf_access.specs.Faults.{file_fault};
-ghost use Rattle.rbf_access.specs.Mounted.{kept, HasFile, IsMounted};
+ghost use Rattle.rbf_access.specs.Mounted.{mounted_part, HasFile, IsMounted};
 ghost use Rattle.rbf_access.specs.Reading.{IsFdOf, OnFile};
 ghost use Rattle.rbf_walk.specs.Walk.{directory_fault};
 ghost use Rattle.rbf_entries.specs.Attributes.{attributed, attribute_calls, with_new_attributes, AnswersOwner};
@@ -48,7 +48,7 @@ pub fn set_fd_attr(
     ensures media_kept { OnErr result (media d.new ≡ media d.old) }
     ensures device { OnErr result (IsSome (file_fault result)) }
     ensures mounted { IsMounted v.new (media d.new) }
-    ensures volume_kept { kept v.new ≡ kept v.old }
+    ensures volume_kept { mounted_part v.new ≡ mounted_part v.old }
     ensures counts { Counts BlockDriver-dyn (file_fault result) 2 d.old d.new }
 {
     let mut bytes = v.load(d, fd)?;
@@ -79,7 +79,7 @@ pub fn set_attr(
         ≡ with_new_attributes (media d.old) fd asked.attr asked.date) }
     ensures media_kept { OnErr result (media d.new ≡ media d.old) }
     ensures mounted { IsMounted v.new (media d.new) }
-    ensures volume_kept { kept v.new ≡ kept v.old }
+    ensures volume_kept { mounted_part v.new ≡ mounted_part v.old }
     ensures counts { OnFile (media d.old) fd (λ file. Counts BlockDriver-dyn
         (directory_fault result) (attribute_calls file asked.user) d.old d.new) }
 {

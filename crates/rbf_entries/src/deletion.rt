@@ -3,7 +3,7 @@ ghost use Rattle.rbf_model.specs.File.{DiskFile};
 ghost use Rattle.rbf_change.specs.Names as model;
 ghost use Rattle.rbf_change.specs.Names.{deletion_end};
 ghost use Rattle.rbf_access.specs.Drive.{Counts};
-ghost use Rattle.rbf_access.specs.Mounted.{kept, HasFile, IsMounted};
+ghost use Rattle.rbf_access.specs.Mounted.{mounted_part, HasFile, IsMounted};
 ghost use Rattle.rbf_access.specs.Reading.{IsFdOf, OnFile, OnVolumeFile};
 ghost use Rattle.rbf_walk.specs.Walk.{AnswersWalk, directory_fault};
 ghost use Rattle.rbf_entries.specs.Becomes.{Becomes};
@@ -53,7 +53,7 @@ pub fn delete_name(
     ensures written { IfOk result (FreesOn (media d.old) (media d.new) dir name.now) }
     ensures media_kept { OnErr result (media d.new ≡ media d.old) }
     ensures mounted { IsMounted v.new (media d.new) }
-    ensures volume_kept { kept v.new ≡ kept v.old }
+    ensures volume_kept { mounted_part v.new ≡ mounted_part v.old }
     ensures counts { OnVolumeFile (media d.old) dir (λ on f. Counts BlockDriver-dyn
         (directory_fault result) (freeing_calls on f name.now by.user by.execute) d.old d.new) }
 {
@@ -86,7 +86,7 @@ pub fn find_deletable(
     ensures ok { IfOk result (IsDeletable (media d.old) dir name.now) }
     ensures mounted { IsMounted v.new (media d.new) }
     ensures media_kept { media d.new ≡ media d.old }
-    ensures volume_kept { kept v.new ≡ kept v.old }
+    ensures volume_kept { mounted_part v.new ≡ mounted_part v.old }
     ensures counts { OnFile (media d.old) dir (λ file. Counts BlockDriver-dyn
         (directory_fault result) (deletion_calls file name.now by.user by.execute) d.old d.new) }
 {

@@ -2,7 +2,7 @@ ghost use Rattle.std.specs.Prelude.{◌≡◌, ℕ, OnOk, OnErr, IsNone};
 ghost use Rattle.rbf_model.specs.Volume.{DiskVolume};
 ghost use Rattle.rbf_change.specs.Names.{deletion_end};
 ghost use Rattle.rbf_access.specs.Drive.{Counts};
-ghost use Rattle.rbf_access.specs.Mounted.{HasFile, IsMounted, Represents};
+ghost use Rattle.rbf_access.specs.Mounted.{HasFile, IsMounted, RepresentsVolume};
 ghost use Rattle.rbf_access.specs.Reading.{OnVolumeFile};
 ghost use Rattle.rbf_walk.specs.Walk.{directory_fault};
 ghost use Rattle.rbf_entries.specs.Deleted.{AnswersDeletion, DeletionStops, IsDeletedBy, deletion_total};
@@ -36,10 +36,10 @@ pub fn delete(
     requires file { HasFile (media d.old) dir }
     ensures answer { OnVolumeFile (media d.old) dir (λ on file.
         AnswersDeletion (deletion_end on.files file name.now by.user by.execute) result) }
-    ensures ok { (on : DiskVolume) → Represents (media d.old) on
+    ensures ok { (on : DiskVolume) → RepresentsVolume (media d.old) on
         → OnOk result (IsDeletedBy on dir name.now (media d.old) (media d.new)) }
-    ensures fault { (on : DiskVolume) → Represents (media d.old) on → OnErr result (DeletionStops on
-        dir name.now by.user by.execute (media d.old) (media d.new)) }
+    ensures fault { (on : DiskVolume) → RepresentsVolume (media d.old) on → OnErr result
+        (DeletionStops on dir name.now by.user by.execute (media d.old) (media d.new)) }
     ensures refused { OnErr result (IsNone (directory_fault result) → media d.new ≡ media d.old) }
     ensures mounted { IsMounted v.new (media d.new) }
     ensures counts { OnVolumeFile (media d.old) dir (λ on f. Counts BlockDriver-dyn

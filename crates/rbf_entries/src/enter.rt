@@ -5,7 +5,7 @@ ghost use Rattle.rbf_access.specs.Faults.{file_fault};
 ghost use Rattle.rbf_access.specs.Mounted.{IsMounted};
 ghost use Rattle.rbf_access.specs.Reading.{OnVolumeFile};
 ghost use Rattle.rbf_entries.specs.Entries.{MayFill};
-ghost use Rattle.rbf_write.specs.Files.{IsLoaded};
+ghost use Rattle.rbf_write.specs.Files.{IsDescriptorLoaded};
 ghost use Rattle.rbf_entries.specs.Entering.{entry_calls};
 ghost use Rattle.rbf_entries.specs.NewEntry.{MayEnter, AnswersEntry, entry_at};
 
@@ -32,7 +32,7 @@ pub fn enter_file(
     now: TimePacket,
 ) -> Result<(), FileFault>
     requires mounted { IsMounted v.old (media d.old) }
-    requires read { IsLoaded (media d.old) found.now.dir.number found.now.dir }
+    requires read { IsDescriptorLoaded (media d.old) found.now.dir.number found.now.dir }
     requires place { MayEnter (media d.old) found.now.dir.number found.now.place entry.now }
     ensures answer { OnVolumeFile (media d.old) found.now.dir.number (λ on file. AnswersEntry on
         file (entry_at found.now entry.now now) (media d.old) (media d.new) result) }
@@ -56,7 +56,7 @@ fn fill_place(
     entry: &[u8; 32],
 ) -> Result<(), FileFault>
     requires mounted { IsMounted v.old (media d.old) }
-    requires read { IsLoaded (media d.old) found.now.dir.number found.now.dir }
+    requires read { IsDescriptorLoaded (media d.old) found.now.dir.number found.now.dir }
     requires place { MayFill (media d.old) found.now.dir.number found.now.place entry.now }
     ensures answer { (now : TimePacket) → OnVolumeFile (media d.old) found.now.dir.number (λ on
         file. AnswersEntry on file (entry_at found.now entry.now now) (media d.old) (media d.new)

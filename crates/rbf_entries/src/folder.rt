@@ -3,7 +3,7 @@ ghost use Rattle.rbf_model.specs.Volume.{DiskVolume};
 ghost use Rattle.rbf_change.specs.NewFiles.{directory_plan};
 ghost use Rattle.rbf_access.specs.Drive.{Counts};
 ghost use Rattle.rbf_access.specs.Faults.{file_fault};
-ghost use Rattle.rbf_access.specs.Mounted.{IsMounted, Represents};
+ghost use Rattle.rbf_access.specs.Mounted.{IsMounted, RepresentsVolume};
 ghost use Rattle.rbf_entries.specs.FolderMade.{MakesFolder, folder_calls};
 
 use crate::descriptor;
@@ -42,13 +42,13 @@ pub fn create_folder(
 ) -> Result<u32, FileFault>
     requires mounted { IsMounted volume.old (media d.old) }
     requires parent { folder.parent < 16777216 }
-    ensures makes { (v : DiskVolume) → Represents (media d.old) v
+    ensures makes { (v : DiskVolume) → RepresentsVolume (media d.old) v
         → MakesFolder v folder.parent
         (directory_plan folder.attr folder.owner folder.date folder.parent)
         (media d.old) (media d.new) result }
     ensures refused { OnErr result (IsNone (file_fault result) → media d.new ≡ media d.old) }
     ensures mounted { IsMounted volume.new (media d.new) }
-    ensures counts { (v : DiskVolume) → Represents (media d.old) v
+    ensures counts { (v : DiskVolume) → RepresentsVolume (media d.old) v
         → Counts BlockDriver-dyn (file_fault result)
         (folder_calls v (media d.new) result) d.old d.new }
 {

@@ -2,7 +2,7 @@ ghost use Rattle.std.specs.Prelude.{◌≡◌, ℕ, List};
 ghost use Rattle.rbf_model.specs.Volume.{DiskVolume};
 ghost use Rattle.rbf_access.specs.Drive.{Counts};
 ghost use Rattle.rbf_access.specs.Faults.{file_fault};
-ghost use Rattle.rbf_access.specs.Mounted.{IsMounted, Represents};
+ghost use Rattle.rbf_access.specs.Mounted.{IsMounted, RepresentsVolume};
 ghost use Rattle.rbf_access.specs.Reading.{OnVolumeFile};
 ghost use Rattle.rbf_entries.specs.Deletions.{IsDeletable};
 ghost use Rattle.rbf_entries.specs.Deleted.{AnswersDeletionOf, MayBeDeleted, file_deletion_calls};
@@ -29,7 +29,7 @@ pub fn delete_at(
     requires mounted { IsMounted v.old (media d.old) }
     requires found { MayBeDeleted (media d.old) found.now }
     ensures answer { (dir : ℕ) (name : List ℕ) (on : DiskVolume)
-        → IsDeletable (media d.old) dir name found.now → Represents (media d.old) on
+        → IsDeletable (media d.old) dir name found.now → RepresentsVolume (media d.old) on
         → AnswersDeletionOf on dir found.now.descriptor name (media d.old) (media d.new) result }
     ensures mounted { IsMounted v.new (media d.new) }
     ensures counts { OnVolumeFile (media d.old) found.now.descriptor (λ on file.

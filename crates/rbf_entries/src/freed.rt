@@ -3,7 +3,7 @@ ghost use Rattle.os9_outer.specs.Drive.{sector_count};
 ghost use Rattle.rbf_access.specs.Cached.{IsCacheOf};
 ghost use Rattle.rbf_access.specs.Drive.{Counts};
 ghost use Rattle.rbf_access.specs.Faults.{file_fault};
-ghost use Rattle.rbf_access.specs.Mounted.{kept, IsSound};
+ghost use Rattle.rbf_access.specs.Mounted.{mounted_part, IsSoundMedia};
 ghost use Rattle.rbf_entries.specs.Becomes.{with_piece};
 
 use crate::deletion::Deletable;
@@ -25,13 +25,13 @@ pub fn free_entry(
 ) -> Result<(), FileFault>
     requires on { found.now.lsn < sector_count (media d.old) }
     requires cached { IsCacheOf (media d.old) v.old.cache }
-    requires sound { IsSound
+    requires sound { IsSoundMedia
         (with_piece (media d.old) found.now.lsn (32 * (found.now.place % 8)) (0 ∷ [])) }
     ensures written { OnOk result (media d.new
         ≡ with_piece (media d.old) found.now.lsn (32 * (found.now.place % 8)) (0 ∷ [])) }
     ensures media_kept { OnErr result (media d.new ≡ media d.old) }
     ensures device { OnErr result (IsSome (file_fault result)) }
-    ensures volume_kept { kept v.new ≡ kept v.old }
+    ensures volume_kept { mounted_part v.new ≡ mounted_part v.old }
     ensures cached { IsCacheOf (media d.new) v.new.cache }
     ensures counts { Counts BlockDriver-dyn (file_fault result) 2 d.old d.new }
 {

@@ -5,7 +5,7 @@ ghost use Rattle.rbf_access.specs.Mounted.{HasFile, IsMounted};
 ghost use Rattle.rbf_access.specs.Reading.{OnVolumeFile};
 ghost use Rattle.rbf_walk.specs.Walk.{directory_fault};
 ghost use Rattle.rbf_entries.specs.Entering.{AnswersEntering, entering_calls, widened};
-ghost use Rattle.rbf_entries.specs.Places.{IsPlaceFor, place_calls};
+ghost use Rattle.rbf_entries.specs.Places.{IsPlaceForName, place_calls};
 ghost use Rattle.rbf_entries.specs.Asked.{folder_request};
 ghost use Rattle.rbf_entries.specs.FolderMade.{folder_calls};
 
@@ -71,7 +71,7 @@ pub fn make_dir_at(
     file: &NewEntry,
 ) -> Result<u32, FileFault>
     requires mounted { IsMounted v.old (media d.old) }
-    requires place { IsPlaceFor (media d.old) file.now.name found.now }
+    requires place { IsPlaceForName (media d.old) file.now.name found.now }
     requires reading { found.now.by.execute ≡ false }
     ensures answer { OnVolumeFile (media d.old) found.now.dir.number (λ on parent. AnswersEntering
         on parent (folder_request found.now.dir.number file.now.name file.now.attr found.now.by.user

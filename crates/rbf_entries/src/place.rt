@@ -3,7 +3,7 @@ ghost use Rattle.os9_base.specs.Name.{IsName};
 ghost use Rattle.rbf_model.specs.File.{DiskFile};
 ghost use Rattle.rbf_change.specs.Names as model;
 ghost use Rattle.rbf_access.specs.Drive.{Counts};
-ghost use Rattle.rbf_access.specs.Mounted.{kept, HasFile, IsMounted};
+ghost use Rattle.rbf_access.specs.Mounted.{mounted_part, HasFile, IsMounted};
 ghost use Rattle.rbf_access.specs.Reading.{IsFdOf, OnFile};
 ghost use Rattle.rbf_walk.specs.Walk.{directory_fault};
 ghost use Rattle.rbf_entries.specs.Places.{AnswersPlace, IsFoundFor, place_calls, place_found};
@@ -51,7 +51,7 @@ pub fn find_place(
     ensures read { IfOk result (IsFoundFor (media d.old) dir by.user by.execute) }
     ensures mounted { IsMounted v.new (media d.new) }
     ensures media_kept { media d.new ≡ media d.old }
-    ensures volume_kept { kept v.new ≡ kept v.old }
+    ensures volume_kept { mounted_part v.new ≡ mounted_part v.old }
     ensures counts { OnFile (media d.old) dir (λ file. Counts BlockDriver-dyn
         (directory_fault result) (place_calls file name.now by.user by.execute) d.old d.new) }
 {

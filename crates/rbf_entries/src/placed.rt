@@ -4,7 +4,7 @@ ghost use Rattle.rbf_access.specs.Faults.{file_fault};
 ghost use Rattle.rbf_access.specs.Mounted.{IsMounted};
 ghost use Rattle.rbf_access.specs.Reading.{OnVolumeFile};
 ghost use Rattle.rbf_entries.specs.Entering.{AnswersEntering, entering_calls, widened};
-ghost use Rattle.rbf_entries.specs.Places.{IsPlaceFor};
+ghost use Rattle.rbf_entries.specs.Places.{IsPlaceForName};
 ghost use Rattle.rbf_entries.specs.Creating.{request};
 
 use crate::{NewEntry, NewPlace, check_room, create_fd, enter_file, new_entry};
@@ -29,7 +29,7 @@ pub fn create_at(
     file: &NewEntry,
 ) -> Result<u32, FileFault>
     requires mounted { IsMounted v.old (media d.old) }
-    requires place { IsPlaceFor (media d.old) file.now.name found.now }
+    requires place { IsPlaceForName (media d.old) file.now.name found.now }
     requires attributes { file.now.attr < 128 }
     ensures answer { OnVolumeFile (media d.old) found.now.dir.number (λ on dir. AnswersEntering on
         dir (request found.now.dir.number file.now.name file.now.attr found.now.by.user

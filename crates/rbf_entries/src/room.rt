@@ -4,7 +4,7 @@ ghost use Rattle.rbf_model.specs.File.{DiskFile};
 ghost use Rattle.rbf_model.specs.Volume.{DiskVolume, Vol};
 ghost use Rattle.rbf_change.specs.Agrees.{Agrees};
 ghost use Rattle.rbf_change.specs.Growth.{clusters_needed};
-ghost use Rattle.rbf_access.specs.Mounted.{kept};
+ghost use Rattle.rbf_access.specs.Mounted.{mounted_part};
 ghost use Rattle.rbf_access.specs.Reading.{IsFdOf};
 ghost use Rattle.rbf_entries.specs.Rooms.{AnswersRoom};
 
@@ -23,8 +23,9 @@ use rbf_segs::{MAX_SEGMENTS, Segs};
 pub fn check_room(v: &Volume, dir: &Fd, place: u32, clusters: u32) -> Result<(), FileFault>
     requires some { 1 ≤ v.now.ident.cluster }
     requires few { clusters < 65536 }
-    ensures { (image : List ℕ) (on : DiskVolume) (file : DiskFile) → Agrees (kept v.now) image
-        → Vol image on → IsFdOf file dir.now → AnswersRoom on file place clusters result }
+    ensures { (image : List ℕ) (on : DiskVolume) (file : DiskFile)
+        → Agrees (mounted_part v.now) image → Vol image on → IsFdOf file dir.now
+        → AnswersRoom on file place clusters result }
 {
     let more = clusters_for_place(v.ident.cluster, &dir.segs, place);
     if v.free_count() < clusters + more {

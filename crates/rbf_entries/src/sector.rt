@@ -6,7 +6,7 @@ ghost use Rattle.rbf_model.specs.Writes.{put_at};
 ghost use Rattle.rbf_access.specs.Cached.{IsCacheOf};
 ghost use Rattle.rbf_access.specs.Drive.{Counts};
 ghost use Rattle.rbf_access.specs.Faults.{file_fault};
-ghost use Rattle.rbf_access.specs.Mounted.{IsSound, kept};
+ghost use Rattle.rbf_access.specs.Mounted.{IsSoundMedia, mounted_part};
 ghost use Rattle.rbf_entries.specs.Becomes.{with_piece};
 ghost use Rattle.rbf_write.specs.Finished.{IsResized};
 
@@ -27,12 +27,12 @@ pub fn put_entry(
 ) -> Result<(), FileFault>
     requires on { lsn < sector_count (media d.old) }
     requires cached { IsCacheOf (media d.old) v.old.cache }
-    requires sound { IsSound (with_piece (media d.old) lsn (32 * (place % 8)) entry.now) }
+    requires sound { IsSoundMedia (with_piece (media d.old) lsn (32 * (place % 8)) entry.now) }
     ensures written { OnOk result
         (media d.new ≡ with_piece (media d.old) lsn (32 * (place % 8)) entry.now) }
     ensures media_kept { OnErr result (media d.new ≡ media d.old) }
     ensures device { OnErr result (IsSome (file_fault result)) }
-    ensures volume_kept { kept v.new ≡ kept v.old }
+    ensures volume_kept { mounted_part v.new ≡ mounted_part v.old }
     ensures cached { IsCacheOf (media d.new) v.new.cache }
     ensures counts { Counts BlockDriver-dyn (file_fault result) 2 d.old d.new }
 {

@@ -2,7 +2,7 @@
 use Rattle.std.proofs.Common.{◌≡◌, ◌≢◌, ◌⊎◌, ℕ, ◌+◌, ◌-◌, ◌<◌, ◌≤◌, zero, suc, Bool, true, false, ◌==◌, ◌&&◌, List, refl, sym, ap, ◌∙◌, subst, inl, inr, ⊎_elim, min, max, arith, eq-eqb, eqb-true}
 use Rattle.std.specs.Prelude.{nat_lt, if◌then◌else◌}
 use Rattle.std.proofs.lemmas.Bool.{ltb-true, lt-ltb, and_parts, and_from, both_ways, false_from_ne_true, cases_lt, cases_Bool}
-use Rattle.rbf_map.specs.Map.{ClusterMap, mark, MarkedFrom, IsFirstClear, IsFreeInMap, BeginsRun, IsFreeRun}
+use Rattle.rbf_map.specs.Map.{ClusterMap, mark, MarkedFrom, IsFirstClear, IsFreeInMap, BeginsRun, BeginsFreeRun}
 use Rattle.rbf_map.specs.Runs.{is_clear_below, is_clear, AreFree, IsBestRun, BeginsBestRun}
 use Rattle.rbf_map.specs.Search.{IsFirstMarked, IsNextRun, IsAlone, IsLongestWith}
 use Rattle.rbf_map.specs.declared.runs.Run.{Run}
@@ -173,7 +173,7 @@ longest_some free longest d most is = ⊎_elim
     (cases_lt longest 1)
 
 -- its first cluster is free, and begins a run
-pub free_run : (map : ClusterMap) (wanted first n : ℕ) → 1 ≤ n → IsBestRun (is_clear map) wanted first n → IsFreeRun map first
+pub free_run : (map : ClusterMap) (wanted first n : ℕ) → 1 ≤ n → IsBestRun (is_clear map) wanted first n → BeginsFreeRun map first
 free_run map wanted first n some best =
     let here = clear_parts map.bytes map.whole first (best.are_free first (omega arith) (omega arith)) in
     (record { whole = here.0; clear = here.1 }, begins (cases_lt 0 first))

@@ -66,8 +66,8 @@ abbrev pub NextIsUsed : ClusterMap → Option ℕ → Type 0
 NextIsUsed map last = (at : ℕ) → last ≡ Some at → ¬ IsFreeInMap map (at + 1)
 
 -- a free cluster begins a run
-abbrev pub IsFreeRun : ClusterMap → ℕ → Type 0
-IsFreeRun map cluster = IsFreeInMap map cluster × BeginsRun map cluster
+abbrev pub BeginsFreeRun : ClusterMap → ℕ → Type 0
+BeginsFreeRun map cluster = IsFreeInMap map cluster × BeginsRun map cluster
 
 -- the cluster that may be taken after the given one, if one is given: a free one, the next if that is free, otherwise
 -- one that begins a run

@@ -27,5 +27,5 @@ BeginsBestRun free wanted first = (n : ℕ) × IsBestRun free wanted first n
 
 -- the chosen cluster for a file that still needs `wanted` clusters: if the one after its last is not free, the first of
 -- the best run
-abbrev pub IsChosen : ClusterMap → Option ℕ → ℕ → ℕ → Type 0
-IsChosen map last wanted cluster = NextIsUsed map last → BeginsBestRun (is_clear map) wanted cluster
+abbrev pub IsChosenCluster : ClusterMap → Option ℕ → ℕ → ℕ → Type 0
+IsChosenCluster map last wanted cluster = NextIsUsed map last → BeginsBestRun (is_clear map) wanted cluster

@@ -1,7 +1,7 @@
 ghost use Rattle.std.specs.Prelude.{◌≡◌, ◌≢◌, ℕ, ◌+◌, ◌-◌, ◌*◌, ◌/◌, ◌<◌, ◌≤◌, ◌↔◌, ◌==◌, length, IsNone, IfNone, IfSome, IsTrue, MatchOption};
-ghost use Rattle.rbf_map.specs.Runs.{is_clear, is_clear_below, BeginsBestRun, IsChosen};
+ghost use Rattle.rbf_map.specs.Runs.{is_clear, is_clear_below, BeginsBestRun, IsChosenCluster};
 ghost use Rattle.rbf_map.specs.Search.{IsLongestWith};
-ghost use Rattle.rbf_map.specs.Map.{mark, map_free_clusters, IsFreeInMap, BeginsRun, NextIsUsed, IsNextFree, IsFreeRun, NoneIsFree, MayTake, Marks, IsSectorOf};
+ghost use Rattle.rbf_map.specs.Map.{mark, map_free_clusters, IsFreeInMap, BeginsRun, NextIsUsed, IsNextFree, BeginsFreeRun, NoneIsFree, MayTake, Marks, IsSectorOf};
 
 use crate::bits::{clear_mark, count_clear, first_clear, is_marked, set_mark};
 use crate::runs::{best_run, is_alone};
@@ -76,7 +76,7 @@ impl RbfMap {
         requires { 1 ≤ wanted }
         ensures none { IsNone result ↔ NoneIsFree self.old }
         ensures taken { IfSome result (MayTake self.old c) }
-        ensures chosen { IfSome result (IsChosen self.old c wanted) }
+        ensures chosen { IfSome result (IsChosenCluster self.old c wanted) }
         ensures marked { IfSome result (λ cluster. Marks self.old self.new cluster 1) }
         ensures unchanged { IfNone result (self.new ≡ self.old) }
         ensures whole_ones { self.old.whole ≤ self.old.clusters }
@@ -103,7 +103,7 @@ impl RbfMap {
     fn best_run(&mut self, wanted: u32) -> Option<u32>
         requires { 1 ≤ wanted }
         ensures none { IfNone result (NoneIsFree self.old) }
-        ensures found { IfSome result (IsFreeRun self.old) }
+        ensures found { IfSome result (BeginsFreeRun self.old) }
         ensures best { IfSome result (BeginsBestRun (is_clear self.old) wanted) }
         ensures unchanged { self.new ≡ self.old }
     {

@@ -10,9 +10,9 @@ use Rattle.rbf_model.specs.Geometry.{LieWithin, Geometry, IsHeader, IsNumber}
 use Rattle.rbf_model.specs.Segments.{AreDistinct, has}
 use Rattle.rbf_model.specs.File.{DiskFile, file_at, is_directory, is_directory_size, has_room}
 use Rattle.rbf_model.specs.Space.{is_whole, is_marked, owned, has_cluster, IsLost, IsMapped}
-use Rattle.rbf_model.specs.Tree.{EntryNames, Reached, Links, HasNames, HasDifferentNames}
+use Rattle.rbf_model.specs.Tree.{EntryNames, ReachedFile, Links, HasEntryNames, HasDifferentNames}
 use Rattle.rbf_model.specs.Volume.{Sound, IsTree, directories, listing}
-use Rattle.rbf_model.specs.Search.{searchable_bytes, IsReachedOn, IsFound, volume_of}
+use Rattle.rbf_model.specs.Search.{searchable_bytes, IsReachedOn, IsListOfReached, volume_of}
 use Rattle.rbf_model.specs.Keeps.{Keeps}
 use Rattle.rbf_model.proofs.Lists.{some_is, some_of, any_witness, any_from, three_pass, three_parts}
 use Rattle.rbf_model.proofs.Segments.{length-contents}
@@ -22,7 +22,7 @@ use Rattle.rbf_model.proofs.Files.{listing_is}
 use Rattle.rbf_model.proofs.Keeps.{no_entry}
 
 module _ (g : Geometry) (disk : ℕ → List ℕ) (header : IsHeader g) (sectors : IsDisk (disk_of g disk))
-    (keeps : Keeps (disk_of g disk)) (numbers : List ℕ) (found : IsFound (disk_of g disk) numbers) where
+    (keeps : Keeps (disk_of g disk)) (numbers : List ℕ) (found : IsListOfReached (disk_of g disk) numbers) where
   files : ℕ → Option DiskFile
   files n = if has numbers n then Some (file_at disk n) else None
 
@@ -49,10 +49,10 @@ module _ (g : Geometry) (disk : ℕ → List ℕ) (header : IsHeader g) (sectors
   searched_is n r =
       sym (ap listing (file_of n r) ∙ listing_is g disk n (keeps.segments n r) (keeps.room n r) (keeps.sizes n r))
 
-  reached_is : (n : ℕ) → IsReachedOn (disk_of g disk) n → Reached g (directories files) n
+  reached_is : (n : ℕ) → IsReachedOn (disk_of g disk) n → ReachedFile g (directories files) n
   reached_is n r = reached_along g (searchable_bytes (disk_of g disk)) (directories files) searched_is r
 
-  reaches_is : (n : ℕ) → Reached g (directories files) n → IsReachedOn (disk_of g disk) n
+  reaches_is : (n : ℕ) → ReachedFile g (directories files) n → IsReachedOn (disk_of g disk) n
   reaches_is n r = reached_back g (directories files) (searchable_bytes (disk_of g disk)) (λ d h. sym (searched_is d h)) r
 
   -- a directory that names something is reached
@@ -63,10 +63,10 @@ module _ (g : Geometry) (disk : ℕ → List ℕ) (header : IsHeader g) (sectors
       (λ gone. absurd (no_entry (directories files d) i (ap listing (no_file d gone)) names.entry))
       (cases_Bool (has numbers d))
 
-  names_are : (n : ℕ) → HasNames (directories files n)
+  names_are : (n : ℕ) → HasEntryNames (directories files n)
   names_are n =
       ⊎_elim
-      (λ here. let r = (found n).0 here in subst (λ c. HasNames c) (searched_is n r) (keeps.names n r))
+      (λ here. let r = (found n).0 here in subst (λ c. HasEntryNames c) (searched_is n r) (keeps.names n r))
       (λ gone. λ i low entry. absurd (no_entry (directories files n) i (ap listing (no_file n gone)) entry))
       (cases_Bool (has numbers n))
 

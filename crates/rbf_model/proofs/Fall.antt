@@ -5,7 +5,7 @@ use Rattle.std.proofs.lemmas.Option.{same_Some}
 use Rattle.rbf_model.specs.Fields.{directory_entry, entry_name_field, descriptor_field}
 use Rattle.rbf_model.specs.Geometry.{Geometry}
 use Rattle.rbf_model.specs.File.{DiskFile, is_directory, is_directory_size}
-use Rattle.rbf_model.specs.Tree.{dot, dot_dot, HasEntry, EntryNames, Reached, root, named, Links, IsEntry, IsParent, of_root, of_other, HasDots, self_first, parent_first, HasNames, HasDifferentNames}
+use Rattle.rbf_model.specs.Tree.{dot, dot_dot, HasEntry, EntryNames, ReachedFile, root, named, Links, IsEntry, IsParent, of_root, of_other, HasDots, self_first, parent_first, HasEntryNames, HasDifferentNames}
 use Rattle.rbf_model.specs.Volume.{IsTree, directories, listing}
 use Rattle.rbf_model.proofs.Pieces.{ChangesEntry}
 use Rattle.rbf_model.specs.Writes.{put_file}
@@ -88,7 +88,7 @@ module _ (g : Geometry) (files : ℕ → Option DiskFile) (tree : IsTree g files
   root_not_n same = tree.root_free d i (subst (EntryNames (directories files d) i) same named_here)
 
   -- no path leads through it
-  stays : {m : ℕ} → Reached g (directories files) m → m ≢ n → Reached g (directories news) m
+  stays : {m : ℕ} → ReachedFile g (directories files) m → m ≢ n → ReachedFile g (directories news) m
   stays root other = root
   stays (named {d = e} {i = j} {n = m} r names number) other =
       named (stays r (λ same. no_entry (directories files e) j (ap (directories files) same ∙ was_here) names.entry)) (keep e j m names other) number
@@ -104,12 +104,12 @@ module _ (g : Geometry) (files : ℕ → Option DiskFile) (tree : IsTree g files
   some_not_n : (m : ℕ) → IsSome (news m) → m ≢ n
   some_not_n m some same = false≢true (subst IsSome (ap news same ∙ file_gone) some)
 
-  reached_some : {m : ℕ} → Reached g (directories news) m → IsSome (news m)
+  reached_some : {m : ℕ} → ReachedFile g (directories news) m → IsSome (news m)
   reached_some root = some_after g.root (λ same. root_not_n (sym same)) ((tree.reached g.root).1 root)
   reached_some (named {d = e} {i = j} {n = m} r names num) =
       some_after m (λ same. not_named e j (subst (EntryNames (directories news e) j) same names)) (names_to g files tree e j m (only e j m names).0)
 
-  reached_after : (m : ℕ) → IsSome (news m) → Reached g (directories news) m
+  reached_after : (m : ℕ) → IsSome (news m) → ReachedFile g (directories news) m
   reached_after m some = let not_n = some_not_n m some in stays ((tree.reached m).0 (some_before m not_n some)) not_n
 
   link_stays : (p j m : ℕ) → m ≢ n → Links g (directories files) p j m → Links g (directories news) p j m
@@ -149,10 +149,10 @@ module _ (g : Geometry) (files : ℕ → Option DiskFile) (tree : IsTree g files
   not_gone : (j : ℕ) → HasEntry dir.contents j → j ≢ i
   not_gone j has same = gone (subst (HasEntry dir.contents) same has)
 
-  names_above : HasNames dir.contents
+  names_above : HasEntryNames dir.contents
   names_above j low has =
       let differ = not_gone j has in
-      let w = subst HasNames was_above (tree.names d) j low (entry_back old.contents dir.contents i j change differ has) in
+      let w = subst HasEntryNames was_above (tree.names d) j low (entry_back old.contents dir.contents i j change differ has) in
       (w.0, ap entry_name_field (change.beside j differ) ∙ w.1, w.2)
 
   different_above : HasDifferentNames dir.contents
@@ -182,8 +182,8 @@ module _ (g : Geometry) (files : ℕ → Option DiskFile) (tree : IsTree g files
     names = λ m.
         by_place n d m
         (λ here. λ j low has. absurd (no_entry (directories news m) j (ap (directories news) here ∙ is_here) has))
-        (λ above. subst HasNames (sym (ap (directories news) above ∙ is_above)) names_above)
-        (λ not_n not_d. subst HasNames (sym (is_beside m not_n not_d)) (tree.names m));
+        (λ above. subst HasEntryNames (sym (ap (directories news) above ∙ is_above)) names_above)
+        (λ not_n not_d. subst HasEntryNames (sym (is_beside m not_n not_d)) (tree.names m));
     different = λ m.
         by_place n d m
         (λ here. λ j k one other low low2 has has2 a b same. absurd (no_entry (directories news m) j (ap (directories news) here ∙ is_here) has))

@@ -5,7 +5,7 @@ use Rattle.rbf_model.specs.Geometry.{image_geometry, sector}
 use Rattle.rbf_model.specs.File.{DiskFile, file_from, file_at}
 use Rattle.rbf_model.specs.Volume.{DiskVolume, Vol}
 use Rattle.rbf_model.specs.Writes.{put_sector, with_file, with_file_in_place, with_lost}
-use Rattle.rbf_model.specs.Laws.{IsMapSector, TakesClusters, FreesClusters, IsFileSector, IsUnseen, Overwrites, with_sector_bytes, Redescribes, AddsEntry, AppendsEntry, RemovesEntry, with_directory_entry}
+use Rattle.rbf_model.specs.Laws.{IsMapSector, MarksFreeClusters, FreesClusters, IsFileSector, IsUnseen, Overwrites, with_sector_bytes, Redescribes, AddsEntry, AppendsEntry, RemovesEntry, with_directory_entry}
 use Rattle.rbf_model.proofs.Free.{number_below}
 use Rattle.rbf_model.proofs.Owners.{own_below}
 use Rattle.rbf_model.proofs.Map.{takes_law, frees_law}
@@ -20,7 +20,7 @@ module _ (image : List ℕ) (v : DiskVolume) (vol : Vol image v) where
   map_below : (s : ℕ) → IsMapSector (image_geometry image) s → s < (image_geometry image).total
   map_below s map = let within = map.within in let fits = vol.sound.shape.map.fits in omega arith
 
-  pub takes_image : (s : ℕ) (bytes : List ℕ) (taken : ℕ → Bool) → length bytes ≡ 256 → TakesClusters (disk_of (image_geometry image) (sector image)) v s bytes taken
+  pub takes_image : (s : ℕ) (bytes : List ℕ) (taken : ℕ → Bool) → length bytes ≡ 256 → MarksFreeClusters (disk_of (image_geometry image) (sector image)) v s bytes taken
       → Vol (put_sector image s bytes) (with_lost v (λ c. v.lost c || taken c))
   takes_image s bytes taken whole takes =
       vol_put image v _ s bytes vol takes.map.after (map_below s takes.map) whole (takes_law (image_geometry image) (sector image) v vol.sound s bytes whole taken takes) refl

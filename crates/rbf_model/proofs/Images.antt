@@ -6,7 +6,7 @@ use Rattle.rbf_model.specs.Geometry.{geometry, sector, HasHeader}
 use Rattle.rbf_model.specs.Volume.{DiskVolume, Vol}
 use Rattle.rbf_model.specs.Faults.{ImageBreaks, bad_header, breaks}
 use Rattle.rbf_model.specs.Keeps.{Keeps}
-use Rattle.rbf_model.specs.Search.{IsFound, image_volume}
+use Rattle.rbf_model.specs.Search.{IsListOfReached, image_volume}
 use Rattle.rbf_model.proofs.Keeps.{keeps_from_sound}
 use Rattle.rbf_model.proofs.Built.{sound_from_keeps}
 use Rattle.rbf_model.proofs.Breaks.{no_breach}
@@ -24,7 +24,7 @@ is_disk image h n below =
 
 -- where no rule is broken the image stands for a volume
 pub vol_from_keeps : (image : List ℕ) → HasHeader image → Keeps (disk_of (geometry (sector image 0)) (sector image)) → (numbers : List ℕ)
-    → IsFound (disk_of (geometry (sector image 0)) (sector image)) numbers → Vol image (image_volume image numbers)
+    → IsListOfReached (disk_of (geometry (sector image 0)) (sector image)) numbers → Vol image (image_volume image numbers)
 vol_from_keeps image h keeps numbers found = record {
   header = h;
   sound = sound_from_keeps (geometry (sector image 0)) (sector image) h.header (is_disk image h) keeps numbers found _;

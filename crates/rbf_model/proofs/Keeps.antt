@@ -5,7 +5,7 @@ use Rattle.std.proofs.lemmas.Bool.{cond-false, cases_Bool}
 use Rattle.rbf_model.specs.Fields.{size_field, segments_field, directory_entry, descriptor_field}
 use Rattle.rbf_model.specs.Geometry.{LieWithin, Geometry, IsHeader, IsNumber}
 use Rattle.rbf_model.specs.File.{DiskFile, file_at, is_directory, is_directory_size, has_room}
-use Rattle.rbf_model.specs.Tree.{HasEntry, EntryNames, Reached, root, named, Links, IsParent, of_root, of_other, HasDots, self_first, parent_first, HasNames, HasDifferentNames}
+use Rattle.rbf_model.specs.Tree.{HasEntry, EntryNames, ReachedFile, root, named, Links, IsParent, of_root, of_other, HasDots, self_first, parent_first, HasEntryNames, HasDifferentNames}
 use Rattle.rbf_model.specs.Volume.{DiskVolume, Sound, directories, listing}
 use Rattle.rbf_model.specs.Search.{searchable_bytes, IsReachedOn}
 use Rattle.rbf_model.specs.Keeps.{Keeps}
@@ -16,7 +16,7 @@ use Rattle.rbf_model.proofs.Tree.{reached_along, reached_back, dots_along}
 use Rattle.rbf_model.proofs.Files.{listing_is}
 
 -- what is reached is a number of the volume
-pub number_of_reached : (g : Geometry) (dirs : ℕ → List ℕ) → IsHeader g → {n : ℕ} → Reached g dirs n → IsNumber g n
+pub number_of_reached : (g : Geometry) (dirs : ℕ → List ℕ) → IsHeader g → {n : ℕ} → ReachedFile g dirs n → IsNumber g n
 number_of_reached g dirs header root = record { after = header.root_after; below = header.root_below }
 number_of_reached g dirs header (named r names number) = number
 
@@ -26,7 +26,7 @@ number_of_parent g dirs header d p (of_root a b) = subst (IsNumber g) (sym b) (r
 number_of_parent g dirs header d p (of_other a link) = number_of_reached g dirs header link.from
 
 -- the first two entries name numbers of the volume
-number_of_dots : (g : Geometry) (dirs : ℕ → List ℕ) → IsHeader g → (d : ℕ) → Reached g dirs d → HasDots g dirs d
+number_of_dots : (g : Geometry) (dirs : ℕ → List ℕ) → IsHeader g → (d : ℕ) → ReachedFile g dirs d → HasDots g dirs d
     → IsNumber g (descriptor_field (directory_entry (dirs d) 0)) × IsNumber g (descriptor_field (directory_entry (dirs d) 1))
 number_of_dots g dirs header d r (self_first {p = p} one two parent) =
     (subst (IsNumber g) (sym one.descriptor) (number_of_reached g dirs header r), subst (IsNumber g) (sym two.descriptor) (number_of_parent g dirs header d p parent))
@@ -62,7 +62,7 @@ module _ (g : Geometry) (disk : ℕ → List ℕ) (v : DiskVolume) (sound : Soun
       let w = some_of (v.files n) some in
       ap listing (file_is n w.0 w.1) ∙ listing_is g disk n (segments_are n w.0 w.1) (room_is n w.0 w.1) (directory_size n w.0 w.1)
 
-  pub reached_is : (n : ℕ) → Reached g (directories v.files) n → directories v.files n ≡ searchable_bytes (disk_of g disk) n
+  pub reached_is : (n : ℕ) → ReachedFile g (directories v.files) n → directories v.files n ≡ searchable_bytes (disk_of g disk) n
   reached_is n r = searched_is n ((sound.tree.reached n).1 r)
 
   -- the files are those that are reached on the disk
@@ -113,7 +113,7 @@ module _ (g : Geometry) (disk : ℕ → List ℕ) (v : DiskVolume) (sound : Soun
     root = sound.tree.root (file_at disk g.root) (file_of g.root root);
     sizes = λ n r. directory_size n (file_at disk n) (file_of n r);
     dots = dots_are;
-    names = λ d r. subst (λ c. HasNames c) (searched_is d ((found d).1 r)) (sound.tree.names d);
+    names = λ d r. subst (λ c. HasEntryNames c) (searched_is d ((found d).1 r)) (sound.tree.names d);
     different = λ d r. subst (λ c. HasDifferentNames c) (searched_is d ((found d).1 r)) (sound.tree.different d);
     named_once = λ d e i j n one other. sound.tree.once d e i j n (links_are d i n one) (links_are e j n other);
     root_free = λ d i link. sound.tree.root_free d i (links_are d i g.root link);

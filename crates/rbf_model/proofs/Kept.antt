@@ -5,7 +5,7 @@ use Rattle.std.proofs.lemmas.Bool.{cases_eq}
 use Rattle.std.proofs.lemmas.Option.{same_Some}
 use Rattle.rbf_model.specs.Geometry.{Geometry}
 use Rattle.rbf_model.specs.File.{DiskFile, is_directory, is_directory_size}
-use Rattle.rbf_model.specs.Tree.{EntryNames, Reached, HasDots, HasNames, HasDifferentNames}
+use Rattle.rbf_model.specs.Tree.{EntryNames, ReachedFile, HasDots, HasEntryNames, HasDifferentNames}
 use Rattle.rbf_model.specs.Volume.{IsTree, directories, listing}
 use Rattle.rbf_model.specs.Writes.{put_file}
 use Rattle.rbf_model.proofs.Lists.{some_is, some_of}
@@ -52,8 +52,8 @@ module _ (g : Geometry) (files : ℕ → Option DiskFile) (tree : IsTree g files
   unfolding news
   tree_kept = record {
     reached = λ m. (
-      λ some. subst (λ dirs. Reached g dirs m) (sym lists) ((tree.reached m).0 (some_before m some)),
-      λ r. some_after m ((tree.reached m).1 (subst (λ dirs. Reached g dirs m) lists r)),
+      λ some. subst (λ dirs. ReachedFile g dirs m) (sym lists) ((tree.reached m).0 (some_before m some)),
+      λ r. some_after m ((tree.reached m).1 (subst (λ dirs. ReachedFile g dirs m) lists r)),
     );
     root = λ one h. let u = was g.root one h in u.2 ∙ tree.root u.0 u.1;
     sizes = λ m one h is_dir.
@@ -65,7 +65,7 @@ module _ (g : Geometry) (files : ℕ → Option DiskFile) (tree : IsTree g files
     dots = λ m one h is_dir.
         let u = was m one h in
         subst (λ dirs. HasDots g dirs m) (sym lists) (tree.dots m u.0 u.1 (sym u.2 ∙ is_dir));
-    names = λ m. subst (λ (dirs : ℕ → List ℕ). HasNames (dirs m)) (sym lists) (tree.names m);
+    names = λ m. subst (λ (dirs : ℕ → List ℕ). HasEntryNames (dirs m)) (sym lists) (tree.names m);
     different = λ m. subst (λ (dirs : ℕ → List ℕ). HasDifferentNames (dirs m)) (sym lists) (tree.different m);
     once = λ e k j l m one other. tree.once e k j l m (back e j m one) (back k l m other);
     root_free = λ e j names. tree.root_free e j (back e j g.root names);

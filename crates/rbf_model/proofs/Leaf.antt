@@ -6,7 +6,7 @@ use Rattle.os9_base.specs.Name.{SameName}
 use Rattle.rbf_model.specs.Fields.{directory_entry, entry_name_field, descriptor_field}
 use Rattle.rbf_model.specs.Geometry.{Geometry, IsNumber}
 use Rattle.rbf_model.specs.File.{DiskFile, is_directory, is_directory_size}
-use Rattle.rbf_model.specs.Tree.{dot, dot_dot, HasEntry, EntryNames, Reached, root, named, Links, IsEntry, IsParent, of_root, of_other, HasDots, self_first, parent_first, HasNames, HasDifferentNames}
+use Rattle.rbf_model.specs.Tree.{dot, dot_dot, HasEntry, EntryNames, ReachedFile, root, named, Links, IsEntry, IsParent, of_root, of_other, HasDots, self_first, parent_first, HasEntryNames, HasDifferentNames}
 use Rattle.rbf_model.specs.Volume.{IsTree, directories, listing}
 use Rattle.rbf_model.proofs.Pieces.{ChangesEntry}
 use Rattle.rbf_model.specs.Writes.{put_file, IsNewDirectory, IsNewEntry}
@@ -17,7 +17,7 @@ use Rattle.rbf_model.proofs.Change.{put_file_here, put_file_beside}
 use Rattle.rbf_model.proofs.Entries.{entry_back, names_kept, names_back, listing_directory, no_third_entry}
 
 -- every name that was there leads on
-pub reached_grows : (g : Geometry) (dirs news : ℕ → List ℕ) → ((d i n : ℕ) → EntryNames (dirs d) i n → EntryNames (news d) i n) → {n : ℕ} → Reached g dirs n → Reached g news n
+pub reached_grows : (g : Geometry) (dirs news : ℕ → List ℕ) → ((d i n : ℕ) → EntryNames (dirs d) i n → EntryNames (news d) i n) → {n : ℕ} → ReachedFile g dirs n → ReachedFile g news n
 reached_grows g dirs news keep root = root
 reached_grows g dirs news keep (named {d = d} {i = i} {n = n} r names number) = named (reached_grows g dirs news keep r) (keep d i n names) number
 
@@ -89,13 +89,13 @@ module _ (g : Geometry) (files : ℕ → Option DiskFile) (tree : IsTree g files
       (cases_eq j i))
       (λ not_n not_d. inl (subst (λ c. EntryNames c j m) (is_beside e not_n not_d) names))
 
-  grows : {m : ℕ} → Reached g (directories files) m → Reached g (directories news) m
+  grows : {m : ℕ} → ReachedFile g (directories files) m → ReachedFile g (directories news) m
   grows r = reached_grows g (directories files) (directories news) keep r
 
-  above_reached : Reached g (directories news) d
+  above_reached : ReachedFile g (directories news) d
   above_reached = grows ((tree.reached d).0 (some_is (files d) old is))
 
-  here_reached : Reached g (directories news) n
+  here_reached : ReachedFile g (directories news) n
   here_reached = named above_reached fresh number
 
   some_before : (m : ℕ) → m ≢ n → IsSome (news m) → IsSome (files m)
@@ -109,7 +109,7 @@ module _ (g : Geometry) (files : ℕ → Option DiskFile) (tree : IsTree g files
       (λ above. some_is (news m) dir (ap news above ∙ file_above))
       (λ not_n not_d. subst IsSome (sym (file_beside m not_n not_d)) some)
 
-  reached_some : {m : ℕ} → Reached g (directories news) m → IsSome (news m)
+  reached_some : {m : ℕ} → ReachedFile g (directories news) m → IsSome (news m)
   reached_some root = some_after g.root ((tree.reached g.root).1 root)
   reached_some (named {d = e} {i = j} {n = m} r names num) =
       ⊎_elim (λ was. some_after m (names_to g files tree e j m was)) (λ is_new. some_is (news m) file (ap news is_new.2 ∙ file_here)) (only e j m names)
@@ -159,21 +159,21 @@ module _ (g : Geometry) (files : ℕ → Option DiskFile) (tree : IsTree g files
       let lists = is_beside m not_n not_d in
       dots_grow m (ap (λ c. directory_entry c 0) lists) (ap (λ c. directory_entry c 1) lists) (tree.dots m one (sym (file_beside m not_n not_d) ∙ h) is_dir))
 
-  names_above : HasNames dir.contents
+  names_above : HasEntryNames dir.contents
   names_above j low has =
       ⊎_elim
       (λ same. (new.name, ap (λ k. entry_name_field (directory_entry dir.contents k)) same ∙ new.is.name_is, new.proper))
       (λ differ.
-      let w = subst HasNames was_above (tree.names d) j low (entry_back old.contents dir.contents i j change differ has) in
+      let w = subst HasEntryNames was_above (tree.names d) j low (entry_back old.contents dir.contents i j change differ has) in
       (w.0, ap entry_name_field (change.beside j differ) ∙ w.1, w.2))
       (cases_eq j i)
 
-  names_after : (m : ℕ) → HasNames (directories news m)
+  names_after : (m : ℕ) → HasEntryNames (directories news m)
   names_after m =
       by_place n d m
       (λ here. λ j low has. absurd (no_third_entry file n d j made low (subst (λ c. HasEntry c j) (ap (directories news) here ∙ is_here) has)))
-      (λ above. subst HasNames (sym (ap (directories news) above ∙ is_above)) names_above)
-      (λ not_n not_d. subst HasNames (sym (is_beside m not_n not_d)) (tree.names m))
+      (λ above. subst HasEntryNames (sym (ap (directories news) above ∙ is_above)) names_above)
+      (λ not_n not_d. subst HasEntryNames (sym (is_beside m not_n not_d)) (tree.names m))
 
   fresh_differs : (k : ℕ) (one other : List ℕ) → k ≢ i → 2 ≤ k → HasEntry dir.contents k
       → entry_name_field (directory_entry dir.contents i) ≡ Some one → entry_name_field (directory_entry dir.contents
@@ -242,7 +242,7 @@ module _ (g : Geometry) (files : ℕ → Option DiskFile) (tree : IsTree g files
   unfolding news
   tree_with_leaf = record {
     reached = λ m. (
-      λ some. ⊎_elim (λ here. subst (Reached g (directories news)) (sym here) here_reached) (λ not_n. grows ((tree.reached m).0 (some_before m not_n some))) (cases_eq m n),
+      λ some. ⊎_elim (λ here. subst (ReachedFile g (directories news)) (sym here) here_reached) (λ not_n. grows ((tree.reached m).0 (some_before m not_n some))) (cases_eq m n),
       λ r. reached_some r,
     );
     root = root_after;

@@ -8,7 +8,7 @@ use Rattle.rbf_model.specs.File.{DiskFile}
 use Rattle.rbf_model.specs.Space.{is_marked, own_sectors, has_cluster, IsMapped}
 use Rattle.rbf_model.specs.Volume.{DiskVolume, Sound}
 use Rattle.rbf_model.specs.Writes.{put, with_lost}
-use Rattle.rbf_model.specs.Laws.{IsMapSector, TakesClusters, FreesClusters}
+use Rattle.rbf_model.specs.Laws.{IsMapSector, MarksFreeClusters, FreesClusters}
 use Rattle.rbf_model.proofs.Segments.{has_range}
 use Rattle.rbf_model.proofs.Free.{free_parts}
 use Rattle.rbf_model.proofs.Owners.{own_not_system, file_cluster_below, whole_below}
@@ -38,7 +38,7 @@ module _ (g : Geometry) (disk : ℕ → List ℕ) (v : DiskVolume) (sound : Soun
   }
 
   -- free clusters that are marked are lost
-  pub takes_law : (taken : ℕ → Bool) → TakesClusters (disk_of g disk) v s bytes taken → Sound (disk_of g (put disk s bytes)) (with_lost v (λ c. v.lost c || taken c))
+  pub takes_law : (taken : ℕ → Bool) → MarksFreeClusters (disk_of g disk) v s bytes taken → Sound (disk_of g (put disk s bytes)) (with_lost v (λ c. v.lost c || taken c))
   takes_law taken takes = map_write takes.map (λ c. v.lost c || taken c) (record {
     within = sound.mapped.within;
     marks = λ n file c is used.

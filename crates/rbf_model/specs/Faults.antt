@@ -5,7 +5,7 @@ use Rattle.rbf_model.specs.Geometry.{HasMap, HasHeader, IsNumber, is_within}
 use Rattle.rbf_model.specs.Disk.{Disk, image_disk}
 use Rattle.rbf_model.specs.File.{file_at, is_directory, is_directory_size, has_room}
 use Rattle.rbf_model.specs.Space.{is_marked, owned, owns, has_cluster}
-use Rattle.rbf_model.specs.Tree.{HasEntry, Links, HasDots, HasNames, HasDifferentNames}
+use Rattle.rbf_model.specs.Tree.{HasEntry, Links, HasDots, HasEntryNames, HasDifferentNames}
 use Rattle.rbf_model.specs.Search.{searchable_bytes, IsReachedOn}
 
 -- a breach of a rule, by its number, at a sector
@@ -41,7 +41,7 @@ pub data Breaks (disk : Disk) : ℕ → ℕ → Type 0 where
   no_dots : {n : ℕ} → IsReachedOn disk n → is_directory (file_at disk.sectors n) ≡ true
       → ¬ HasDots disk.geometry (searchable_bytes disk) n → Breaks disk 7 n
   -- rule 8: every other used entry has a proper name
-  bad_name : {d : ℕ} → IsReachedOn disk d → ¬ HasNames (searchable_bytes disk d) → Breaks disk 8 d
+  bad_name : {d : ℕ} → IsReachedOn disk d → ¬ HasEntryNames (searchable_bytes disk d) → Breaks disk 8 d
   -- rule 8: no two of them have the same name
   same_name : {d : ℕ} → IsReachedOn disk d → ¬ HasDifferentNames (searchable_bytes disk d) → Breaks disk 8 d
   -- rule 9: a reached descriptor is named once, and the root's never

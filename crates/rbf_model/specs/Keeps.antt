@@ -6,7 +6,7 @@ use Rattle.rbf_model.specs.Disk.{Disk}
 use Rattle.rbf_model.specs.Segments.{AreDistinct}
 use Rattle.rbf_model.specs.File.{file_at, is_directory, is_directory_size, has_room}
 use Rattle.rbf_model.specs.Space.{is_marked, owned, owns, has_cluster}
-use Rattle.rbf_model.specs.Tree.{HasEntry, Links, HasDots, HasNames, HasDifferentNames}
+use Rattle.rbf_model.specs.Tree.{HasEntry, Links, HasDots, HasEntryNames, HasDifferentNames}
 use Rattle.rbf_model.specs.Search.{searchable_bytes, IsReachedOn}
 
 pub record Keeps (disk : Disk) : Type 0 where
@@ -35,7 +35,7 @@ pub record Keeps (disk : Disk) : Type 0 where
   pub dots : (n : ℕ) → IsReachedOn disk n → is_directory (file_at disk.sectors n) ≡ true
       → HasDots disk.geometry (searchable_bytes disk) n
   -- rule 8
-  pub names : (d : ℕ) → IsReachedOn disk d → HasNames (searchable_bytes disk d)
+  pub names : (d : ℕ) → IsReachedOn disk d → HasEntryNames (searchable_bytes disk d)
   pub different : (d : ℕ) → IsReachedOn disk d → HasDifferentNames (searchable_bytes disk d)
   -- rule 9
   pub named_once : (d e i j n : ℕ) → Links disk.geometry (searchable_bytes disk) d i n

@@ -16,7 +16,7 @@ pub record IsMapSector (g : Geometry) (s : ℕ) : Type 0 where
   pub within : s ≤ map_sectors g
 
 -- a write to the map that marks these free clusters, and changes no other mark
-pub record TakesClusters (disk : Disk) (v : DiskVolume) (s : ℕ) (bytes : List ℕ) (taken : ℕ → Bool) : Type 0 where
+pub record MarksFreeClusters (disk : Disk) (v : DiskVolume) (s : ℕ) (bytes : List ℕ) (taken : ℕ → Bool) : Type 0 where
   pub map : IsMapSector disk.geometry s
   pub free : (c : ℕ) → taken c ≡ true → is_free disk.geometry v c ≡ true
   pub marks : (c : ℕ) → c * disk.geometry.cluster < disk.geometry.total

@@ -7,7 +7,7 @@ use Rattle.rbf_model.specs.Disk.{Disk, image_disk}
 use Rattle.rbf_model.specs.Segments.{has}
 use Rattle.rbf_model.specs.File.{file_at, is_directory, is_directory_size, has_room}
 use Rattle.rbf_model.specs.Space.{is_whole, is_marked, has_cluster}
-use Rattle.rbf_model.specs.Tree.{Reached}
+use Rattle.rbf_model.specs.Tree.{ReachedFile}
 use Rattle.rbf_model.specs.Volume.{DiskVolume}
 
 -- a searchable directory: its segments are within the volume and hold its size, which is a directory's
@@ -23,11 +23,11 @@ searchable_bytes disk n = if is_searchable disk n then (file_at disk.sectors n).
 
 -- the descriptors that are reached on a disk
 abbrev pub IsReachedOn : Disk → ℕ → Type 0
-IsReachedOn disk n = Reached disk.geometry (searchable_bytes disk) n
+IsReachedOn disk n = ReachedFile disk.geometry (searchable_bytes disk) n
 
 -- the list has the reached descriptors, and no others
-abbrev pub IsFound : Disk → List ℕ → Type 0
-IsFound disk found = (n : ℕ) → (has found n ≡ true) ↔ IsReachedOn disk n
+abbrev pub IsListOfReached : Disk → List ℕ → Type 0
+IsListOfReached disk found = (n : ℕ) → (has found n ≡ true) ↔ IsReachedOn disk n
 
 -- the volume of a disk with these reached descriptors, and with these bytes past the total
 abbrev pub volume_of : Disk → List ℕ → List ℕ → DiskVolume

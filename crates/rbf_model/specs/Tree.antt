@@ -24,13 +24,13 @@ pub record EntryNames (contents : List ℕ) (i n : ℕ) : Type 0 where
   pub descriptor : descriptor_field (directory_entry contents i) ≡ n
 
 -- the reached files: the root, and each number of the volume that a reached directory names
-pub data Reached (g : Geometry) (dirs : ℕ → List ℕ) : ℕ → Type 0 where
-  root : Reached g dirs g.root
-  named : {d i n : ℕ} → Reached g dirs d → EntryNames (dirs d) i n → IsNumber g n → Reached g dirs n
+pub data ReachedFile (g : Geometry) (dirs : ℕ → List ℕ) : ℕ → Type 0 where
+  root : ReachedFile g dirs g.root
+  named : {d i n : ℕ} → ReachedFile g dirs d → EntryNames (dirs d) i n → IsNumber g n → ReachedFile g dirs n
 
 -- a reached directory names n
 pub record Links (g : Geometry) (dirs : ℕ → List ℕ) (d i n : ℕ) : Type 0 where
-  pub from : Reached g dirs d
+  pub from : ReachedFile g dirs d
   pub names : EntryNames (dirs d) i n
 
 -- the entry has this name and this descriptor
@@ -58,8 +58,8 @@ pub record IsProper (name : List ℕ) : Type 0 where
   pub not_parent : name ≢ dot_dot
 
 -- every used entry after the first two has a name
-abbrev pub HasNames : List ℕ → Type 0
-HasNames contents =
+abbrev pub HasEntryNames : List ℕ → Type 0
+HasEntryNames contents =
     (i : ℕ) → 2 ≤ i → HasEntry contents i
     → (name : List ℕ) × (entry_name_field (directory_entry contents i) ≡ Some name) × IsProper name
 

@@ -6,7 +6,7 @@ use Rattle.rbf_model.specs.Geometry.{Geometry, image_geometry, IsGeometry, IsNum
 use Rattle.rbf_model.specs.Disk.{Disk, image_disk, IsDisk}
 use Rattle.rbf_model.specs.File.{DiskFile, file_at, is_directory, is_directory_size, has_room}
 use Rattle.rbf_model.specs.Space.{IsMapped, is_marked, is_whole, has_cluster, cluster_count}
-use Rattle.rbf_model.specs.Tree.{EntryNames, Reached, HasDots, HasNames, HasDifferentNames}
+use Rattle.rbf_model.specs.Tree.{EntryNames, ReachedFile, HasDots, HasEntryNames, HasDifferentNames}
 
 -- a volume: the bytes of sector 0, the file of each descriptor number, whether each cluster is lost, and the bytes past
 -- the total
@@ -35,7 +35,7 @@ pub record Shows (sectors : ℕ → List ℕ) (v : DiskVolume) : Type 0 where
 -- entry, and the directories are in order.
 pub record IsTree (g : Geometry) (files : ℕ → Option DiskFile) : Type 0 where
   -- the files are the reached ones
-  pub reached : (n : ℕ) → IsSome (files n) ↔ Reached g (directories files) n
+  pub reached : (n : ℕ) → IsSome (files n) ↔ ReachedFile g (directories files) n
   -- rule 6
   pub root : (file : DiskFile) → files g.root ≡ Some file → is_directory file ≡ true
   pub sizes : (n : ℕ) (file : DiskFile) → files n ≡ Some file → is_directory file ≡ true
@@ -46,7 +46,7 @@ pub record IsTree (g : Geometry) (files : ℕ → Option DiskFile) : Type 0 wher
   pub dots : (n : ℕ) (file : DiskFile) → files n ≡ Some file → is_directory file ≡ true
       → HasDots g (directories files) n
   -- rule 8
-  pub names : (n : ℕ) → HasNames (directories files n)
+  pub names : (n : ℕ) → HasEntryNames (directories files n)
   pub different : (n : ℕ) → HasDifferentNames (directories files n)
   -- rule 9
   pub once : (d e i j n : ℕ) → EntryNames (directories files d) i n → EntryNames (directories files e) j n

@@ -9,7 +9,7 @@ ghost use Rattle.rbf_model.specs.Volume.{DiskVolume, Vol, free_clusters};
 ghost use Rattle.rbf_model.specs.Walk.{arrives, walk};
 ghost use Rattle.rbf_model.specs.Faults.{ImageBreaks};
 ghost use Rattle.rbf_model.specs.Keeps.{Keeps};
-ghost use Rattle.rbf_model.specs.Search.{IsFound, image_volume};
+ghost use Rattle.rbf_model.specs.Search.{IsListOfReached, image_volume};
 
 /// An image represents at most one volume.
 pub fn one_volume()
@@ -26,7 +26,7 @@ pub fn no_rule_is_broken()
 pub fn rules_suffice()
     ensures { (image numbers : List ℕ) → HasHeader image
         → Keeps (image_disk image)
-        → IsFound (image_disk image) numbers
+        → IsListOfReached (image_disk image) numbers
         → Vol image (image_volume image numbers) }
 {}
 

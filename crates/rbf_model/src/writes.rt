@@ -8,13 +8,13 @@ ghost use Rattle.rbf_model.specs.Disk.{image_disk};
 ghost use Rattle.rbf_model.specs.File.{DiskFile, file_from, file_at};
 ghost use Rattle.rbf_model.specs.Volume.{DiskVolume, Vol};
 ghost use Rattle.rbf_model.specs.Writes.{put_sector, with_file, with_file_in_place, with_lost};
-ghost use Rattle.rbf_model.specs.Laws.{TakesClusters, FreesClusters, IsUnseen, Overwrites, with_sector_bytes, Redescribes, DirectoryEntry, SectorWrite, AddsEntry, AppendsEntry, RemovesEntry, with_entry_put};
+ghost use Rattle.rbf_model.specs.Laws.{MarksFreeClusters, FreesClusters, IsUnseen, Overwrites, with_sector_bytes, Redescribes, DirectoryEntry, SectorWrite, AddsEntry, AppendsEntry, RemovesEntry, with_entry_put};
 
 /// Free clusters that are marked in one sector of the map are lost.
 pub fn marked_clusters_are_lost()
     ensures { (image : List ℕ) (v : DiskVolume) (s : ℕ) (bytes : List ℕ) (taken : ℕ → Bool) →
         Vol image v → length bytes ≡ 256
-        → TakesClusters (image_disk image) v s bytes taken
+        → MarksFreeClusters (image_disk image) v s bytes taken
         → Vol (put_sector image s bytes) (with_lost v (λ c. v.lost c || taken c)) }
 {}
 

@@ -10,7 +10,7 @@ use Rattle.rbf_model.specs.File.{file_at}
 use Rattle.rbf_model.specs.Space.{owns, has_cluster}
 use Rattle.std.proofs.lemmas.Option.{slice_get-get_or}
 use Rattle.rbf_model.specs.Faults.{Breaks}
-use Rattle.rbf_model.specs.Search.{IsFound, IsReachedOn}
+use Rattle.rbf_model.specs.Search.{IsListOfReached, IsReachedOn}
 use Rattle.rbf_model.specs.Faults.Breaks.{used_twice, shared}
 use Rattle.rbf_model.proofs.Bytes.{has_place, place_of}
 use Rattle.rbf_model.proofs.Space.{cluster_from_owns, owns_from_cluster}
@@ -47,7 +47,7 @@ pub record AreSearched (g : Geometry) (disk : ℕ → List ℕ) (found : List �
   pub twice : (p s : ℕ) → p < i → OccursTwice (used_by (disk_of g disk) (get_or found p 0)) s → uses.least ≤ s
   pub least : (uses.least ≡ g.total) ⊎ Breaks (disk_of g disk) 4 uses.least
 
-module _ (g : Geometry) (disk : ℕ → List ℕ) (found : List ℕ) (are : IsFound (disk_of g disk) found) where
+module _ (g : Geometry) (disk : ℕ → List ℕ) (found : List ℕ) (are : IsListOfReached (disk_of g disk) found) where
   -- the owner in a place, by its cluster of a sector
   cluster_had : (n s : ℕ) → has (used_by (disk_of g disk) n) s ≡ true → has_cluster g n (file_at disk n) (s / g.cluster) ≡ true
   unfolding owns

@@ -5,7 +5,7 @@ use Rattle.std.proofs.lemmas.Option.{slice_get_within, get_or_from_slice_get}
 use Rattle.rbf_model.specs.Geometry.{Geometry, IsNumber}
 use Rattle.rbf_model.specs.File.{file_at, is_directory}
 use Rattle.rbf_model.specs.Space.{is_marked, owned, owns, has_cluster}
-use Rattle.rbf_model.specs.Tree.{Links, HasDots, HasNames, HasDifferentNames}
+use Rattle.rbf_model.specs.Tree.{Links, HasDots, HasEntryNames, HasDifferentNames}
 use Rattle.rbf_model.specs.Faults.{Breaks}
 use Rattle.rbf_model.specs.Search.{IsReachedOn, searchable_bytes}
 use Rattle.rbf_model.specs.Faults.Breaks.{bad_number, bad_segment, bad_map, unmarked, used_twice, shared, no_room, no_root, bad_size, no_dots, bad_name, same_name, named_twice, named_root}
@@ -33,7 +33,7 @@ NoDots g disk n = IsReachedOn (disk_of g disk) n × (is_directory (file_at disk 
 
 -- an entry of the directory has no proper name, or two have the same
 abbrev pub BadNames : Geometry → (ℕ → List ℕ) → ℕ → Type 0
-BadNames g disk d = IsReachedOn (disk_of g disk) d × ((HasNames (searchable_bytes (disk_of g disk) d) → ⊥) ⊎ (HasDifferentNames (searchable_bytes (disk_of g disk) d) → ⊥))
+BadNames g disk d = IsReachedOn (disk_of g disk) d × ((HasEntryNames (searchable_bytes (disk_of g disk) d) → ⊥) ⊎ (HasDifferentNames (searchable_bytes (disk_of g disk) d) → ⊥))
 
 -- two entries name the descriptor, or one names the root's
 abbrev pub BadlyNamed : Geometry → (ℕ → List ℕ) → ℕ → Type 0

@@ -2,7 +2,7 @@
 use Rattle.rbf_model.specs.Disk.{disk_of}
 use Rattle.std.proofs.Common.{ℕ, ◌<◌, List, length, get_or}
 use Rattle.rbf_model.specs.Geometry.{Geometry, sector, IsNumber}
-use Rattle.rbf_model.specs.Search.{IsFound, IsReachedOn, searchable_bytes}
+use Rattle.rbf_model.specs.Search.{IsListOfReached, IsReachedOn, searchable_bytes}
 use Rattle.rbf_model.proofs.Bytes.{has_place}
 use Rattle.rbf_model.proofs.Keeps.{number_of_reached}
 use Rattle.rbf_sector.specs.Ident.{geometry_of}
@@ -15,12 +15,12 @@ number_reached image n reached =
     number_of_reached (geometry_of image.ident) (searchable_bytes (disk_of (geometry_of image.ident) (sector image.bytes.now))) (header_of image) reached
 
 -- a number that is found is reached
-pub reached_found : (g : Geometry) (disk : ℕ → List ℕ) (found : List ℕ) (i : ℕ) → IsFound (disk_of g disk) found → i < length found → IsReachedOn (disk_of g disk) (get_or found i 0)
+pub reached_found : (g : Geometry) (disk : ℕ → List ℕ) (found : List ℕ) (i : ℕ) → IsListOfReached (disk_of g disk) found → i < length found → IsReachedOn (disk_of g disk) (get_or found i 0)
 reached_found g disk found i is low = (is (get_or found i 0)).0 (has_place found i low)
 
 -- and so is below the total
 pub number_found : (image : IdentifiedImage) (found : List ℕ) (i : ℕ)
-    → IsFound (disk_of (geometry_of image.ident) (sector image.bytes.now)) found → i < length found
+    → IsListOfReached (disk_of (geometry_of image.ident) (sector image.bytes.now)) found → i < length found
     → get_or found i 0 < image.ident.total
 number_found image found i is low =
     (number_reached image (get_or found i 0) (reached_found (geometry_of image.ident) (sector image.bytes.now) found i is low)).below

@@ -7,7 +7,7 @@ use Rattle.std.proofs.lemmas.List.{get_or_append_left, get_or-append-add, get_or
 use Rattle.rbf_model.specs.Geometry.{Geometry, IsNumber}
 use Rattle.rbf_model.specs.Segments.{has}
 use Rattle.rbf_model.specs.Tree.{EntryNames, Links}
-use Rattle.rbf_model.specs.Search.{IsFound, IsReachedOn, searchable_bytes}
+use Rattle.rbf_model.specs.Search.{IsListOfReached, IsReachedOn, searchable_bytes}
 use Rattle.rbf_model.proofs.Bytes.{has_place, place_of}
 use Rattle.rbf_sector_rules.specs.declared.links.Link.{Link}
 use Rattle.rbf_sector_rules.specs.Linked.{AreAdded, AreLinks}
@@ -90,7 +90,7 @@ pub record AreLinksOf (g : Geometry) (disk : ℕ → List ℕ) (found : List ℕ
   pub all : (k j n : ℕ) → k < next → EntryNames (searchable_bytes (disk_of g disk) (get_or found k 0)) j n
       → IsNumber g n → Contains links (record { directory = get_or found k 0; entry = j; descriptor = n })
 
-module _ (g : Geometry) (disk : ℕ → List ℕ) (found : List ℕ) (are : IsFound (disk_of g disk) found) where
+module _ (g : Geometry) (disk : ℕ → List ℕ) (found : List ℕ) (are : IsListOfReached (disk_of g disk) found) where
   pub links_none : (links : List Link) → links ≡ [] → AreLinksOf g disk found links 0
   links_none links empty = record {
     each = λ l h. let low : h.0 < 0 = omega (arith, h.1, ap length empty) in absurd (omega arith);

@@ -7,7 +7,7 @@ use Rattle.rbf_model.specs.Segments.{has}
 use Rattle.rbf_model.proofs.Segments.{has_cases, has_left, has_right}
 use Rattle.rbf_sector_rules.specs.declared.uses.Owner.{Owner}
 use Rattle.rbf_sector_rules.specs.declared.uses.Uses.{Uses}
-use Rattle.rbf_sector_rules.specs.Given.{IsGiven}
+use Rattle.rbf_sector_rules.specs.Given.{IsPlaceGiven}
 use Rattle.rbf_sector_rules.specs.Least.{IsLeastWithin}
 use Rattle.rbf_sector_rules.specs.Noted.{HasUser, HasOwner, cluster_begin, OccursTwice, IsUsedAgain, IsNoted}
 use Rattle.rbf_sector_rules.specs.Noted.IsUsedAgain.{twice, again, shared}
@@ -157,7 +157,7 @@ module _ (k : ℕ) (owner : Owner) where
     }
 
   -- one sector
-  module _ (s : ℕ) (old new : Uses) (given : IsGiven old.owners.items new.owners.items owner.descriptor (s / k)) where
+  module _ (s : ℕ) (old new : Uses) (given : IsPlaceGiven old.owners.items new.owners.items owner.descriptor (s / k)) where
     alone : (t : ℕ) → has (s ∷ []) t ≡ true → s ≡ t
     alone t here = ⊎_elim (λ same. eqb-true s t same) (λ none. absurd (false≢true none)) (or_cases (s == t) (has [] t) here)
 

@@ -9,7 +9,7 @@ use Rattle.rbf_model.specs.Fields.{segments_field}
 use Rattle.rbf_model.specs.Geometry.{Geometry, is_within}
 use Rattle.rbf_model.specs.Segments.{has}
 use Rattle.rbf_model.specs.Faults.{Breaks}
-use Rattle.rbf_model.specs.Search.{IsFound, IsReachedOn, searchable_bytes}
+use Rattle.rbf_model.specs.Search.{IsListOfReached, IsReachedOn, searchable_bytes}
 use Rattle.rbf_model.specs.Faults.Breaks.{bad_number, bad_segment, bad_map, unmarked, used_twice, shared, no_room, no_root, bad_size, no_dots, bad_name, same_name, named_twice, named_root}
 use Rattle.rbf_sector_rules.specs.Least.{IsLeast, Before, IsLeastBreach}
 use Rattle.rbf_sector_rules.specs.Rules.{HasBadNumber, BreaksNumbers, BreaksNumbersAt}
@@ -50,7 +50,7 @@ module _ (g : Geometry) (disk : ℕ → List ℕ) where
   numbers_of (named_root a) e = absurd (omega arith)
 
   -- the least of those that are found
-  pub least_numbers : (found : List ℕ) (i : ℕ) (least : Option ℕ) → IsFound (disk_of g disk) found → i ≡ length found
+  pub least_numbers : (found : List ℕ) (i : ℕ) (least : Option ℕ) → IsListOfReached (disk_of g disk) found → i ≡ length found
       → IsLeast (Before (λ k. BreaksNumbersAt (disk_of g disk) (get_or found k 0)) i) least
       → IsLeastBreach (disk_of g disk) 1 least
   least_numbers found i least are all is =

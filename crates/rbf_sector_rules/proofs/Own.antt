@@ -5,9 +5,9 @@ use Rattle.rbf_model.specs.Geometry.{Geometry}
 use Rattle.rbf_model.specs.File.{file_at, is_directory}
 use Rattle.rbf_model.specs.Segments.{has}
 use Rattle.rbf_model.specs.Faults.{Breaks}
-use Rattle.rbf_model.specs.Search.{IsFound, IsReachedOn}
+use Rattle.rbf_model.specs.Search.{IsListOfReached, IsReachedOn}
 use Rattle.rbf_model.specs.Faults.Breaks.{bad_number, bad_segment, bad_map, unmarked, used_twice, shared, no_room, no_root, bad_size, no_dots, bad_name, same_name, named_twice, named_root}
-use Rattle.rbf_model.specs.Tree.Reached.{root}
+use Rattle.rbf_model.specs.Tree.ReachedFile.{root}
 use Rattle.rbf_sector_rules.specs.declared.descriptors.OwnRule.{OwnRule}
 use Rattle.rbf_sector_rules.specs.declared.descriptors.OwnRule.TheVariants.{Room, Size}
 use Rattle.rbf_sector_rules.specs.Rules.{BreaksOwn, BreaksOwnAt, rule_number}
@@ -51,7 +51,7 @@ module _ (g : Geometry) (disk : ℕ → List ℕ) where
   own_by_rule Size lsn b = (own_of b).1 refl
 
   -- the least of those that are found
-  pub least_own : (rule : OwnRule) (found : List ℕ) (i : ℕ) (least : Option ℕ) → IsFound (disk_of g disk) found
+  pub least_own : (rule : OwnRule) (found : List ℕ) (i : ℕ) (least : Option ℕ) → IsListOfReached (disk_of g disk) found
       → i ≡ length found → IsLeast (Before (λ k. BreaksOwnAt rule (disk_of g disk) (get_or found k 0)) i) least
       → IsLeastBreach (disk_of g disk) (rule_number rule) least
   least_own rule found i least are all is =

@@ -2,7 +2,7 @@
 use Rattle.std.proofs.Common.{◌≡◌, ℕ, zero, suc, ◌<◌, List, length, get_or, set, replicate, Option, Some, None, refl, sym, ap, ◌∙◌, inl, inr, ⊎_elim}
 use Rattle.std.proofs.lemmas.Bool.{cases_eq}
 use Rattle.std.proofs.lemmas.List.{get_or-set_same, get_or-set_other, length-set}
-use Rattle.rbf_sector_rules.specs.Given.{IsGiven}
+use Rattle.rbf_sector_rules.specs.Given.{IsPlaceGiven}
 use Rattle.rbf_sector_rules.proofs.Options.{none_some, some_same}
 
 -- a table that is filled with one value has nothing else
@@ -19,7 +19,7 @@ pub none_filled : (table : List (Option ℕ)) (n : ℕ) → table ≡ replicate 
 none_filled table n is s m h = none_some m (get_or table s None) (filled table n None is s) h
 
 -- a place that is given
-pub given_new : (old : List (Option ℕ)) (n c : ℕ) → c < length old → get_or old c None ≡ None → IsGiven old (set old c (Some n)) n c
+pub given_new : (old : List (Option ℕ)) (n c : ℕ) → c < length old → get_or old c None ≡ None → IsPlaceGiven old (set old c (Some n)) n c
 given_new old n c low none = record {
   size = length-set old c (Some n);
   kept = λ d m h. ⊎_elim

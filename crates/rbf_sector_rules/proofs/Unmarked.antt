@@ -6,7 +6,7 @@ use Rattle.rbf_model.specs.Geometry.{Geometry}
 use Rattle.rbf_model.specs.Segments.{segment_sectors, sectors_of, has}
 use Rattle.rbf_model.specs.Space.{owns}
 use Rattle.rbf_model.specs.Faults.{Breaks}
-use Rattle.rbf_model.specs.Search.{IsFound}
+use Rattle.rbf_model.specs.Search.{IsListOfReached}
 use Rattle.rbf_model.specs.Faults.Breaks.{unmarked}
 use Rattle.rbf_model.proofs.Segments.{has_cases, has_left, has_right}
 use Rattle.rbf_sector_rules.specs.Least.{IsLeast, Before, lesser_of, IsLeastBreach}
@@ -39,7 +39,7 @@ module _ (g : Geometry) (disk : ℕ → List ℕ) where
       subst P (sectors_more runs i low) (unmarked_then (sectors_of (take i runs)) (segment_sectors (get_or runs i (0, 0))) least one both before here is)
 
   -- and of all that are in use
-  pub least_unmarked_is : (found : List ℕ) → IsFound (disk_of g disk) found → (i : ℕ) → i ≡ length found
+  pub least_unmarked_is : (found : List ℕ) → IsListOfReached (disk_of g disk) found → (i : ℕ) → i ≡ length found
       → (least : Option ℕ) → IsLeast
       (Before (λ k. IsUnmarkedIn (disk_of g disk) (used_by (disk_of g disk) (get_or found k 0))) i) least
       → IsLeastBreach (disk_of g disk) 3 least

@@ -4,8 +4,8 @@ use Rattle.std.proofs.lemmas.Bool.{cases_lt, false≢true}
 use Rattle.std.proofs.lemmas.List.{get_or_append_left, get_or_default}
 use Rattle.rbf_model.specs.Geometry.{Geometry, IsNumber}
 use Rattle.rbf_model.specs.Segments.{has}
-use Rattle.rbf_model.specs.Tree.{EntryNames, Reached}
-use Rattle.rbf_model.specs.Tree.Reached.{root, named}
+use Rattle.rbf_model.specs.Tree.{EntryNames, ReachedFile}
+use Rattle.rbf_model.specs.Tree.ReachedFile.{root, named}
 use Rattle.rbf_model.proofs.Bytes.{has_place, place_of}
 use Rattle.rbf_sector_rules.specs.Found.{IsSearch, IsVisited, added}
 use Rattle.rbf_sector_rules.proofs.Visits.{has_extended, added_has, added_only}
@@ -13,7 +13,7 @@ use Rattle.rbf_sector_rules.proofs.Visits.{has_extended, added_has, added_only}
 -- all found are reached, the root among them, and what the first of them name is found
 pub record IsWalked (g : Geometry) (dirs : ℕ → List ℕ) (found : List ℕ) (next : ℕ) : Type 0 where
   pub root_found : has found g.root ≡ true
-  pub reached : (n : ℕ) → has found n ≡ true → Reached g dirs n
+  pub reached : (n : ℕ) → has found n ≡ true → ReachedFile g dirs n
   pub closed : (k i m : ℕ) → k < next → EntryNames (dirs (get_or found k 0)) i m → IsNumber g m → has found m ≡ true
   pub before : next ≤ length found
 
@@ -26,7 +26,7 @@ module _ (g : Geometry) (dirs : ℕ → List ℕ) where
         root_found = added_has [] g.root;
         reached = λ n h. ⊎_elim
             (λ before. absurd (false≢true before))
-            (λ same. let R : ℕ → Type 0 = λ m. Reached g dirs m in subst R (sym same) root)
+            (λ same. let R : ℕ → Type 0 = λ m. ReachedFile g dirs m in subst R (sym same) root)
             (added_only [] g.root n h);
         closed = λ k i m below names number. absurd (omega arith);
         before = omega arith;
@@ -60,7 +60,7 @@ module _ (g : Geometry) (dirs : ℕ → List ℕ) where
       }
 
   -- all of them
-  pub all_found : (found : List ℕ) (next : ℕ) → IsWalked g dirs found next → length found ≤ next → {n : ℕ} → Reached g dirs n → has found n ≡ true
+  pub all_found : (found : List ℕ) (next : ℕ) → IsWalked g dirs found next → length found ≤ next → {n : ℕ} → ReachedFile g dirs n → has found n ≡ true
   all_found found next walked all root = walked.root_found
   all_found found next walked all (named {d = d} {i = i} {n = n} from names number) =
       let d_found = all_found found next walked all from in
@@ -69,7 +69,7 @@ module _ (g : Geometry) (dirs : ℕ → List ℕ) where
       let P : ℕ → Type 0 = λ e. EntryNames (dirs e) i n in
       walked.closed place.0 i n (omega (arith, place.1)) (subst P at names) number
 
-  pub found_are : (found : List ℕ) (next : ℕ) → IsWalked g dirs found next → length found ≤ next → (n : ℕ) → (has found n ≡ true) ↔ Reached g dirs n
+  pub found_are : (found : List ℕ) (next : ℕ) → IsWalked g dirs found next → length found ≤ next → (n : ℕ) → (has found n ≡ true) ↔ ReachedFile g dirs n
   found_are found next walked all n =
       (λ h. walked.reached n h, λ r. all_found found next walked all r)
 

@@ -2,7 +2,7 @@
 use Rattle.std.specs.Prelude.{◌≡◌, ℕ, ◌<◌, List, All, map}
 use Rattle.rbf_model.specs.Fields.{attributes_field, owner_field, modified_field, links_field, size_field, created_field, segments_field}
 use Rattle.rbf_model.specs.Geometry.{sector}
-use Rattle.rbf_model.specs.Search.{IsFound}
+use Rattle.rbf_model.specs.Search.{IsListOfReached}
 use Rattle.rbf_sector.specs.declared.fd.Fd.{Fd}
 use Rattle.rbf_sector_rules.specs.declared.file.FoundFile.{FoundFile}
 use Rattle.rbf_sector_rules.specs.declared.image.IdentifiedImage.{IdentifiedImage}
@@ -29,5 +29,5 @@ found_numbers files = map (λ file. file.number) files
 
 -- the files are the reached ones, each with its descriptor
 pub record AreFiles (image : IdentifiedImage) (files : List FoundFile) : Type 0 where
-  pub found : IsFound (disk_on image) (found_numbers files)
+  pub found : IsListOfReached (disk_on image) (found_numbers files)
   pub read : All (IsFileOn image) files

@@ -16,5 +16,5 @@ abbrev pub IsOrdered : Unread → Type 0
 IsOrdered unread = AreOrdered unread.next.items
 
 -- position e has been read: its place leads to a later one
-abbrev pub IsRead : Unread → ℕ → Type 0
-IsRead unread e = LeadsOn unread.next.items e
+abbrev pub IsPositionRead : Unread → ℕ → Type 0
+IsPositionRead unread e = LeadsOn unread.next.items e

@@ -11,7 +11,7 @@ pub struct Unread {
 }
 
 impl Unread {
-    ghost use Rattle.rbf_sector_rules.specs.Unread.{IsOrdered, IsRead};
+    ghost use Rattle.rbf_sector_rules.specs.Unread.{IsOrdered, IsPositionRead};
 
     /// All of `positions` positions.
     ///
@@ -22,7 +22,7 @@ impl Unread {
         requires { positions < 4294967295 }
         ensures size { IfOk result (λ unread. length unread.next.items ≡ positions + 1) }
         ensures ordered { IfOk result IsOrdered }
-        ensures unread { IfOk result (λ unread. (e : ℕ) → ¬ IsRead unread e) }
+        ensures unread { IfOk result (λ unread. (e : ℕ) → ¬ IsPositionRead unread e) }
     {
         let mut next = Vec::with_capacity(alloc, positions as usize + 1)?;
         for e in 0..positions + 1 {
@@ -38,11 +38,11 @@ impl Unread {
         requires place { from < length self.old.next.items }
         ensures size { length self.new.next.items ≡ length self.old.next.items }
         ensures ordered { IsOrdered self.new }
-        ensures same { (e : ℕ) → IsRead self.new e ↔ IsRead self.old e }
+        ensures same { (e : ℕ) → IsPositionRead self.new e ↔ IsPositionRead self.old e }
         ensures after { from ≤ result }
         ensures within { result < length self.old.next.items }
-        ensures read { (e : ℕ) → from ≤ e → e < result → IsRead self.old e }
-        ensures unread { ¬ IsRead self.old result }
+        ensures read { (e : ℕ) → from ≤ e → e < result → IsPositionRead self.old e }
+        ensures unread { ¬ IsPositionRead self.old result }
     {
         let mut e = from;
         while self.next[e as usize] != e {
@@ -61,9 +61,9 @@ impl Unread {
         requires fits { e < 4294967295 }
         ensures size { length self.new.next.items ≡ length self.old.next.items }
         ensures ordered { IsOrdered self.new }
-        ensures read { IsRead self.new e }
-        ensures kept { (t : ℕ) → IsRead self.old t → IsRead self.new t }
-        ensures only { (t : ℕ) → IsRead self.new t → IsRead self.old t ⊎ (t ≡ e) }
+        ensures read { IsPositionRead self.new e }
+        ensures kept { (t : ℕ) → IsPositionRead self.old t → IsPositionRead self.new t }
+        ensures only { (t : ℕ) → IsPositionRead self.new t → IsPositionRead self.old t ⊎ (t ≡ e) }
     {
         self.next[e as usize] = e + 1;
     }

@@ -3,7 +3,7 @@ ghost use Rattle.std.specs.Prelude.{◌≡◌, ◌≢◌, ℕ, ◌+◌, ◌*◌,
 ghost use Rattle.std.specs.List.{range_with_len};
 ghost use Rattle.rbf_model.specs.Segments.{sectors_of};
 ghost use Rattle.rbf_segs.specs.Segments.{IsSegment};
-ghost use Rattle.rbf_sector_rules.specs.Given.{IsGiven};
+ghost use Rattle.rbf_sector_rules.specs.Given.{IsPlaceGiven};
 
 use std::alloc::{AllocError, Global};
 
@@ -28,7 +28,7 @@ pub struct Uses {
 // Gives a cluster to an owner, if it has none, and returns whether it has another owner.
 fn give(owners: &mut Vec<Option<u32>>, n: u32, c: u32) -> bool
     requires { c < length owners.old.items }
-    ensures given { IsGiven owners.old.items owners.new.items n c }
+    ensures given { IsPlaceGiven owners.old.items owners.new.items n c }
     ensures another { MatchBool result ((m : ℕ) × (slice_index_or owners.old.items c None
         ≡ Some m) × (m ≢ n))
         ((m : ℕ) → slice_index_or owners.old.items c None ≡ Some m → m ≡ n) }

@@ -11,7 +11,7 @@ use Rattle.std.proofs.lemmas.Option.{slice_get-get_or, slice_get_past}
 use Rattle.rbf_model.specs.Fields.{directory_entry, descriptor_field, is_used}
 use Rattle.rbf_model.specs.Walk.{directory_entries, entry_has_name}
 use Rattle.rbf_change.specs.Names.{entry_place}
-use Rattle.rbf_walk.specs.Search.{NonePasses, IsFirst, IsFoundAt, IsAbsent}
+use Rattle.rbf_walk.specs.Search.{NonePasses, IsFirstMatch, IsNameFoundAt, IsAbsentName}
 
 -- one more entry does not pass
 pub none_one_more : (test : List ℕ → Bool) (bytes entry : List ℕ) (i : ℕ) (b : Bool) → NonePasses test bytes i → entry ≡ directory_entry bytes i → b ≡ test entry → b ≡ false
@@ -20,7 +20,7 @@ none_one_more test bytes entry i b none is tested fails = below_more (λ k. test
 
 -- the first that passes is this one
 pub first_here : (test : List ℕ → Bool) (bytes entry : List ℕ) (count i : ℕ) (b : Bool) → i < count → NonePasses test bytes i → entry ≡ directory_entry bytes i → b ≡ test entry → b ≡ true
-    → IsFirst test bytes count i
+    → IsFirstMatch test bytes count i
 first_here test bytes entry count i b below none is tested passes = record { below = below; passes = ap test (sym is) ∙ sym tested ∙ passes; before = none }
 
 module _ (contents : List ℕ) where
@@ -31,7 +31,7 @@ module _ (contents : List ℕ) where
   entry_count = length-map-range_with_len (directory_entry contents) 0 (length contents / 32)
 
   module _ (test : List ℕ → Bool) where
-    first_at : (i : ℕ) → IsFirst test contents (length contents / 32) i → position_or_len test (directory_entries contents) ≡ i
+    first_at : (i : ℕ) → IsFirstMatch test contents (length contents / 32) i → position_or_len test (directory_entries contents) ≡ i
     first_at i first =
         let below : i < length contents / 32 = first.below in
         position_or_len_is test (directory_entries contents) i [] (omega (arith, entry_count))
@@ -47,7 +47,7 @@ module _ (contents : List ℕ) where
     at : ℕ → Option ℕ
     at i = cond (ltb i (length (directory_entries contents))) (Some i) None
 
-    pub position_first : (i : ℕ) → IsFirst test contents (length contents / 32) i → position test (directory_entries contents) ≡ Some i
+    pub position_first : (i : ℕ) → IsFirstMatch test contents (length contents / 32) i → position test (directory_entries contents) ≡ Some i
     position_first i first =
         let below : i < length contents / 32 = first.below in
         ap (λ j. cond (ltb j (length (directory_entries contents))) (Some j) None) (first_at i first)
@@ -69,7 +69,7 @@ module _ (contents : List ℕ) where
         (λ late. late)
         (cases_lt i count)
 
-    pub find_first : (i : ℕ) → IsFirst test contents (length contents / 32) i → find test (directory_entries contents) ≡ Some (directory_entry contents i)
+    pub find_first : (i : ℕ) → IsFirstMatch test contents (length contents / 32) i → find test (directory_entries contents) ≡ Some (directory_entry contents i)
     find_first i first =
         let below : i < length contents / 32 = first.below in
         find_at test (directory_entries contents) ∙ ap (slice_get (directory_entries contents)) (first_at i first)
@@ -81,8 +81,8 @@ module _ (contents : List ℕ) where
         ∙ slice_get_past (directory_entries contents) (length (directory_entries contents)) (omega arith)
 
   -- the entry that has a name
-  pub found_at : (name : List ℕ) (i n : ℕ) → IsFirst (entry_has_name name) contents (length contents / 32) i → n ≡ descriptor_field (directory_entry contents i)
-      → IsFoundAt contents name i n
+  pub found_at : (name : List ℕ) (i n : ℕ) → IsFirstMatch (entry_has_name name) contents (length contents / 32) i → n ≡ descriptor_field (directory_entry contents i)
+      → IsNameFoundAt contents name i n
   found_at name i n first names = record {
     there = position_first (entry_has_name name) i first;
     within = let below : i < length contents / 32 = first.below in omega arith;
@@ -93,14 +93,14 @@ module _ (contents : List ℕ) where
 
   -- where a new entry goes
   free_place : (free : Option ℕ)
-      → MatchOption free (NonePasses (λ entry. not (is_used entry)) contents (length contents / 32)) (IsFirst (λ entry. not (is_used entry)) contents (length contents / 32))
+      → MatchOption free (NonePasses (λ entry. not (is_used entry)) contents (length contents / 32)) (IsFirstMatch (λ entry. not (is_used entry)) contents (length contents / 32))
       → unwrap_or free (length contents / 32) ≡ entry_place contents
   free_place None none = sym (ap (λ o. unwrap_or o (length contents / 32)) (position_none (λ entry. not (is_used entry)) none))
   free_place (Some i) first = sym (ap (λ o. unwrap_or o (length contents / 32)) (position_first (λ entry. not (is_used entry)) i first))
 
   pub absent_in : (name : List ℕ) (free : Option ℕ) → NonePasses (entry_has_name name) contents (length contents / 32)
-      → MatchOption free (NonePasses (λ entry. not (is_used entry)) contents (length contents / 32)) (IsFirst (λ entry. not (is_used entry)) contents (length contents / 32))
-      → IsAbsent contents name (unwrap_or free (length contents / 32))
+      → MatchOption free (NonePasses (λ entry. not (is_used entry)) contents (length contents / 32)) (IsFirstMatch (λ entry. not (is_used entry)) contents (length contents / 32))
+      → IsAbsentName contents name (unwrap_or free (length contents / 32))
   absent_in name free none place = record {
     nowhere = position_none (entry_has_name name) none;
     names_none = ap (option_map descriptor_field) (find_none (entry_has_name name) none);

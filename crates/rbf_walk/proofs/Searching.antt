@@ -11,18 +11,18 @@ use Rattle.rbf_model.specs.Segments.{sectors_of}
 use Rattle.rbf_model.specs.Volume.{DiskVolume}
 use Rattle.rbf_model.specs.Walk.{entry_has_name}
 use Rattle.rbf_model.proofs.SectorBytes.{piece_of_piece, entry_in_take}
-use Rattle.rbf_change.specs.Agrees.{KeptVolume}
+use Rattle.rbf_change.specs.Agrees.{MountedPart}
 use Rattle.rbf_change.specs.Contents.{sector_count}
 use Rattle.rbf_sector.specs.declared.fd.Fd.{Fd}
 use Rattle.sector_cache.specs.declared.sector.Sector.{Sector}
 use Rattle.rbf_access.specs.Cached.{IsCacheOf}
 use Rattle.rbf_access.specs.Drive.{DriveCounts, MovesCounts}
-use Rattle.rbf_access.specs.Mounted.{Represents}
+use Rattle.rbf_access.specs.Mounted.{RepresentsVolume}
 use Rattle.rbf_access.specs.Reading.{IsFdOf}
 use Rattle.rbf_access.proofs.Counting.{no_calls, counts_then, counts_most}
 use Rattle.rbf_access.proofs.ReadFile.{contents_are, room_for}
 use Rattle.rbf_change.specs.Names.{place_of}
-use Rattle.rbf_walk.specs.Search.{NonePasses, IsFirst, IsFoundAt, IsAbsent, sectors_to, sectors_searched}
+use Rattle.rbf_walk.specs.Search.{NonePasses, IsFirstMatch, IsNameFoundAt, IsAbsentName, sectors_to, sectors_searched}
 use Rattle.rbf_walk.proofs.Places.{found_at, absent_in, position_past}
 
 -- an entry of a sector is one of the whole
@@ -48,7 +48,8 @@ module _ (test : List ℕ → Bool) (whole sector : List ℕ) (place entries cou
   pub none_more : NonePasses test whole (min (8 * place) entries) → NonePasses test sector count → NonePasses test whole (min (8 * (place + 1)) entries)
   none_more before none k low = none_before count (omega arith) before none k (omega arith)
 
-  pub first_more : (i : ℕ) (most : ℕ) → min (8 * (place + 1)) entries ≤ most → NonePasses test whole (min (8 * place) entries) → IsFirst test sector count i → IsFirst test whole most (8 * place + i)
+  pub first_more : (i : ℕ) (most : ℕ) → min (8 * (place + 1)) entries ≤ most → NonePasses test whole
+      (min (8 * place) entries) → IsFirstMatch test sector count i → IsFirstMatch test whole most (8 * place + i)
   first_more i most high before first =
       let below : i < count = first.below in
       let there : 8 * place + i - 8 * place ≡ i = omega arith in
@@ -58,37 +59,38 @@ module _ (test : List ℕ → Bool) (whole sector : List ℕ) (place entries cou
         before = none_before i (omega arith) before first.before;
       }
 
-pub first_later : (test : List ℕ → Bool) (whole : List ℕ) (m n i : ℕ) → m ≤ n → IsFirst test whole m i → IsFirst test whole n i
+pub first_later : (test : List ℕ → Bool) (whole : List ℕ) (m n i : ℕ) → m ≤ n → IsFirstMatch test whole m i → IsFirstMatch test whole n i
 first_later test whole m n i more first =
     let below : i < m = first.below in
     record { below = omega arith; passes = first.passes; before = first.before }
 
 -- the first free entry of so many
 abbrev pub IsFirstFree : List ℕ → ℕ → Option ℕ → Type 0
-IsFirstFree bytes count free = MatchOption free (NonePasses (λ entry. not (is_used entry)) bytes count) (IsFirst (λ entry. not (is_used entry)) bytes count)
+IsFirstFree bytes count free = MatchOption free (NonePasses (λ entry. not (is_used entry)) bytes count) (IsFirstMatch (λ entry. not (is_used entry)) bytes count)
 
 -- with the entries of one sector more
 pub free_more : (whole sector : List ℕ) (place entries count : ℕ) (before now : Option ℕ) → sector ≡ take 256 (drop (256 * place) whole) → count ≡ min 8 (entries - 8 * place)
     → 8 * place < entries → IsFirstFree whole (min (8 * place) entries) before → (IsSome before → now ≡ before)
-    → (before ≡ None → MatchOption now (NonePasses (λ entry. not (is_used entry)) sector count) (λ at. (8 * place ≤ at) × IsFirst (λ entry. not (is_used entry)) sector count (at - 8 * place)))
+    → (before ≡ None → MatchOption now (NonePasses (λ entry. not (is_used entry)) sector count) (λ at. (8 * place ≤ at) × IsFirstMatch (λ entry. not (is_used entry)) sector count (at - 8 * place)))
     → IsFirstFree whole (min (8 * (place + 1)) entries) now
 free_more whole sector place entries count (Some i) now is counted more first same other =
     let P : Option ℕ → Type 0 = IsFirstFree whole (min (8 * (place + 1)) entries) in
     subst P (sym (same refl)) (first_later (λ entry. not (is_used entry)) whole (min (8 * place) entries) (min (8 * (place + 1)) entries) i (omega arith) first)
 free_more whole sector place entries count None now is counted more none same other = by_now now (other refl)
   where
-    by_now : (o : Option ℕ) → MatchOption o (NonePasses (λ entry. not (is_used entry)) sector count) (λ at. (8 * place ≤ at) × IsFirst (λ entry. not (is_used entry)) sector count (at - 8 * place))
+    by_now : (o : Option ℕ) → MatchOption o (NonePasses (λ entry. not (is_used entry)) sector count)
+        (λ at. (8 * place ≤ at) × IsFirstMatch (λ entry. not (is_used entry)) sector count (at - 8 * place))
         → IsFirstFree whole (min (8 * (place + 1)) entries) o
     by_now None h = none_more (λ entry. not (is_used entry)) whole sector place entries count is counted more none h
     by_now (Some at) h =
         let low : 8 * place ≤ at = h.0 in
         let there : 8 * place + (at - 8 * place) ≡ at = omega arith in
-        subst (IsFirst (λ entry. not (is_used entry)) whole (min (8 * (place + 1)) entries)) there
+        subst (IsFirstMatch (λ entry. not (is_used entry)) whole (min (8 * (place + 1)) entries)) there
         (first_more (λ entry. not (is_used entry)) whole sector place entries count is counted more (at - 8 * place) (min (8 * (place + 1)) entries) (omega arith) none h.1)
 
 -- the sectors before a place have been searched
 pub record IsSearchedTo (name whole : List ℕ) (entries place : ℕ) (free : Option ℕ) (media media_now : Option (List ℕ))
-    (volume volume_now : KeptVolume) (held : List Sector) (before now : DriveCounts) : Type 0 where
+    (volume volume_now : MountedPart) (held : List Sector) (before now : DriveCounts) : Type 0 where
   pub absent : NonePasses (entry_has_name name) whole (min (8 * place) entries)
   pub free_is : IsFirstFree whole (min (8 * place) entries) free
   pub same_media : media_now ≡ media
@@ -96,7 +98,7 @@ pub record IsSearchedTo (name whole : List ℕ) (entries place : ℕ) (free : Op
   pub cached : IsCacheOf media_now held
   pub moved : MovesCounts None place before now
 
-pub none_searched : (name whole : List ℕ) (entries : ℕ) (free : Option ℕ) (media : Option (List ℕ)) (volume : KeptVolume) (held : List Sector) (before : DriveCounts)
+pub none_searched : (name whole : List ℕ) (entries : ℕ) (free : Option ℕ) (media : Option (List ℕ)) (volume : MountedPart) (held : List Sector) (before : DriveCounts)
     → free ≡ None → IsCacheOf media held
     → IsSearchedTo name whole entries 0 free media media volume volume held before before
 none_searched name whole entries free media volume held before none cached = record {
@@ -109,7 +111,7 @@ none_searched name whole entries free media volume held before none cached = rec
 }
 
 -- the entries of a file's contents are those of its sectors
-module _ (media : Option (List ℕ)) (fd : Fd) (v : DiskVolume) (n : ℕ) (file : DiskFile) (on : Represents media v) (is : v.files n ≡ Some file) (known : IsFdOf file fd) where
+module _ (media : Option (List ℕ)) (fd : Fd) (v : DiskVolume) (n : ℕ) (file : DiskFile) (on : RepresentsVolume media v) (is : v.files n ≡ Some file) (known : IsFdOf file fd) where
   whole : List ℕ
   whole = segment_bytes (sector_at media) fd.segs
 
@@ -125,7 +127,7 @@ module _ (media : Option (List ℕ)) (fd : Fd) (v : DiskVolume) (n : ℕ) (file 
   none_in : (test : List ℕ → Bool) (count : ℕ) → count ≤ length file.contents / 32 → NonePasses test (segment_bytes (sector_at media) fd.segs) count → NonePasses test file.contents count
   none_in test count few none k low = ap test (sym (entry_same k (omega arith))) ∙ none k low
 
-  first_in : (test : List ℕ → Bool) (i : ℕ) → IsFirst test (segment_bytes (sector_at media) fd.segs) (fd.size / 32) i → IsFirst test file.contents (length file.contents / 32) i
+  first_in : (test : List ℕ → Bool) (i : ℕ) → IsFirstMatch test (segment_bytes (sector_at media) fd.segs) (fd.size / 32) i → IsFirstMatch test file.contents (length file.contents / 32) i
   first_in test i first =
       let below : i < fd.size / 32 = first.below in
       record {
@@ -135,8 +137,8 @@ module _ (media : Option (List ℕ)) (fd : Fd) (v : DiskVolume) (n : ℕ) (file 
       }
 
   pub found_on : (name sector : List ℕ) (place i lsn : ℕ) → sector ≡ take 256 (drop (256 * place) (segment_bytes (sector_at media) fd.segs)) → i < 8
-      → IsFirst (entry_has_name name) (segment_bytes (sector_at media) fd.segs) (fd.size / 32) (8 * place + i) → lsn ≡ descriptor_field (directory_entry sector i)
-      → IsFoundAt file.contents name (8 * place + i) lsn
+      → IsFirstMatch (entry_has_name name) (segment_bytes (sector_at media) fd.segs) (fd.size / 32) (8 * place + i) → lsn ≡ descriptor_field (directory_entry sector i)
+      → IsNameFoundAt file.contents name (8 * place + i) lsn
   found_on name sector place i lsn there low first names =
       let below : 8 * place + i < fd.size / 32 = first.below in
       found_at file.contents name (8 * place + i) lsn (first_in (entry_has_name name) (8 * place + i) first)
@@ -149,10 +151,10 @@ module _ (media : Option (List ℕ)) (fd : Fd) (v : DiskVolume) (n : ℕ) (file 
   free_in (Some i) first = first_in (λ entry. not (is_used entry)) i first
 
   pub absent_on : (name : List ℕ) (count free_at : ℕ) (free : Option ℕ) → count ≡ fd.size / 32 → NonePasses (entry_has_name name) (segment_bytes (sector_at media) fd.segs) count
-      → IsFirstFree (segment_bytes (sector_at media) fd.segs) count free → free_at ≡ unwrap_or free (fd.size / 32) → IsAbsent file.contents name free_at
+      → IsFirstFree (segment_bytes (sector_at media) fd.segs) count free → free_at ≡ unwrap_or free (fd.size / 32) → IsAbsentName file.contents name free_at
   absent_on name count free_at free all none place answer =
       let total = all ∙ entry_total in
-      subst (IsAbsent file.contents name) (sym (answer ∙ ap (unwrap_or free) entry_total))
+      subst (IsAbsentName file.contents name) (sym (answer ∙ ap (unwrap_or free) entry_total))
       (absent_in file.contents name free
       (none_in (entry_has_name name) (length file.contents / 32) (omega arith) (subst (NonePasses (entry_has_name name) (segment_bytes (sector_at media) fd.segs)) total none))
       (free_in free (subst (λ n. IsFirstFree (segment_bytes (sector_at media) fd.segs) n free) all place)))
@@ -170,7 +172,7 @@ module _ (media : Option (List ℕ)) (fd : Fd) (v : DiskVolume) (n : ℕ) (file 
           omega arith
 
   -- and where none has it all are read
-  pub all_are_read : (name : List ℕ) (place free : ℕ) → place ≤ sector_count fd.size → IsAbsent file.contents name free → place ≤ sectors_searched file.contents name
+  pub all_are_read : (name : List ℕ) (place free : ℕ) → place ≤ sector_count fd.size → IsAbsentName file.contents name free → place ≤ sectors_searched file.contents name
   all_are_read name place free few none =
       let all : sectors_searched file.contents name ≡ sector_count (length file.contents) = ap (λ o. sectors_to o (sector_count (length file.contents))) none.nowhere in
       let same : sector_count fd.size ≡ sector_count (length file.contents) = ap sector_count known.size_is in

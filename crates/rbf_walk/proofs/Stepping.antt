@@ -4,7 +4,7 @@ use Rattle.std.proofs.lemmas.Bool.{cond-true, cond-false, false≢true}
 use Rattle.std.proofs.lemmas.Option.{same_Some}
 use Rattle.std.proofs.lemmas.List.{drop_all}
 use Rattle.std.proofs.Math.Seq.{drop-cons}
-use Rattle.rbf_change.specs.Agrees.{KeptVolume}
+use Rattle.rbf_change.specs.Agrees.{MountedPart}
 use Rattle.rbf_model.specs.Geometry.{image_geometry}
 use Rattle.rbf_model.specs.File.{DiskFile}
 use Rattle.rbf_model.specs.Volume.{DiskVolume, Vol}
@@ -18,12 +18,12 @@ use Rattle.sector_cache.specs.declared.sector.Sector.{Sector}
 use Rattle.rbf_access.specs.Cached.{IsCacheOf}
 use Rattle.rbf_access.specs.Drive.{DriveCounts, MovesCounts}
 use Rattle.rbf_access.specs.Faults.{file_fault}
-use Rattle.rbf_access.specs.Mounted.{Represents, HasFile}
+use Rattle.rbf_access.specs.Mounted.{RepresentsVolume, HasFile}
 use Rattle.rbf_access.specs.Reading.{IsFdOf, OnFile}
 use Rattle.rbf_access.specs.declared.faults.FileFault.{FileFault}
 use Rattle.rbf_access.specs.declared.faults.FileFault.TheVariants.{Device, NoCluster, TooManyRuns}
 use Rattle.rbf_access.proofs.Counting.{no_calls, counts_then, counts_most, counts_within}
-use Rattle.rbf_walk.specs.Search.{IsFdOn, OnFd, IsFoundAt, IsAbsent, IsSearched, sectors_searched}
+use Rattle.rbf_walk.specs.Search.{IsFdOn, OnFd, IsNameFoundAt, IsAbsentName, IsSearched, sectors_searched}
 use Rattle.rbf_walk.specs.Walk.{AnswersWalk, directory_fault, step_calls, calls_on, walk_calls}
 use Rattle.rbf_walk.specs.declared.directory.Searched.{Searched}
 use Rattle.rbf_walk.specs.declared.directory.Searched.TheVariants.{Found, Absent}
@@ -31,17 +31,17 @@ use Rattle.rbf_walk.specs.declared.error.DirError.{DirError}
 use Rattle.rbf_walk.specs.declared.error.DirError.TheVariants.{NotAllowed, BadPath, NotFound, Exists, File}
 
 -- a media represents one volume at most
-pub same_content : (media : Option (List ℕ)) (v w : DiskVolume) → Represents media v → Represents media w → v ≡ w
+pub same_content : (media : Option (List ℕ)) (v w : DiskVolume) → RepresentsVolume media v → RepresentsVolume media w → v ≡ w
 same_content media v w one other =
     let same : one.image ≡ other.image = same_Some one.image other.image (sym one.is ∙ other.is) in
     let P : List ℕ → Type 0 = λ i. Vol i v in
     vol_is_unique other.image v w (subst P same one.vol) other.vol
 
 -- so the number of a file is that of one of the volume
-pub file_in : (media : Option (List ℕ)) (n : ℕ) (has : HasFile media n) (v : DiskVolume) → Represents media v → v.files n ≡ Some has.file
+pub file_in : (media : Option (List ℕ)) (n : ℕ) (has : HasFile media n) (v : DiskVolume) → RepresentsVolume media v → v.files n ≡ Some has.file
 file_in media n has v on = ap (λ (w : DiskVolume). w.files n) (same_content media v has.content on has.on) ∙ has.is
 
-represents_still : (media now : Option (List ℕ)) (v : DiskVolume) → now ≡ media → Represents media v → Represents now v
+represents_still : (media now : Option (List ℕ)) (v : DiskVolume) → now ≡ media → RepresentsVolume media v → RepresentsVolume now v
 represents_still media now v same on = record { image = on.image; is = same ∙ on.is; vol = on.vol }
 
 -- an answer that is a fault of a file call
@@ -63,7 +63,8 @@ fault_calls A fault r n s t is moved = subst (λ f. MovesCounts f n s t) (sym (a
     same_fault TooManyRuns = refl
 
 -- the descriptor's call is one of those that a step makes at most
-pub first_calls : (media : Option (List ℕ)) (dir : ℕ) (has : HasFile media dir) (user : ℕ) (execute : Bool) (name : List ℕ) (v : DiskVolume) → Represents media v → (f : Option ℕ) (s t : DriveCounts)
+pub first_calls : (media : Option (List ℕ)) (dir : ℕ) (has : HasFile media dir) (user : ℕ) (execute : Bool)
+    (name : List ℕ) (v : DiskVolume) → RepresentsVolume media v → (f : Option ℕ) (s t : DriveCounts)
     → MovesCounts f 1 s t → MovesCounts f (step_calls (v.files dir) user execute name) s t
 first_calls media dir has user execute name v on f s t one =
     subst (λ o. MovesCounts f (step_calls o user execute name) s t) (sym (file_in media dir has v on)) (counts_most f 1 (step_calls (Some has.file) user execute name) s t (omega arith) one)
@@ -82,7 +83,7 @@ module _ (media : Option (List ℕ)) (dir : ℕ) (has : HasFile media dir) (fd :
 
   module _ (user : ℕ) (execute : Bool) (name : List ℕ) (test : Bool)
       (tested : (file : DiskFile) → IsFdOf file fd → test ≡ may_search file user execute) (v : DiskVolume)
-      (on : Represents media v) where
+      (on : RepresentsVolume media v) where
     is : v.files dir ≡ Some has.file
     is = file_in media dir has v on
 
@@ -118,12 +119,12 @@ module _ (media : Option (List ℕ)) (dir : ℕ) (has : HasFile media dir) (fd :
 
       pub found_walked : (place n : ℕ) → answer ≡ Found place n → step (v.files dir) user execute name ≡ arrives n
       found_walked place n found =
-          let at : IsFoundAt has.file.contents name place n = subst (IsSearched has.file.contents name) found here in
+          let at : IsNameFoundAt has.file.contents name place n = subst (IsSearched has.file.contents name) found here in
           opened passes ∙ ap end_at at.names
 
       pub absent_walked : (free : ℕ) → answer ≡ Absent free → step (v.files dir) user execute name ≡ not_found
       absent_walked free absent =
-          let none : IsAbsent has.file.contents name free = subst (IsSearched has.file.contents name) absent here in
+          let none : IsAbsentName has.file.contents name free = subst (IsSearched has.file.contents name) absent here in
           opened passes ∙ ap end_at none.names_none
 
 -- where a name leads from a file there is a file
@@ -138,17 +139,17 @@ arrives_on media dir n user execute name has leads =
 
 -- a walk that has gone along the first names
 pub record IsWalkedTo (media : Option (List ℕ)) (user : ℕ) (execute : Bool) (from : ℕ) (names : List (List ℕ))
-    (at i : ℕ) (media_now : Option (List ℕ)) (volume volume_now : KeptVolume) (held : List Sector)
+    (at i : ℕ) (media_now : Option (List ℕ)) (volume volume_now : MountedPart) (held : List Sector)
     (before now : DriveCounts) : Type 0 where
   pub file : HasFile media at
   pub same_media : media_now ≡ media
   pub same_volume : volume_now ≡ volume
   pub cached : IsCacheOf media_now held
-  pub rest : (v : DiskVolume) → Represents media v → walk v.files user execute from names ≡ walk v.files user execute at (drop i names)
-  pub called : (v : DiskVolume) → Represents media v
+  pub rest : (v : DiskVolume) → RepresentsVolume media v → walk v.files user execute from names ≡ walk v.files user execute at (drop i names)
+  pub called : (v : DiskVolume) → RepresentsVolume media v
       → (k : ℕ) × MovesCounts None k before now × (k + walk_calls v.files user execute at (drop i names) ≤ walk_calls v.files user execute from names)
 
-pub not_begun : (media : Option (List ℕ)) (user : ℕ) (execute : Bool) (from : ℕ) (names : List (List ℕ)) (volume : KeptVolume) (held : List Sector) (before : DriveCounts)
+pub not_begun : (media : Option (List ℕ)) (user : ℕ) (execute : Bool) (from : ℕ) (names : List (List ℕ)) (volume : MountedPart) (held : List Sector) (before : DriveCounts)
     → HasFile media from → IsCacheOf media held
     → IsWalkedTo media user execute from names from 0 media volume volume held before before
 not_begun media user execute from names volume held before has cached = record {
@@ -170,7 +171,7 @@ stops_walked end next (File (Device n)) ends = tt
 stops_walked end next (File NoCluster) ends = ends
 stops_walked end next (File TooManyRuns) ends = ends
 
-module _ (media : Option (List ℕ)) (user : ℕ) (execute : Bool) (from : ℕ) (names : List (List ℕ)) (at i : ℕ) (mid : Option (List ℕ)) (volume half : KeptVolume) (before then_counts : DriveCounts)
+module _ (media : Option (List ℕ)) (user : ℕ) (execute : Bool) (from : ℕ) (names : List (List ℕ)) (at i : ℕ) (mid : Option (List ℕ)) (volume half : MountedPart) (before then_counts : DriveCounts)
     (held : List Sector) (so_far : IsWalkedTo media user execute from names at i mid volume half held before
     then_counts) (name : List ℕ) (low : i < length names) (item : name ≡ get_or names i name) where
   more : drop i names ≡ name ∷ drop (i + 1) names
@@ -178,7 +179,7 @@ module _ (media : Option (List ℕ)) (user : ℕ) (execute : Bool) (from : ℕ) 
       let next : suc i ≡ i + 1 = omega arith in
       drop-cons names i name low ∙ ap (λ x. x ∷ drop (suc i) names) (sym item) ∙ ap (λ j. name ∷ drop j names) next
 
-  module _ (v : DiskVolume) (on : Represents media v) where
+  module _ (v : DiskVolume) (on : RepresentsVolume media v) where
     walk_is : walk v.files user execute from names ≡ go_on (step (v.files at) user execute name) (λ n. walk v.files user execute n (drop (i + 1) names))
     walk_is = so_far.rest v on ∙ ap (walk v.files user execute at) more
 
@@ -186,16 +187,16 @@ module _ (media : Option (List ℕ)) (user : ℕ) (execute : Bool) (from : ℕ) 
         (step (v.files at) user execute name) (λ n. walk_calls v.files user execute n (drop (i + 1) names))
     calls_are = ap (walk_calls v.files user execute at) more
 
-  pub stopped_walked : (e : DirError) (r : Result ℕ DirError) → r ≡ Err e → ((v : DiskVolume) → Represents mid v → AnswersWalk (step (v.files at) user execute name) (Err e))
-      → (v : DiskVolume) → Represents media v → AnswersWalk (walk v.files user execute from names) r
+  pub stopped_walked : (e : DirError) (r : Result ℕ DirError) → r ≡ Err e → ((v : DiskVolume) → RepresentsVolume mid v → AnswersWalk (step (v.files at) user execute name) (Err e))
+      → (v : DiskVolume) → RepresentsVolume media v → AnswersWalk (walk v.files user execute from names) r
   stopped_walked e r is ends v on =
       let there = stops_walked (step (v.files at) user execute name) (λ n. walk v.files user execute n (drop (i + 1) names)) e (ends v (represents_still media mid v so_far.same_media on)) in
       let whole : AnswersWalk (walk v.files user execute from names) (Err e) = subst (λ end. AnswersWalk end (Err e)) (sym (walk_is v on)) there in
       subst (AnswersWalk (walk v.files user execute from names)) (sym is) whole
 
   pub stopped_calls : (e : DirError) (r : Result ℕ DirError) (now : DriveCounts) → r ≡ Err e
-      → ((v : DiskVolume) → Represents mid v → MovesCounts (directory_fault {A = ℕ} (Err e)) (step_calls (v.files at) user execute name) then_counts now)
-      → (v : DiskVolume) → Represents media v → MovesCounts (directory_fault r) (walk_calls v.files user execute from names) before now
+      → ((v : DiskVolume) → RepresentsVolume mid v → MovesCounts (directory_fault {A = ℕ} (Err e)) (step_calls (v.files at) user execute name) then_counts now)
+      → (v : DiskVolume) → RepresentsVolume media v → MovesCounts (directory_fault r) (walk_calls v.files user execute from names) before now
   stopped_calls e r now is moved v on =
       let w = so_far.called v on in
       let enough = w.2 in
@@ -206,9 +207,9 @@ module _ (media : Option (List ℕ)) (user : ℕ) (execute : Bool) (from : ℕ) 
       subst (λ f. MovesCounts f (walk_calls v.files user execute from names) before now) (sym (ap directory_fault is))
       (counts_most (directory_fault {A = ℕ} (Err e)) (w.0 + step_calls (v.files at) user execute name) (walk_calls v.files user execute from names) before now (omega arith) here)
 
-  pub one_more : (n : ℕ) (now : Option (List ℕ)) (after : KeptVolume) (counts : DriveCounts) (news : List Sector) → HasFile mid n → now ≡ mid → after ≡ half → IsCacheOf now news
-      → ((v : DiskVolume) → Represents mid v → step (v.files at) user execute name ≡ arrives n)
-      → ((v : DiskVolume) → Represents mid v → MovesCounts None (step_calls (v.files at) user execute name) then_counts counts)
+  pub one_more : (n : ℕ) (now : Option (List ℕ)) (after : MountedPart) (counts : DriveCounts) (news : List Sector) → HasFile mid n → now ≡ mid → after ≡ half → IsCacheOf now news
+      → ((v : DiskVolume) → RepresentsVolume mid v → step (v.files at) user execute name ≡ arrives n)
+      → ((v : DiskVolume) → RepresentsVolume mid v → MovesCounts None (step_calls (v.files at) user execute name) then_counts counts)
       → IsWalkedTo media user execute from names n (i + 1) now volume after news before counts
   one_more n now after counts news has same kept cached leads moved = record {
     file = subst (λ m. HasFile m n) so_far.same_media has;
@@ -225,12 +226,12 @@ module _ (media : Option (List ℕ)) (user : ℕ) (execute : Bool) (from : ℕ) 
   }
 
 -- all names have been gone along
-module _ (media : Option (List ℕ)) (user : ℕ) (execute : Bool) (from : ℕ) (names : List (List ℕ)) (at i : ℕ) (mid : Option (List ℕ)) (volume half : KeptVolume) (before counts : DriveCounts)
+module _ (media : Option (List ℕ)) (user : ℕ) (execute : Bool) (from : ℕ) (names : List (List ℕ)) (at i : ℕ) (mid : Option (List ℕ)) (volume half : MountedPart) (before counts : DriveCounts)
     (held : List Sector) (so_far : IsWalkedTo media user execute from names at i mid volume half held before counts) (past : length names ≤ i) where
-  pub ended_walked : (v : DiskVolume) → Represents media v → walk v.files user execute from names ≡ arrives at
+  pub ended_walked : (v : DiskVolume) → RepresentsVolume media v → walk v.files user execute from names ≡ arrives at
   ended_walked v on = so_far.rest v on ∙ ap (walk v.files user execute at) (drop_all i names past)
 
-  pub ended_calls : (v : DiskVolume) → Represents media v → MovesCounts None (walk_calls v.files user execute from names) before counts
+  pub ended_calls : (v : DiskVolume) → RepresentsVolume media v → MovesCounts None (walk_calls v.files user execute from names) before counts
   ended_calls v on =
       let w = so_far.called v on in
       let enough = w.2 in

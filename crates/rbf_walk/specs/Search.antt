@@ -8,7 +8,7 @@ use Rattle.rbf_model.specs.Volume.{DiskVolume}
 use Rattle.rbf_change.specs.Contents.{sector_count}
 use Rattle.rbf_change.specs.Names.{entry_place, place_of}
 use Rattle.rbf_sector.specs.declared.fd.Fd.{Fd}
-use Rattle.rbf_access.specs.Mounted.{Represents}
+use Rattle.rbf_access.specs.Mounted.{RepresentsVolume}
 use Rattle.rbf_access.specs.Reading.{IsFdOf}
 use Rattle.rbf_walk.specs.declared.sector.NameEnd.{NameEnd}
 use Rattle.rbf_walk.specs.declared.directory.Searched.{Searched}
@@ -19,7 +19,7 @@ abbrev pub NonePasses : (List ℕ → Bool) → List ℕ → ℕ → Type 0
 NonePasses test bytes count = (k : ℕ) → k < count → test (directory_entry bytes k) ≡ false
 
 -- of the first `count` entries, the one in place i is the first that passes
-pub record IsFirst (test : List ℕ → Bool) (bytes : List ℕ) (count i : ℕ) : Type 0 where
+pub record IsFirstMatch (test : List ℕ → Bool) (bytes : List ℕ) (count i : ℕ) : Type 0 where
   pub below : i < count
   pub passes : test (directory_entry bytes i) ≡ true
   pub before : NonePasses test bytes i
@@ -33,7 +33,7 @@ pub record IsEndOf (name : List ℕ) (end : NameEnd) : Type 0 where
 -- the descriptor is that of a file of the volume that the media represents
 pub record IsFdOn (media : Option (List ℕ)) (fd : Fd) : Type 0 where
   pub content : DiskVolume
-  pub on : Represents media content
+  pub on : RepresentsVolume media content
   pub number : ℕ
   pub file : DiskFile
   pub is : content.files number ≡ Some file
@@ -42,11 +42,11 @@ pub record IsFdOn (media : Option (List ℕ)) (fd : Fd) : Type 0 where
 -- a fact about each file that has this descriptor
 abbrev pub OnFd : Option (List ℕ) → Fd → (DiskFile → Type 0) → Type 0
 OnFd media fd fact =
-    (v : DiskVolume) (n : ℕ) (file : DiskFile) → Represents media v → v.files n ≡ Some file → IsFdOf file fd
+    (v : DiskVolume) (n : ℕ) (file : DiskFile) → RepresentsVolume media v → v.files n ≡ Some file → IsFdOf file fd
     → fact file
 
 -- the entry with the name is in this place and names this descriptor
-pub record IsFoundAt (contents name : List ℕ) (place descriptor : ℕ) : Type 0 where
+pub record IsNameFoundAt (contents name : List ℕ) (place descriptor : ℕ) : Type 0 where
   pub there : place_of contents name ≡ Some place
   pub within : 32 * (place + 1) ≤ length contents
   pub has : entry_has_name name (directory_entry contents place) ≡ true
@@ -54,15 +54,15 @@ pub record IsFoundAt (contents name : List ℕ) (place descriptor : ℕ) : Type 
   pub names : look_up contents name ≡ Some descriptor
 
 -- no entry has the name, and a new one is put into this place
-pub record IsAbsent (contents name : List ℕ) (free : ℕ) : Type 0 where
+pub record IsAbsentName (contents name : List ℕ) (free : ℕ) : Type 0 where
   pub nowhere : place_of contents name ≡ None
   pub names_none : look_up contents name ≡ None
   pub free_is : free ≡ entry_place contents
 
 -- the answer of a search of these bytes for a name
 abbrev pub IsSearched : List ℕ → List ℕ → Searched → Type 0
-IsSearched contents name (Found place descriptor) = IsFoundAt contents name place descriptor
-IsSearched contents name (Absent free) = IsAbsent contents name free
+IsSearched contents name (Found place descriptor) = IsNameFoundAt contents name place descriptor
+IsSearched contents name (Absent free) = IsAbsentName contents name free
 
 -- the number of sectors up to the one with the entry in this place, or all; each sector has 8 entries
 abbrev pub sectors_to : Option ℕ → ℕ → ℕ

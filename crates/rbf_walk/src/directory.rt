@@ -3,8 +3,8 @@ ghost use Rattle.rbf_model.specs.Fields.{is_used};
 ghost use Rattle.rbf_change.specs.Contents.{sector_count};
 ghost use Rattle.rbf_access.specs.Drive.{Counts};
 ghost use Rattle.rbf_access.specs.Faults.{file_fault};
-ghost use Rattle.rbf_access.specs.Mounted.{kept, IsMounted};
-ghost use Rattle.rbf_walk.specs.Search.{NonePasses, IsFirst, IsFdOn, OnFd, IsSearched, sectors_searched};
+ghost use Rattle.rbf_access.specs.Mounted.{mounted_part, IsMounted};
+ghost use Rattle.rbf_walk.specs.Search.{NonePasses, IsFirstMatch, IsFdOn, OnFd, IsSearched, sectors_searched};
 
 use crate::sector::{descriptor_in, entries_in, free_in, named_in};
 use os9_base::name::Name;
@@ -41,7 +41,7 @@ pub fn search(
     ensures device { OnErr result (IsSome (file_fault result)) }
     ensures mounted { IsMounted v.new (media d.new) }
     ensures media_kept { media d.new ≡ media d.old }
-    ensures volume_kept { kept v.new ≡ kept v.old }
+    ensures volume_kept { mounted_part v.new ≡ mounted_part v.old }
     ensures counts { Counts BlockDriver-dyn
         (file_fault result) (sector_count dir.now.size) d.old d.new }
     ensures read { OnFd (media d.old) dir.now (λ file.
@@ -75,7 +75,7 @@ fn first_free(before: Option<u32>, sector: &[u8; 256], count: u32, place: u32) -
     ensures none { before ≡ None → MatchOption result
         (NonePasses (λ entry. not (is_used entry)) sector.now count)
         (λ at. (8 * place ≤ at)
-        × IsFirst (λ entry. not (is_used entry)) sector.now count (at - 8 * place)) }
+        × IsFirstMatch (λ entry. not (is_used entry)) sector.now count (at - 8 * place)) }
 {
     if before.is_some() {
         return before;

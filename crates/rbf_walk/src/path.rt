@@ -1,7 +1,7 @@
 ghost use Rattle.std.specs.Prelude.{◌≡◌, ℕ, IfOk};
 ghost use Rattle.rbf_model.specs.Walk as model;
 ghost use Rattle.rbf_access.specs.Drive.{Counts};
-ghost use Rattle.rbf_access.specs.Mounted.{kept, HasFile, IsMounted, OnVolume};
+ghost use Rattle.rbf_access.specs.Mounted.{mounted_part, HasFile, IsMounted, OnVolume};
 ghost use Rattle.rbf_walk.specs.Walk.{AnswersWalk, directory_fault, step_calls, walk_calls};
 
 use crate::directory::{Searched, search};
@@ -33,7 +33,7 @@ pub fn walk(
     ensures file { IfOk result (HasFile (media d.old)) }
     ensures mounted { IsMounted v.new (media d.new) }
     ensures media_kept { media d.new ≡ media d.old }
-    ensures volume_kept { kept v.new ≡ kept v.old }
+    ensures volume_kept { mounted_part v.new ≡ mounted_part v.old }
     ensures counts { OnVolume (media d.old) (λ on. Counts BlockDriver-dyn (directory_fault result)
         (walk_calls on.files by.user by.execute from names.now) d.old d.new) }
 {
@@ -59,7 +59,7 @@ fn step(
     ensures file { IfOk result (HasFile (media d.old)) }
     ensures mounted { IsMounted v.new (media d.new) }
     ensures media_kept { media d.new ≡ media d.old }
-    ensures volume_kept { kept v.new ≡ kept v.old }
+    ensures volume_kept { mounted_part v.new ≡ mounted_part v.old }
     ensures counts { OnVolume (media d.old) (λ on. Counts BlockDriver-dyn (directory_fault result)
         (step_calls (on.files dir) by.user by.execute name.now) d.old d.new) }
 {

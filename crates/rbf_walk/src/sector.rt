@@ -2,7 +2,7 @@ ghost use Rattle.std.specs.Prelude.{◌≡◌, ℕ, List, ◌-◌, ◌*◌, ◌^
 ghost use Rattle.os9_base.specs.Name as model;
 ghost use Rattle.rbf_model.specs.Fields.{directory_entry, descriptor_field, is_used};
 ghost use Rattle.rbf_model.specs.Walk.{entry_has_name};
-ghost use Rattle.rbf_walk.specs.Search.{NonePasses, IsFirst, IsEndOf};
+ghost use Rattle.rbf_walk.specs.Search.{NonePasses, IsFirstMatch, IsEndOf};
 
 use os9_base::name::{Name, header_name, same_name};
 use rbf_sector::read_entry;
@@ -27,7 +27,7 @@ pub fn named_in(sector: &[u8; 256], count: u32, name: &Name) -> Option<u32>
     requires { count ≤ 8 }
     ensures { MatchOption result
         (NonePasses (entry_has_name name.now) sector.now count)
-        (IsFirst (entry_has_name name.now) sector.now count) }
+        (IsFirstMatch (entry_has_name name.now) sector.now count) }
 {
     let end = end_of(name);
     if none_alike(sector, name, end) {
@@ -71,7 +71,7 @@ pub fn free_in(sector: &[u8; 256], count: u32) -> Option<u32>
     requires { count ≤ 8 }
     ensures { MatchOption result
         (NonePasses (λ entry. not (is_used entry)) sector.now count)
-        (IsFirst (λ entry. not (is_used entry)) sector.now count) }
+        (IsFirstMatch (λ entry. not (is_used entry)) sector.now count) }
 {
     if none_free(sector) {
         return None;

@@ -7,7 +7,7 @@ use Rattle.std.proofs.lemmas.Grind.{same_number_lists}
 use Rattle.rbf_model.specs.Writes.{put_at}
 use Rattle.rbf_segs.proofs.Runs.{append_nil}
 use Rattle.rbf_change.specs.Contents.{extended}
-use Rattle.rbf_change.specs.Faults.{IsFront, none, sector, end}
+use Rattle.rbf_change.specs.Faults.{IsWriteFront, none, sector, end}
 use Rattle.rbf_write.specs.Laid.{laid_byte, laid_bytes}
 use Rattle.rbf_write.proofs.LaidBytes.{laid_in, laid_after, laid_zero, laid_before, put_before, put_in, put_behind, target_byte, length-target}
 use Rattle.rbf_model.proofs.Pieces.{length-put_at}
@@ -162,7 +162,7 @@ module _ (whole contents : List ℕ) (at : ℕ) (from : List ℕ) (first : conte
             ∙ sym (ap (λ k. put_at contents at (take k from)) none_is ∙ put_none contents at)
 
 -- how many bytes of a write the file has where the sectors before a place have been written
-pub front_of_sectors : (size at j : ℕ) (bytes : List ℕ) → 256 * j < at + length bytes → IsFront size at bytes (min (256 * j) size - at)
+pub front_of_sectors : (size at j : ℕ) (bytes : List ℕ) → 256 * j < at + length bytes → IsWriteFront size at bytes (min (256 * j) size - at)
 front_of_sectors size at j bytes unfinished = ⊎_elim
     (λ inside. ⊎_elim
     (λ early.
@@ -171,12 +171,12 @@ front_of_sectors size at j bytes unfinished = ⊎_elim
     sector (omega arith) (omega arith) (ap (λ n. n % 256) place ∙ whole))
     (λ late. end (omega arith) (omega arith))
     (cases_lt (256 * j) size))
-    (λ past. let nothing : min (256 * j) size - at ≡ 0 = omega arith in subst (IsFront size at bytes) (sym nothing) none)
+    (λ past. let nothing : min (256 * j) size - at ≡ 0 = omega arith in subst (IsWriteFront size at bytes) (sym nothing) none)
     (cases_lt at (min (256 * j) size))
 
 -- and where all have been, but not the descriptor
-pub front_of_all : (size at : ℕ) (bytes : List ℕ) → size < at + length bytes → IsFront size at bytes (min (at + length bytes) size - at)
+pub front_of_all : (size at : ℕ) (bytes : List ℕ) → size < at + length bytes → IsWriteFront size at bytes (min (at + length bytes) size - at)
 front_of_all size at bytes longer = ⊎_elim
     (λ inside. end (omega arith) (omega arith))
-    (λ past. let nothing : min (at + length bytes) size - at ≡ 0 = omega arith in subst (IsFront size at bytes) (sym nothing) none)
+    (λ past. let nothing : min (at + length bytes) size - at ≡ 0 = omega arith in subst (IsWriteFront size at bytes) (sym nothing) none)
     (cases_lt at size)

@@ -15,7 +15,7 @@ use Rattle.rbf_model.specs.Writes.{put_sector, put_file, with_file, with_lost}
 use Rattle.rbf_model.specs.Laws.{IsMapSector}
 use Rattle.rbf_model.proofs.Owners.{cluster_positive, mark_sector, file_cluster_below}
 use Rattle.rbf_segs.proofs.Runs.{sectors_of-shortened}
-use Rattle.rbf_change.specs.Agrees.{KeptVolume, Agrees}
+use Rattle.rbf_change.specs.Agrees.{MountedPart, Agrees}
 use Rattle.rbf_change.specs.Calls.{shape, cluster_size, free_total, replaced, minute_of, cuts}
 use Rattle.rbf_change.specs.Contents.{sector_count}
 use Rattle.rbf_change.specs.Cut.{cut_file}
@@ -29,21 +29,21 @@ use Rattle.rbf_access.specs.MapMarks.{marking_sectors}
 use Rattle.rbf_access.specs.Drive.{DriveCounts, MovesCounts}
 use Rattle.rbf_access.specs.Faults.{file_fault}
 use Rattle.rbf_access.specs.Cached.{IsCacheOf}
-use Rattle.rbf_access.specs.Mounted.{kept, Represents, IsMounted, IsSound}
+use Rattle.rbf_access.specs.Mounted.{mounted_part, RepresentsVolume, IsMounted, IsSoundMedia}
 use Rattle.rbf_access.specs.Reading.{IsFdOf}
 use Rattle.rbf_access.proofs.Counting.{counts_then}
 use Rattle.rbf_access.proofs.ReadFile.{room_for}
 use Rattle.rbf_alloc.proofs.Growing.{agrees_on, k_is}
 use Rattle.rbf_write.specs.Changed.{HasFields}
 use Rattle.rbf_write.proofs.Redated.{behind_map, beside_put, here_put, agrees_put}
-use Rattle.rbf_alloc.specs.Cleared.{MayClear, IsCleared, before}
+use Rattle.rbf_alloc.specs.Cleared.{MayClear, AreMarksCleared, before}
 use Rattle.rbf_alloc.proofs.FileClusters.{AreSome, fields_some}
 use Rattle.rbf_alloc.specs.declared.rest.CutSectors.{CutSectors}
 use Rattle.rbf_alloc.specs.Rest.{in_rest}
 use Rattle.rbf_alloc.specs.Release.{MayRelease, IsReleasing, ReleaseEnds}
 use Rattle.rbf_write.specs.declared.loaded.Loaded.{Loaded}
-use Rattle.rbf_write.specs.Files.{HasDataFile, IsLoaded}
-use Rattle.rbf_write.specs.Sizes.{Sizing, size_needs, giving_up, given_up, giving_calls, zeroed_segments, IsSized, SizeIsEnded, AnswersSize}
+use Rattle.rbf_write.specs.Files.{HasDataFile, IsDescriptorLoaded}
+use Rattle.rbf_write.specs.Sizes.{Sizing, size_needs, giving_up, given_up, giving_calls, zeroed_segments, IsFileSized, SizeIsEnded, AnswersSize}
 use Rattle.rbf_write.proofs.Laid.{no_clusters}
 use Rattle.rbf_write.proofs.Steps.{data_in}
 use Rattle.rbf_write.specs.Kept.{kept_sectors, IsStored}
@@ -64,7 +64,7 @@ not_one true b h = absurd (false≢true h)
 not_one false b h = refl
 
 -- a file has the sectors that a lesser size needs
-pub cut_room : (media : Option (List ℕ)) (loaded : Loaded) (size : ℕ) → IsLoaded media loaded.number loaded
+pub cut_room : (media : Option (List ℕ)) (loaded : Loaded) (size : ℕ) → IsDescriptorLoaded media loaded.number loaded
     → HasDataFile media loaded.number → size < loaded.file.size → sector_count size ≤ length (sectors_of loaded.file.segs)
 cut_room media loaded size is_loaded has shorter =
     let fd = is_loaded.says has.content has.file has.on has.is in
@@ -75,7 +75,7 @@ cut_room media loaded size is_loaded has shorter =
 
 -- where all its sectors are kept, its segments are
 pub cut_same : (media : Option (List ℕ)) (loaded : Loaded) (m : ℕ) (segs : List (ℕ × ℕ))
-    → IsLoaded media loaded.number loaded → segs ≡ shortened_segments m loaded.file.segs
+    → IsDescriptorLoaded media loaded.number loaded → segs ≡ shortened_segments m loaded.file.segs
     → length (sectors_of segs) ≡ length (sectors_of loaded.file.segs)
     → segs ≡ loaded.file.segs
 cut_same media loaded m segs is_loaded segs_are same =
@@ -86,12 +86,12 @@ cut_same media loaded m segs is_loaded segs_are same =
     segs_are ∙ shortened_whole m loaded.file.segs some.some (omega arith)
 
 module _ (media mid : Option (List ℕ)) (loaded : Loaded) (size : ℕ) (now : TimePacket)
-    (is_loaded : IsLoaded media loaded.number loaded) (has_file : HasDataFile media loaded.number) (volume half : Volume)
+    (is_loaded : IsDescriptorLoaded media loaded.number loaded) (has_file : HasDataFile media loaded.number) (volume half : Volume)
     (mounted : IsMounted volume media)
-    (volume_kept : kept half ≡ kept volume) (shorter : size < loaded.file.size) (segs : List (ℕ × ℕ))
+    (volume_kept : mounted_part half ≡ mounted_part volume) (shorter : size < loaded.file.size) (segs : List (ℕ × ℕ))
     (segs_are : segs ≡ shortened_segments (kept_sectors volume.ident.cluster loaded.number loaded.file.segs size)
     loaded.file.segs)
-    (stored : IsStored loaded segs size now media mid) (v : DiskVolume) (old : DiskFile) (on : Represents media v) (is : v.files loaded.number ≡ Some old) where
+    (stored : IsStored loaded segs size now media mid) (v : DiskVolume) (old : DiskFile) (on : RepresentsVolume media v) (is : v.files loaded.number ≡ Some old) where
   abbrev n : ℕ
   n = loaded.number
 
@@ -131,7 +131,7 @@ module _ (media mid : Option (List ℕ)) (loaded : Loaded) (size : ℕ) (now : T
   less : size < length old.contents
   less = let long = fd.size_is in omega arith
 
-  agrees : Agrees (kept volume) image
+  agrees : Agrees (mounted_part volume) image
   agrees = agrees_on volume media v mounted on
 
   segs_is : segs ≡ new.segments
@@ -156,23 +156,23 @@ module _ (media mid : Option (List ℕ)) (loaded : Loaded) (size : ℕ) (now : T
 
   gone_is : in_rest half.ident.cluster sectors ≡ gone
   gone_is =
-      ap (λ k. in_rest k sectors) (ap (λ (kv : KeptVolume). kv.sizes.cluster) volume_kept ∙ ap (λ (h : Geometry). h.cluster) agrees.sizes_are)
+      ap (λ k. in_rest k sectors) (ap (λ (kv : MountedPart). kv.sizes.cluster) volume_kept ∙ ap (λ (h : Geometry). h.cluster) agrees.sizes_are)
       ∙ ap (λ xs. in_rest g.cluster (record { old = record { fd = n; segs = xs }; kept = record { fd = n; segs = segs } })) fd.segments_are
       ∙ ap (λ xs. in_rest g.cluster (record { old = record { fd = n; segs = old.segments }; kept = record { fd = n; segs = xs } })) segs_is
 
-  pub releasing : IsReleasing lessened middle half.ident.cluster sectors mid (kept half)
+  pub releasing : IsReleasing lessened middle half.ident.cluster sectors mid (mounted_part half)
   releasing = record {
     is = mid_is;
     vol = cut_volume image v on.vol n old is not_directory (cluster_size v) size (minute_of now) less loaded.file fd bytes stored.says.whole fields list_is;
-    agrees = subst (λ kv. Agrees kv middle) (sym volume_kept) (agrees_put image v on.vol n old is bytes stored.says.whole (kept volume) agrees);
+    agrees = subst (λ kv. Agrees kv middle) (sym volume_kept) (agrees_put image v on.vol n old is bytes stored.says.whole (mounted_part volume) agrees);
     may = subst (MayClear lessened middle) (sym gone_is) (may_clear image v on.vol n old new is not_directory bytes stored.says.whole list_is inside);
   }
 
   -- the media is sound once the descriptor is written
-  pub cut_sound : IsSound mid
+  pub cut_sound : IsSoundMedia mid
   cut_sound = (lessened, record { image = middle; is = releasing.is; vol = releasing.vol })
 
-  pub may_release : MayRelease half.ident.cluster sectors mid (kept half)
+  pub may_release : MayRelease half.ident.cluster sectors mid (mounted_part half)
   may_release = record { volume = lessened; old = middle; is = releasing }
 
   -- which clusters are given up
@@ -187,17 +187,17 @@ module _ (media mid : Option (List ℕ)) (loaded : Loaded) (size : ℕ) (now : T
       cond-true (nat_lt size (length old.contents)) (given_up v old sizing c) false (lt-ltb size (length old.contents) less)
       ∙ ap (λ h. has_cluster h n old c && not (has_cluster h n new c)) shaped ∙ sym (rest c)
 
-  same_sectors : marking_sectors (kept half).sizes (in_rest half.ident.cluster sectors) ≡ giving_calls v old sizing
+  same_sectors : marking_sectors (mounted_part half).sizes (in_rest half.ident.cluster sectors) ≡ giving_calls v old sizing
   same_sectors =
-      ap (λ (kv : KeptVolume). marking_sectors kv.sizes (in_rest half.ident.cluster sectors)) volume_kept
+      ap (λ (kv : MountedPart). marking_sectors kv.sizes (in_rest half.ident.cluster sectors)) volume_kept
       ∙ ap (λ s. marking_sectors s (in_rest half.ident.cluster sectors)) (agrees.sizes_are ∙ sym shaped)
       ∙ ap (marking_sectors (shape v)) (gone_is ∙ fun_ext (λ c. rest c ∙ sym (ap (λ h. has_cluster h n old c && not (has_cluster h n new c)) shaped)))
 
   pub cut_calls : (f : Option ℕ) (s t u : DriveCounts) → MovesCounts None 1 s t
-      → MovesCounts f (marking_sectors (kept half).sizes (in_rest half.ident.cluster sectors)) t u
+      → MovesCounts f (marking_sectors (mounted_part half).sizes (in_rest half.ident.cluster sectors)) t u
       → MovesCounts f (1 + giving_calls v old sizing) s u
   cut_calls f s t u one more =
-      subst (λ x. MovesCounts f (1 + x) s u) same_sectors (counts_then f 1 (marking_sectors (kept half).sizes (in_rest half.ident.cluster sectors)) s t u one more)
+      subst (λ x. MovesCounts f (1 + x) s u) same_sectors (counts_then f 1 (marking_sectors (mounted_part half).sizes (in_rest half.ident.cluster sectors)) s t u one more)
 
   behind : map_sectors g < n
   behind = behind_map image v on.vol n old is bytes stored.says.whole
@@ -205,7 +205,7 @@ module _ (media mid : Option (List ℕ)) (loaded : Loaded) (size : ℕ) (now : T
   shape_kept : image_geometry middle ≡ g
   shape_kept = ap geometry (beside_put image v on.vol n old is bytes stored.says.whole 0 (λ same. let past = behind in absurd (omega arith)))
 
-  module _ (cleared : ℕ → Bool) (after : Option (List ℕ)) (last : KeptVolume) (clear : IsCleared lessened middle cleared after last) where
+  module _ (cleared : ℕ → Bool) (after : Option (List ℕ)) (last : MountedPart) (clear : AreMarksCleared lessened middle cleared after last) where
     marks_then : (c : ℕ) → c < 2048 * map_sectors g → is_marked (sector clear.now) c ≡ (is_marked (sector image) c && not (cleared c))
     marks_then c low =
         clear.marks c (subst (λ h. c < 2048 * map_sectors h) (sym shape_kept) low)
@@ -223,7 +223,7 @@ module _ (media mid : Option (List ℕ)) (loaded : Loaded) (size : ℕ) (now : T
         let was : loaded.descriptor ≡ sector image n = is_loaded.bytes_are ∙ ap (λ m. sector_at m n) on.is in
         subst (λ b. KeepsListEnd (sector image n) b) (sym here) (subst (λ b. KeepsListEnd b bytes) was stored.says.end)
 
-    pub cut_mounted : (other : Volume) → kept other ≡ last → IsCacheOf after other.cache → IsMounted other after
+    pub cut_mounted : (other : Volume) → mounted_part other ≡ last → IsCacheOf after other.cache → IsMounted other after
     cut_mounted other same cached = record {
       content = with_lost lessened (λ c. lessened.lost c && not (cleared c));
       on = record { image = clear.now; is = clear.is; vol = clear.vol };
@@ -232,9 +232,9 @@ module _ (media mid : Option (List ℕ)) (loaded : Loaded) (size : ℕ) (now : T
     }
 
   -- all have been given back
-  module _ (after : Option (List ℕ)) (last : KeptVolume) (all : IsCleared lessened middle (in_rest half.ident.cluster sectors) after last) where
-    clear : IsCleared lessened middle gone after last
-    clear = subst (λ t. IsCleared lessened middle t after last) gone_is all
+  module _ (after : Option (List ℕ)) (last : MountedPart) (all : AreMarksCleared lessened middle (in_rest half.ident.cluster sectors) after last) where
+    clear : AreMarksCleared lessened middle gone after last
+    clear = subst (λ t. AreMarksCleared lessened middle t after last) gone_is all
 
     lost_all : (c : ℕ) → (lessened.lost c && not (gone c)) ≡ v.lost c
     lost_all c = ap (λ t. lessened.lost c && not t) (rest c) ∙ lost_then image v on.vol n old new is not_directory bytes stored.says.whole list_is inside c
@@ -254,7 +254,7 @@ module _ (media mid : Option (List ℕ)) (loaded : Loaded) (size : ℕ) (now : T
         cond-false (nat_lt (length old.contents) size) new.segments []
         (false_from_ne_true (nat_lt (length old.contents) size) (λ h. let more = ltb-true (length old.contents) size h in absurd (omega arith)))
 
-    pub cut_done : IsSized v old sizing media after
+    pub cut_done : IsFileSized v old sizing media after
     cut_done = record {
       enough = enough;
       volume = replaced v n (Some new);
@@ -278,14 +278,14 @@ module _ (media mid : Option (List ℕ)) (loaded : Loaded) (size : ℕ) (now : T
     }
 
   -- a fault came before all had been
-  module _ (after : Option (List ℕ)) (last : KeptVolume) (stop : ReleaseEnds lessened middle (in_rest half.ident.cluster sectors) after last) where
+  module _ (after : Option (List ℕ)) (last : MountedPart) (stop : ReleaseEnds lessened middle (in_rest half.ident.cluster sectors) after last) where
     ended : ReleaseEnds lessened middle gone after last
     ended = subst (λ t. ReleaseEnds lessened middle t after last) gone_is stop
 
     abbrev place : ℕ
     place = ended.place
 
-    so_far : IsCleared lessened middle (before gone place) after last
+    so_far : AreMarksCleared lessened middle (before gone place) after last
     so_far = ended.cleared
 
     abbrev left : DiskVolume
@@ -344,5 +344,5 @@ module _ (media mid : Option (List ℕ)) (loaded : Loaded) (size : ℕ) (now : T
     cut_stopped NoCluster is_fault = absurd (both_ways false refl is_fault)
     cut_stopped TooManyRuns is_fault = absurd (both_ways false refl is_fault)
 
-    pub stopped_mounted : (other : Volume) → kept other ≡ last → IsCacheOf after other.cache → IsMounted other after
+    pub stopped_mounted : (other : Volume) → mounted_part other ≡ last → IsCacheOf after other.cache → IsMounted other after
     stopped_mounted other same cached = cut_mounted (before gone place) after last so_far other same cached

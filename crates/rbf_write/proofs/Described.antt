@@ -16,7 +16,7 @@ use Rattle.rbf_model.specs.Writes.{put_sector, put_file, with_lost, lost_after}
 use Rattle.rbf_model.specs.Laws.{Redescribes}
 use Rattle.rbf_model.proofs.Owners.{cluster_positive}
 use Rattle.rbf_model.proofs.ImageLaws.{describe_image}
-use Rattle.rbf_change.specs.Agrees.{KeptVolume, Agrees}
+use Rattle.rbf_change.specs.Agrees.{MountedPart, Agrees}
 use Rattle.rbf_change.specs.Calls.{replaced}
 use Rattle.rbf_change.specs.Growth.{uses, with_clusters, Gains}
 use Rattle.rbf_write.proofs.Segments.{with_segments, IsSpace, space_with, space_old, lost_apart, used_is, uses_with, used_or_old, old_stays}
@@ -131,7 +131,7 @@ module _ (image : List ℕ) (v : DiskVolume) (lost : ℕ → Bool) (taken : List
       (describe_image image u vol n old bytes whole law)
 
 -- a volume stays mounted where sector 0 and the map have not changed
-pub agrees_beside : (kv : KeptVolume) (old now : List ℕ) → Agrees kv old → ((s : ℕ) → s ≤ map_sectors (image_geometry old) → sector now s ≡ sector old s) → Agrees kv now
+pub agrees_beside : (kv : MountedPart) (old now : List ℕ) → Agrees kv old → ((s : ℕ) → s ≤ map_sectors (image_geometry old) → sector now s ≡ sector old s) → Agrees kv now
 unfolding is_marked
 agrees_beside kv old now agrees same =
     let shape : image_geometry now ≡ image_geometry old = ap geometry (same 0 (omega arith)) in

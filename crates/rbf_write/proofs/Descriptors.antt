@@ -10,7 +10,7 @@ use Rattle.rbf_access.proofs.Reading.{size_of}
 use Rattle.rbf_sector.specs.Parts.{KeepsBeside}
 use Rattle.rbf_sector.proofs.Pairs.{pair_kept}
 use Rattle.rbf_write.specs.Changed.{HasFields}
-use Rattle.rbf_write.specs.Files.{HasDataFile, IsLoaded}
+use Rattle.rbf_write.specs.Files.{HasDataFile, IsDescriptorLoaded}
 use Rattle.rbf_write.specs.declared.loaded.Loaded.{Loaded}
 
 -- segment lists of descriptors that agree from 16 on
@@ -25,7 +25,7 @@ list_stays old new whole all same =
     ap (take_while has_sectors) (map_same (segment_field new) (segment_field old) 0 48 (λ i. pair_kept old new 0 16 i beside (inr (omega arith))))
 
 -- a file that has been read has the fields of its descriptor
-pub loaded_fields : (media : Option (List ℕ)) (n : ℕ) (loaded : Loaded) → HasDataFile media n → IsLoaded media n loaded → HasFields loaded.file loaded.descriptor
+pub loaded_fields : (media : Option (List ℕ)) (n : ℕ) (loaded : Loaded) → HasDataFile media n → IsDescriptorLoaded media n loaded → HasFields loaded.file loaded.descriptor
 loaded_fields media n loaded has is =
     let said = is.says has.content has.file has.on has.is in
     let there : loaded.descriptor ≡ sector has.on.image n = is.bytes_are ∙ ap (λ m. sector_at m n) has.on.is in
@@ -45,5 +45,5 @@ pub data_still : (before now : Option (List ℕ)) (n m : ℕ) → now ≡ before
 data_still before now n m same number has =
     subst (λ i. HasDataFile now i) (sym number) (subst (λ media. HasDataFile media n) (sym same) has)
 
-pub loaded_number : (media : Option (List ℕ)) (n : ℕ) (loaded : Loaded) → IsLoaded media n loaded → IsLoaded media loaded.number loaded
-loaded_number media n loaded is = subst (λ i. IsLoaded media i loaded) (sym is.number_is) is
+pub loaded_number : (media : Option (List ℕ)) (n : ℕ) (loaded : Loaded) → IsDescriptorLoaded media n loaded → IsDescriptorLoaded media loaded.number loaded
+loaded_number media n loaded is = subst (λ i. IsDescriptorLoaded media i loaded) (sym is.number_is) is

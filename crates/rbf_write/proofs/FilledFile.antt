@@ -22,7 +22,7 @@ use Rattle.rbf_model.proofs.Segments.{length-joined, has_left}
 use Rattle.rbf_model.proofs.SectorBytes.{sector_of_joined}
 use Rattle.rbf_change.specs.Calls.{shape}
 use Rattle.rbf_change.proofs.LawfulWrites.{shape-image}
-use Rattle.rbf_access.specs.Mounted.{Represents}
+use Rattle.rbf_access.specs.Mounted.{RepresentsVolume}
 use Rattle.rbf_access.proofs.Reading.{below_total}
 use Rattle.rbf_access.proofs.ReadFile.{contents_are}
 use Rattle.rbf_access.proofs.ReadPieces.{full_sector}
@@ -192,7 +192,7 @@ module _ (u : DiskVolume) (n : ℕ) (file : DiskFile) (segments : List (ℕ × �
     on_drive = below_total mid w (record { image = now; is = laid.is; vol = laid.vol }) s below
 
   -- before anything has been written
-  pub laid_none : (media : Option (List ℕ)) → Represents media u → IsLaid u n file segments media media (segment_bytes (sector_at media) segments)
+  pub laid_none : (media : Option (List ℕ)) → RepresentsVolume media u → IsLaid u n file segments media media (segment_bytes (sector_at media) segments)
   laid_none media on =
       let same : segment_bytes (sector_at media) segments ≡ segment_bytes (sector on.image) segments = ap (λ m. segment_bytes (sector_at m) segments) on.is in
       let contents : take (length file.contents) (segment_bytes (sector_at media) segments) ≡ file.contents =
@@ -212,13 +212,13 @@ module _ (u : DiskVolume) (n : ℕ) (file : DiskFile) (segments : List (ℕ × �
         others = λ s none. refl;
       }
     where
-      own_full : (media : Option (List ℕ)) → (on : Represents media u) → (x : ℕ) → has own x ≡ true → length (sector_at media x) ≡ 256
+      own_full : (media : Option (List ℕ)) → (on : RepresentsVolume media u) → (x : ℕ) → has own x ≡ true → length (sector_at media x) ≡ 256
       own_full media on x h =
           let there : has xs x ≡ true = subst (λ ys. has ys x ≡ true) (sym known.sectors_are) (has_left own known.more x h) in
           full_sector media x (below_total media u on x (subst (λ g. x < g.total) (shape-image on.image u on.vol) (known.below x there)))
 
   -- all of the sectors are whole
-  pub all_of_none : (media : Option (List ℕ)) → Represents media u → length (segment_bytes (sector_at media) segments) ≡ 256 * length xs
+  pub all_of_none : (media : Option (List ℕ)) → RepresentsVolume media u → length (segment_bytes (sector_at media) segments) ≡ 256 * length xs
   all_of_none media on = length-joined (sector_at media) xs (λ x h. full_sector media x (below_total media u on x (subst (λ g. x < g.total) (shape-image on.image u on.vol) (known.below x h))))
 
   -- and on the drive, whatever has been written

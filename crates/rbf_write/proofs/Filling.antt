@@ -9,7 +9,7 @@ use Rattle.rbf_model.specs.Writes.{with_file_in_place}
 use Rattle.rbf_model.specs.Segments.{sectors_of, has}
 use Rattle.rbf_model.specs.File.{DiskFile, segment_bytes}
 use Rattle.rbf_model.specs.Volume.{DiskVolume}
-use Rattle.rbf_change.specs.Agrees.{KeptVolume, Agrees}
+use Rattle.rbf_change.specs.Agrees.{MountedPart, Agrees}
 use Rattle.rbf_change.specs.Calls.{shape}
 use Rattle.rbf_change.proofs.LawfulWrites.{shape-image}
 use Rattle.rbf_access.specs.declared.volume.Volume.{Volume}
@@ -19,7 +19,7 @@ use Rattle.rbf_change.specs.Contents.{sector_span}
 use Rattle.rbf_access.specs.Drive.{DriveCounts, MovesCounts}
 use Rattle.sector_cache.specs.declared.sector.Sector.{Sector}
 use Rattle.rbf_access.specs.Cached.{IsCacheOf}
-use Rattle.rbf_access.specs.Mounted.{kept, Represents, IsMounted, IsSound}
+use Rattle.rbf_access.specs.Mounted.{mounted_part, RepresentsVolume, IsMounted, IsSoundMedia}
 use Rattle.rbf_access.proofs.Counting.{no_calls, counts_then, counts_most}
 use Rattle.rbf_access.proofs.ReadPieces.{span_is}
 use Rattle.rbf_write.specs.Laid.{HasData, IsDataOf, IsLaid, IsPartLaid, LaysSector, laid_byte, laid_bytes, laid_front}
@@ -32,8 +32,8 @@ first_bytes media segments = segment_bytes (sector_at media) segments
 
 -- the sectors before this one have been laid over
 pub record IsFillSoFar (segments : List (ℕ × ℕ)) (size at : ℕ) (from : List ℕ) (first place : ℕ)
-    (kept kept_now : KeptVolume) (old mid : Option (List ℕ)) (held : List Sector) (before half : DriveCounts) : Type 0 where
-  pub laid : (u : DiskVolume) (n : ℕ) (file : DiskFile) → Represents old u → IsDataOf u n file segments size
+    (kept kept_now : MountedPart) (old mid : Option (List ℕ)) (held : List Sector) (before half : DriveCounts) : Type 0 where
+  pub laid : (u : DiskVolume) (n : ℕ) (file : DiskFile) → RepresentsVolume old u → IsDataOf u n file segments size
       → IsLaid u n file segments old mid (laid_front (laid_bytes (first_bytes old segments) size at from) (first_bytes old segments) place)
   pub same : kept_now ≡ kept
   pub cached : IsCacheOf mid held
@@ -44,7 +44,7 @@ module _ (segments : List (ℕ × ℕ)) (size at : ℕ) (from : List ℕ) (room 
   whole = first_bytes old segments
 
   -- the file's sectors have all those bytes
-  module _ (u : DiskVolume) (n : ℕ) (file : DiskFile) (on : Represents old u) (known : IsDataOf u n file segments size) where
+  module _ (u : DiskVolume) (n : ℕ) (file : DiskFile) (on : RepresentsVolume old u) (known : IsDataOf u n file segments size) where
     enough : (size ≤ length whole) × (length whole ≡ 256 * length (sectors_of segments))
     enough =
         let all = all_of_none u n file segments size known old on in
@@ -83,17 +83,17 @@ module _ (segments : List (ℕ × ℕ)) (size at : ℕ) (from : List ℕ) (room 
         subst (IsLaid u n file segments old after) (front_more whole size at from e.0 (omega arith) place lays.bytes (omega arith) lays.whole each)
         (laid_then u n file segments size known old mid after bytes laid place low lays.bytes lays.whole written)
 
-  pub none_filled : (first : ℕ) (kept : KeptVolume) (held : List Sector) (before : DriveCounts) → IsCacheOf old held
-      → first ≡ min size at / 256 → IsFillSoFar segments size at from first first kept kept old old held before before
-  none_filled first kept held before cached is = record {
+  pub none_filled : (first : ℕ) (kept : MountedPart) (held : List Sector) (before : DriveCounts) → IsCacheOf old held
+      → first ≡ min size at / 256 → IsFillSoFar segments size at from first first mounted_part mounted_part old old held before before
+  none_filled first mounted_part held before cached is = record {
     laid = λ u n file on known. first_laid u n file on known first is;
     same = refl;
     cached = cached;
     moved = counts_most None 0 (2 * (first - first)) before before (omega arith) (no_calls before);
   }
 
-  module _ (first place : ℕ) (kept kept_now : KeptVolume) (mid : Option (List ℕ)) (held : List Sector)
-      (before half : DriveCounts) (far : IsFillSoFar segments size at from first place kept kept_now old mid held before
+  module _ (first place : ℕ) (kept kept_now : MountedPart) (mid : Option (List ℕ)) (held : List Sector)
+      (before half : DriveCounts) (far : IsFillSoFar segments size at from first place mounted_part kept_now old mid held before
       half) where
     -- the next sector is on the drive
     pub place_on : (lsn : ℕ) → place < length (sectors_of segments) → slice_get (sectors_of segments) place ≡ Some lsn → HasData old segments size → lsn < sector_count mid
@@ -104,15 +104,15 @@ module _ (segments : List (ℕ × ℕ)) (size at : ℕ) (from : List ℕ) (room 
 
     -- and the media is sound once it has been laid over
     pub place_sound : (lsn : ℕ) → place < length (sectors_of segments) → slice_get (sectors_of segments) place ≡ Some lsn → HasData old segments size → (after : Option (List ℕ))
-        → LaysSector size at from (256 * place) lsn mid after → IsSound after
+        → LaysSector size at from (256 * place) lsn mid after → IsSoundMedia after
     place_sound lsn low there has after lays =
         let laid = next_laid has.volume has.number has.file has.on has.is mid after place lsn low there lays (far.laid has.volume has.number has.file has.on has.is) in
         (_, record { image = laid.now; is = laid.is; vol = laid.vol })
 
-    pub more_filled : (lsn : ℕ) (now_kept : KeptVolume) (after : Option (List ℕ)) (news : List Sector) (then_counts : DriveCounts)
+    pub more_filled : (lsn : ℕ) (now_kept : MountedPart) (after : Option (List ℕ)) (news : List Sector) (then_counts : DriveCounts)
         → first ≤ place → place < length (sectors_of segments) → slice_get (sectors_of segments) place ≡ Some lsn
         → LaysSector size at from (256 * place) lsn mid after → now_kept ≡ kept_now → IsCacheOf after news → MovesCounts None 2 half then_counts
-        → IsFillSoFar segments size at from first (place + 1) kept now_kept old after news before then_counts
+        → IsFillSoFar segments size at from first (place + 1) mounted_part now_kept old after news before then_counts
     more_filled lsn now_kept after news then_counts begun low there lays same cached counts = record {
       laid = λ u n file on known. next_laid u n file on known mid after place lsn low there lays (far.laid u n file on known);
       same = same ∙ far.same;
@@ -122,7 +122,7 @@ module _ (segments : List (ℕ × ℕ)) (size at : ℕ) (from : List ℕ) (room 
 
     -- a fault
     pub part_filled : (after : Option (List ℕ)) → first ≡ min size at / 256 → first ≤ place
-        → 256 * place < at + length from → after ≡ mid → (u : DiskVolume) (n : ℕ) (file : DiskFile) → Represents old u
+        → 256 * place < at + length from → after ≡ mid → (u : DiskVolume) (n : ℕ) (file : DiskFile) → RepresentsVolume old u
         → IsDataOf u n file segments size
         → IsPartLaid u n file segments old after size at from
     part_filled after is begun end same u n file on known = record {
@@ -145,7 +145,7 @@ module _ (segments : List (ℕ × ℕ)) (size at : ℕ) (from : List ℕ) (room 
             let split : min size at + (at + length from - min size at) ≡ at + length from = omega arith in
             ap (sector_span (min size at)) (sym split) ∙ span_is (min size at) (at + length from - min size at) (omega arith) ∙ ap (λ e. (e + 255) / 256 - min size at / 256) split
 
-    pub fill_done : (u : DiskVolume) (n : ℕ) (file : DiskFile) → Represents old u → IsDataOf u n file segments size → place ≤ length (sectors_of segments) → at + length from ≤ 256 * place
+    pub fill_done : (u : DiskVolume) (n : ℕ) (file : DiskFile) → RepresentsVolume old u → IsDataOf u n file segments size → place ≤ length (sectors_of segments) → at + length from ≤ 256 * place
         → IsLaid u n file segments old mid (laid_bytes whole size at from)
     fill_done u n file on known within end = all_laid u n file on known mid place (omega arith) end (far.laid u n file on known)
 
@@ -163,26 +163,27 @@ module _ (segments : List (ℕ × ℕ)) (size at : ℕ) (from : List ℕ) (room 
 -- the same with the first place as it is computed
 pub first_as : (segments : List (ℕ × ℕ)) (size at : ℕ) (from : List ℕ)
     → at + length from ≤ 256 * length (sectors_of segments)
-    → (old : Option (List ℕ)) (first place : ℕ) (kept : KeptVolume) (held : List Sector) (before : DriveCounts)
+    → (old : Option (List ℕ)) (first place : ℕ) (kept : MountedPart) (held : List Sector) (before : DriveCounts)
     → IsCacheOf old held
-    → first ≡ min size at / 256 → place ≡ first → IsFillSoFar segments size at from first place kept kept old old held before before
-first_as segments size at from room old first place kept held before cached is same =
-    subst (λ p. IsFillSoFar segments size at from first p kept kept old old held before before) (sym same) (none_filled segments size at from room old first kept held before cached is)
+    → first ≡ min size at / 256 → place ≡ first → IsFillSoFar segments size at from first place mounted_part mounted_part old old held before before
+first_as segments size at from room old first place mounted_part held before cached is same =
+    subst (λ p. IsFillSoFar segments size at from first p mounted_part mounted_part old old held before before)
+    (sym same) (none_filled segments size at from room old first mounted_part held before cached is)
 
 -- a volume stays mounted where a file has been laid over
 pub laid_mounted : (old volume : Volume) (before after : Option (List ℕ)) (u : DiskVolume) (n : ℕ) (file : DiskFile) (segments : List (ℕ × ℕ)) (size : ℕ) (bytes : List ℕ)
-    → IsMounted old before → Represents before u
-    → IsDataOf u n file segments size → IsLaid u n file segments before after bytes → kept volume ≡ kept old → IsCacheOf after volume.cache → IsMounted volume after
+    → IsMounted old before → RepresentsVolume before u
+    → IsDataOf u n file segments size → IsLaid u n file segments before after bytes → mounted_part volume ≡ mounted_part old → IsCacheOf after volume.cache → IsMounted volume after
 laid_mounted old volume before after u n file segments size bytes mounted on known laid same cached =
     let both : Some on.image ≡ Some laid.image = sym on.is ∙ laid.was in
     let image : on.image ≡ laid.image = cc in
-    let agrees : Agrees (kept old) laid.image = subst (λ i. Agrees (kept old) i) image (agrees_on old before u mounted on) in
+    let agrees : Agrees (mounted_part old) laid.image = subst (λ i. Agrees (mounted_part old) i) image (agrees_on old before u mounted on) in
     let shaped : map_sectors (shape u) ≡ map_sectors (image_geometry laid.image) = ap map_sectors (shape-image on.image u on.vol ∙ ap image_geometry image) in
     record {
       content = with_file_in_place u n (with_contents file (take (length file.contents) bytes));
       on = record { image = laid.now; is = laid.is; vol = laid.vol };
       agrees = subst (λ kv. Agrees kv laid.now) (sym same)
-          (agrees_beside (kept old) laid.image laid.now agrees
+          (agrees_beside (mounted_part old) laid.image laid.now agrees
           (λ s low. laid.others s (false_from_ne_true (has (sectors_of segments) s) (λ h. let past = known.past_map s h in absurd (omega arith)))));
       cached = cached;
     }

@@ -24,16 +24,16 @@ use Rattle.rbf_model.proofs.Unique.{vol_is_unique}
 use Rattle.rbf_change.specs.Agrees.{Agrees}
 use Rattle.rbf_change.specs.Calls.{shape, free_total, cluster_size, is_free_in, replaced, minute_of}
 use Rattle.rbf_change.specs.Growth.{clusters_needed, with_clusters, Gains, IsChoice}
-use Rattle.rbf_change.specs.Faults.{MayLose, IsFront, none, with_front}
+use Rattle.rbf_change.specs.Faults.{MayLose, IsWriteFront, none, with_front}
 use Rattle.rbf_change.specs.Tidy.{KeepsListEnd}
 use Rattle.rbf_change.specs.Contents.{sector_count}
 use Rattle.rbf_change.proofs.LawfulWrites.{shape-image}
 use Rattle.rbf_access.specs.declared.volume.Volume.{Volume}
 use Rattle.rbf_access.specs.Cached.{IsCacheOf}
-use Rattle.rbf_access.specs.Mounted.{kept, Represents, IsMounted, IsSound}
+use Rattle.rbf_access.specs.Mounted.{mounted_part, RepresentsVolume, IsMounted, IsSoundMedia}
 use Rattle.rbf_access.specs.Reading.{IsFdOf}
 use Rattle.rbf_access.proofs.ReadFile.{contents_are, room_for}
-use Rattle.rbf_alloc.specs.Grown.{ChangesMap, IsChosen, IsGrown, GrowthEnds}
+use Rattle.rbf_alloc.specs.Grown.{ChangesMap, IsChosenGrowth, IsGrown, GrowthEnds}
 use Rattle.rbf_alloc.proofs.Chosen.{has_free, length-with}
 use Rattle.rbf_alloc.proofs.Growing.{agrees_on}
 use Rattle.rbf_write.specs.Laid.{IsDataOf, IsLaid, IsPartLaid, laid_bytes, laid_front}
@@ -60,7 +60,7 @@ same_end one other same = record {
 }
 
 -- the media has one file of a number
-file_of_volume : (media : Option (List ℕ)) (v w : DiskVolume) → Represents media v → Represents media w
+file_of_volume : (media : Option (List ℕ)) (v w : DiskVolume) → RepresentsVolume media v → RepresentsVolume media w
     → (n : ℕ) (one other : DiskFile) → v.files n ≡ Some one → w.files n ≡ Some other → other.segments ≡ one.segments
 file_of_volume media v w first second n one other is at =
     let images : Some first.image ≡ Some second.image = sym first.is ∙ second.is in
@@ -122,7 +122,7 @@ no_clusters k missing some nothing =
     let same : missing + (k - 1) ≡ k - 1 = omega arith in
     ap (λ m. m / k) same ∙ div-eq_of_lt low
 
-module _ (before : Option (List ℕ)) (v : DiskVolume) (on : Represents before v) (laying : Laying) (old : DiskFile) (is : v.files laying.number ≡ Some old) where
+module _ (before : Option (List ℕ)) (v : DiskVolume) (on : RepresentsVolume before v) (laying : Laying) (old : DiskFile) (is : v.files laying.number ≡ Some old) where
   abbrev n : ℕ
   n = laying.number
 
@@ -141,7 +141,7 @@ module _ (before : Option (List ℕ)) (v : DiskVolume) (on : Represents before v
   pub needs_is : laying_needs v old laying ≡ clusters_needed k old.segments end
   needs_is = ap (clusters_needed k old.segments) (length-laid old.contents laying.bytes laying.at) ∙ needed_is k size end old.segments room
 
-  pub choice_is : (count : ℕ) (taken : List ℕ) → count ≡ clusters_needed k old.segments end → IsChosen k count (is_free_in v) old.segments taken
+  pub choice_is : (count : ℕ) (taken : List ℕ) → count ≡ clusters_needed k old.segments end → IsChosenGrowth k count (is_free_in v) old.segments taken
       → IsChoice k (is_free_in v) old.segments (length (laid_contents old.contents laying)) taken
   choice_is count taken counted chosen = record { enough = chosen.counted ∙ counted ∙ sym needs_is; gained = chosen.gained; fits = chosen.fits }
 
@@ -241,7 +241,7 @@ module _ (before : Option (List ℕ)) (v : DiskVolume) (on : Represents before v
     known = subst (λ xs. IsDataOf volume_grown n old xs size) (sym grown.segments)
         (data_gained grown.now v lost taken grown.vol (λ c h. or_right (v.lost c) (has taken c) h) n old is (is_free_in v) grown.chosen.gained not_directory)
 
-    pub on_grown : Represents mid volume_grown
+    pub on_grown : RepresentsVolume mid volume_grown
     on_grown = record { image = grown.now; is = grown.is; vol = grown.vol }
 
     abbrev whole : List ℕ
@@ -330,7 +330,7 @@ module _ (before : Option (List ℕ)) (v : DiskVolume) (on : Represents before v
           (λ s not_map_sector. inr all_marked)
 
       -- and then a fault
-      pub laid_ends : KeptBehind → (so_far : ℕ) → IsFront size laying.at laying.bytes so_far
+      pub laid_ends : KeptBehind → (so_far : ℕ) → IsWriteFront size laying.at laying.bytes so_far
           → take size bytes ≡ put_at old.contents laying.at (take so_far laying.bytes)
           → LayingEnds v old laying before after
       laid_ends keeps so_far front contents = record {
@@ -416,7 +416,7 @@ module _ (before : Option (List ℕ)) (v : DiskVolume) (on : Represents before v
           or_false true = refl
           or_false false = refl
 
-      pub list_inside : end ≤ size → (w : DiskVolume) (f : DiskFile) → Represents after w → w.files n ≡ Some f → f.segments ≡ longer
+      pub list_inside : end ≤ size → (w : DiskVolume) (f : DiskFile) → RepresentsVolume after w → w.files n ≡ Some f → f.segments ≡ longer
       list_inside inside w f there at =
           let none_missing : sector_count end - length (sectors_of old.segments) ≡ 0 = (let room_there = room in omega arith) in
           let nothing : clusters_needed k old.segments end ≡ 0 = no_clusters k (sector_count end - length (sectors_of old.segments)) positive none_missing in
@@ -486,7 +486,7 @@ module _ (before : Option (List ℕ)) (v : DiskVolume) (on : Represents before v
         last_is : last ≡ Some (put_sector now n new)
         last_is = written ∙ ap (λ m. with_sector m n new) laid.is
 
-        pub list_longer : (w : DiskVolume) (f : DiskFile) → Represents last w → w.files n ≡ Some f → f.segments ≡ longer
+        pub list_longer : (w : DiskVolume) (f : DiskFile) → RepresentsVolume last w → w.files n ≡ Some f → f.segments ≡ longer
         list_longer w f there at =
             file_of_volume last (replaced v n (Some (laid_file old laying segments))) w
             (record { image = put_sector now n new; is = last_is; vol = vol_last }) there n
@@ -529,16 +529,16 @@ module _ (before : Option (List ℕ)) (v : DiskVolume) (on : Represents before v
         }
 
         -- the media is sound
-        pub sound_last : IsSound last
+        pub sound_last : IsSoundMedia last
         sound_last = (_, record { image = put_sector now n new; is = last_is; vol = vol_last })
 
         -- the volume stays mounted
-        pub mounted_last : (volume later_volume : Volume) → IsMounted volume after → kept later_volume ≡ kept volume → IsCacheOf last later_volume.cache → IsMounted later_volume last
+        pub mounted_last : (volume later_volume : Volume) → IsMounted volume after → mounted_part later_volume ≡ mounted_part volume → IsCacheOf last later_volume.cache → IsMounted later_volume last
         mounted_last volume later_volume mounted same cached =
-            let agrees : Agrees (kept volume) now = agrees_on volume after (with_lost volume_then lost) mounted (record { image = now; is = laid.is; vol = laid.vol }) in
+            let agrees : Agrees (mounted_part volume) now = agrees_on volume after (with_lost volume_then lost) mounted (record { image = now; is = laid.is; vol = laid.vol }) in
             record {
               content = replaced v n (Some (laid_file old laying segments));
               on = record { image = put_sector now n new; is = last_is; vol = vol_last };
-              agrees = agrees_put now (with_lost volume_then lost) laid.vol n file_then is_then new resized.whole (kept later_volume) (subst (λ kv. Agrees kv now) (sym same) agrees);
+              agrees = agrees_put now (with_lost volume_then lost) laid.vol n file_then is_then new resized.whole (mounted_part later_volume) (subst (λ kv. Agrees kv now) (sym same) agrees);
               cached = cached;
             }

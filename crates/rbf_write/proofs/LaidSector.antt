@@ -7,7 +7,7 @@ use Rattle.os9_outer.specs.Drive.{sector_at, with_sector}
 use Rattle.rbf_model.specs.Writes.{put_at}
 use Rattle.rbf_model.proofs.Pieces.{length-put_at}
 use Rattle.rbf_write.specs.Laid.{laid_byte, LaysSector}
-use Rattle.rbf_write.specs.Sector.{CoversSector, IsCleared, IsPartIn}
+use Rattle.rbf_write.specs.Sector.{CoversSector, ClearsBytes, IsPartIn}
 use Rattle.rbf_write.proofs.LaidBytes.{laid_in, laid_after, laid_zero, laid_before, put_before, put_in, put_behind, zeros, zeros_are}
 
 -- a sector that is covered, whatever it had
@@ -37,7 +37,7 @@ lays_zeros size at from start lsn old new within media = record {
 -- zeros put over a part of a sector
 pub cleared : (first end : ℕ) (old new zeros : List ℕ) → length old ≡ 256 → first ≤ 256 → end ≤ 256
     → length zeros ≡ end - first → ((q : ℕ) → q < length zeros → get_or zeros q 0 ≡ 0) → new ≡ put_at old first zeros
-    → IsCleared first end old new
+    → ClearsBytes first end old new
 cleared first end old new zeros whole low high count none is = record {
   whole = ap length is ∙ length-put_at old zeros first fits;
   zeros = λ q from below. ap (λ xs. get_or xs q 0) is ∙ put_in old zeros first fits q from (omega arith) ∙ none (q - first) (omega arith);
@@ -79,7 +79,7 @@ module _ (from : List ℕ) (skip room k m : ℕ) (begins : k ≡ min (length fro
 
 -- the whole sector, byte by byte
 module _ (start size at : ℕ) (from part old mid new : List ℕ) (first gap : ℕ) (first_is : first ≡ min (at - start) 256) (gap_is : gap ≡ min (size - start) 256)
-    (zeroed : IsCleared gap first old mid) (whole : length mid ≡ 256) (in_part : IsPartIn from (start - at) (256 - first) part) (is : new ≡ put_at mid first part) where
+    (zeroed : ClearsBytes gap first old mid) (whole : length mid ≡ 256) (in_part : IsPartIn from (start - at) (256 - first) part) (is : new ≡ put_at mid first part) where
   fits : first + length part ≤ length mid
   fits = let count = in_part.count in omega arith
 

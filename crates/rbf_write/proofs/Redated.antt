@@ -11,7 +11,7 @@ use Rattle.rbf_model.proofs.Bytes.{put_here, put_beside}
 use Rattle.rbf_model.proofs.Free.{number_below}
 use Rattle.rbf_model.proofs.Lifted.{sector_put}
 use Rattle.rbf_model.proofs.Owners.{own_after}
-use Rattle.rbf_change.specs.Agrees.{KeptVolume, Agrees}
+use Rattle.rbf_change.specs.Agrees.{MountedPart, Agrees}
 use Rattle.rbf_write.proofs.Described.{agrees_beside}
 
 -- the descriptor of a file is behind the map
@@ -35,7 +35,7 @@ module _ (image : List ℕ) (v : DiskVolume) (vol : Vol image v) (n : ℕ) (file
   pub here_put : sector (put_sector image n bytes) n ≡ bytes
   here_put = ap (λ (d : ℕ → List ℕ). d n) sectors_put ∙ put_here (sector image) n bytes
 
-  pub agrees_put : (kv : KeptVolume) → Agrees kv image → Agrees kv (put_sector image n bytes)
+  pub agrees_put : (kv : MountedPart) → Agrees kv image → Agrees kv (put_sector image n bytes)
   agrees_put kv agrees = agrees_beside kv image (put_sector image n bytes) agrees (λ s low. beside_put s (λ same. let past = behind_map in absurd (omega arith)))
 
 -- files with the same fields

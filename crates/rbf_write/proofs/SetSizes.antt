@@ -6,7 +6,7 @@ use Rattle.os9_base.specs.declared.registers.TimePacket.{TimePacket}
 use Rattle.rbf_model.specs.Geometry.{map_sectors}
 use Rattle.rbf_model.specs.File.{DiskFile}
 use Rattle.rbf_model.specs.Volume.{DiskVolume}
-use Rattle.rbf_change.specs.Agrees.{KeptVolume}
+use Rattle.rbf_change.specs.Agrees.{MountedPart}
 use Rattle.rbf_change.specs.Calls.{shape}
 use Rattle.rbf_change.proofs.LawfulWrites.{shape-image}
 use Rattle.rbf_access.specs.declared.volume.Volume.{Volume}
@@ -14,7 +14,7 @@ use Rattle.rbf_access.specs.declared.faults.FileFault.{FileFault}
 use Rattle.rbf_access.specs.declared.faults.FileFault.TheVariants.{Device, NoCluster, TooManyRuns}
 use Rattle.rbf_access.specs.Faults.{file_fault}
 use Rattle.rbf_access.specs.Drive.{DriveCounts, MovesCounts}
-use Rattle.rbf_access.specs.Mounted.{kept, Represents, IsMounted}
+use Rattle.rbf_access.specs.Mounted.{mounted_part, RepresentsVolume, IsMounted}
 use Rattle.rbf_access.proofs.Counting.{counts_then}
 use Rattle.rbf_alloc.proofs.Growing.{agrees_on}
 use Rattle.rbf_write.specs.Laying.{AnswersLaying}
@@ -35,9 +35,9 @@ refused_later (Ok done) a b c one refused = tt
 refused_later (Err fault) a b c one refused = λ none. let same = refused none in omega arith
 
 module _ (before mid : Option (List ℕ)) (n m size : ℕ) (now : TimePacket) (same : mid ≡ before) (number : m ≡ n)
-    (v : DiskVolume) (file : DiskFile) (on : Represents before v) (is : v.files n ≡ Some file) where
+    (v : DiskVolume) (file : DiskFile) (on : RepresentsVolume before v) (is : v.files n ≡ Some file) where
   pub cut_answers : (after : Option (List ℕ)) (result : Result (Unit {0}) FileFault)
-      → ((w : DiskVolume) (f : DiskFile) → Represents mid w → w.files m ≡ Some f → AnswersSize w f (record { number = m; size = size; now = now }) mid after result)
+      → ((w : DiskVolume) (f : DiskFile) → RepresentsVolume mid w → w.files m ≡ Some f → AnswersSize w f (record { number = m; size = size; now = now }) mid after result)
       → AnswersSize v file (record { number = n; size = size; now = now }) before after result
   cut_answers after result answers =
       let there : v.files m ≡ Some file = subst (λ i. v.files i ≡ Some file) (sym number) is in
@@ -49,7 +49,7 @@ module _ (before mid : Option (List ℕ)) (n m size : ℕ) (now : TimePacket) (s
   sizing = record { number = n; size = size; now = now }
 
   pub cut_counts : (marks : ℕ) (f : Option ℕ) (s t u : DriveCounts) → size < length file.contents → MovesCounts None 1 s t
-      → ((w : DiskVolume) (g : DiskFile) → Represents mid w → w.files m ≡ Some g → MovesCounts f (1 + giving_calls w g (record { number = m; size = size; now = now })) t u)
+      → ((w : DiskVolume) (g : DiskFile) → RepresentsVolume mid w → w.files m ≡ Some g → MovesCounts f (1 + giving_calls w g (record { number = m; size = size; now = now })) t u)
       → MovesCounts f (size_calls v file marks sizing) s u
   cut_counts marks f s t u shorter one calls =
       let there : v.files m ≡ Some file = subst (λ i. v.files i ≡ Some file) (sym number) is in
@@ -64,7 +64,7 @@ module _ (before mid : Option (List ℕ)) (n m size : ℕ) (now : TimePacket) (s
       subst (λ c. MovesCounts f c s u) (plain ∙ sym all) (counts_then f 1 (1 + giving_calls v file sizing) s t u one cut)
 
   pub longer_answers : (after : Option (List ℕ)) (result : Result (Unit {0}) FileFault) → length file.contents < size
-      → ((w : DiskVolume) (f : DiskFile) → Represents mid w → w.files m ≡ Some f → AnswersLaying w f (record { number = m; at = size; bytes = []; now = now }) mid after result)
+      → ((w : DiskVolume) (f : DiskFile) → RepresentsVolume mid w → w.files m ≡ Some f → AnswersLaying w f (record { number = m; at = size; bytes = []; now = now }) mid after result)
       → AnswersSize v file (record { number = n; size = size; now = now }) before after result
   longer_answers after result longer answers =
       let most : max size (length file.contents) ≡ size = omega arith in
@@ -72,7 +72,7 @@ module _ (before mid : Option (List ℕ)) (n m size : ℕ) (now : TimePacket) (s
       (sized_answers before mid n m size now same number after result v file on is longer answers)
 
   pub longer_counts : (after : Option (List ℕ)) (result : Result (Unit {0}) FileFault) (f : Option ℕ) (s t u : DriveCounts) → length file.contents < size → MovesCounts None 1 s t
-      → ((w : DiskVolume) (g : DiskFile) → Represents mid w → w.files m ≡ Some g → (marks : ℕ) → AreMarked w g m after result marks → MovesCounts f (laying_calls w g marks size (size + 0)) t u)
+      → ((w : DiskVolume) (g : DiskFile) → RepresentsVolume mid w → w.files m ≡ Some g → (marks : ℕ) → AreMarked w g m after result marks → MovesCounts f (laying_calls w g marks size (size + 0)) t u)
       → (marks : ℕ) → AreMarked v file n after result marks → MovesCounts f (size_calls v file marks sizing) s u
   longer_counts after result f s t u longer one calls marks are =
       let most : max size (length file.contents) ≡ size = omega arith in

@@ -13,20 +13,20 @@ use Rattle.rbf_model.proofs.Owners.{cluster_positive}
 use Rattle.rbf_change.specs.Calls.{cluster_size, is_free_in, free_total, replaced, minute_of, lengthened_file, stays, lengthens}
 use Rattle.rbf_change.specs.Contents.{extended, resized, sector_count}
 use Rattle.rbf_change.specs.Growth.{with_clusters, clusters_needed, IsChoice, IsOneTooMany}
-use Rattle.rbf_change.specs.Faults.{MayLose, IsFront, none, sector as front_sector, end as front_end, with_front, SizeEnds}
+use Rattle.rbf_change.specs.Faults.{MayLose, IsWriteFront, none, sector as front_sector, end as front_end, with_front, SizeEnds}
 use Rattle.rbf_change.specs.Faults as ends
 use Rattle.rbf_change.proofs.LawfulWrites.{shape-image}
 use Rattle.rbf_access.specs.declared.faults.FileFault.{FileFault}
 use Rattle.rbf_access.specs.declared.faults.FileFault.TheVariants.{Device, NoCluster, TooManyRuns}
 use Rattle.rbf_access.specs.Drive.{DriveCounts, MovesCounts}
 use Rattle.rbf_access.specs.Faults.{file_fault}
-use Rattle.rbf_access.specs.Mounted.{Represents}
+use Rattle.rbf_access.specs.Mounted.{RepresentsVolume}
 use Rattle.rbf_access.proofs.Counting.{counts_then}
 use Rattle.rbf_access.proofs.ReadFile.{room_for}
 use Rattle.rbf_write.proofs.FilledFile.{put_same_file}
 use Rattle.rbf_write.specs.Laying.{Laying, laid_contents, laid_file, laying_end, laying_needs, IsTidyChange, IsTidyStop, AnswersLaying}
 use Rattle.rbf_write.specs.Outcomes.{AreMarked, laying_calls}
-use Rattle.rbf_write.specs.Sizes.{Sizing, size_needs, giving_up, given_up, zeroed_segments, IsTidySize, IsSized, AnswersSize, giving_calls, size_calls}
+use Rattle.rbf_write.specs.Sizes.{Sizing, size_needs, giving_up, given_up, zeroed_segments, IsTidySize, IsFileSized, AnswersSize, giving_calls, size_calls}
 use Rattle.rbf_write.proofs.Contents.{put_none, length-extended}
 use Rattle.rbf_write.proofs.Laid.{same_volume, no_clusters}
 use Rattle.rbf_write.proofs.Whole.{nothing_changed}
@@ -45,12 +45,12 @@ tidy_size before after n segments size gone none_gone tidy = record {
 }
 
 -- no bytes have no front
-no_front : (size at count : ℕ) → IsFront size at [] count → count ≡ 0
+no_front : (size at count : ℕ) → IsWriteFront size at [] count → count ≡ 0
 no_front size at _ none = refl
 no_front size at _ (front_sector few below whole) = absurd (omega arith)
 no_front size at _ (front_end few there) = absurd (omega arith)
 
-module _ (before : Option (List ℕ)) (v : DiskVolume) (old : DiskFile) (on : Represents before v) (sizing : Sizing) (is : v.files sizing.number ≡ Some old) where
+module _ (before : Option (List ℕ)) (v : DiskVolume) (old : DiskFile) (on : RepresentsVolume before v) (sizing : Sizing) (is : v.files sizing.number ≡ Some old) where
   abbrev n : ℕ
   n = sizing.number
 
@@ -66,7 +66,7 @@ module _ (before : Option (List ℕ)) (v : DiskVolume) (old : DiskFile) (on : Re
       (false_from_ne_true (nat_lt sizing.size (length old.contents)) (λ h. let low = ltb-true sizing.size (length old.contents) h in absurd (omega arith)))
 
   -- the size stays
-  pub size_stays : length old.contents ≡ sizing.size → (after : Option (List ℕ)) → after ≡ before → IsSized v old sizing before after
+  pub size_stays : length old.contents ≡ sizing.size → (after : Option (List ℕ)) → after ≡ before → IsFileSized v old sizing before after
   size_stays same after kept =
       let room = room_for before v on n old is in
       let missing : sector_count sizing.size - length (sectors_of old.segments) ≡ 0 = omega arith in
@@ -181,8 +181,9 @@ module _ (before : Option (List ℕ)) (v : DiskVolume) (old : DiskFile) (on : Re
 
 -- a loaded file that is made longer
 module _ (before mid : Option (List ℕ)) (n m size : ℕ) (now : TimePacket) (same : mid ≡ before) (number : m ≡ n) where
-  pub sized_answers : (after : Option (List ℕ)) (result : Result (Unit {0}) FileFault) (v : DiskVolume) (file : DiskFile) → Represents before v → v.files n ≡ Some file → length file.contents < size
-      → ((w : DiskVolume) (f : DiskFile) → Represents mid w → w.files m ≡ Some f → AnswersLaying w f (record { number = m; at = size; bytes = []; now = now }) mid after result)
+  pub sized_answers : (after : Option (List ℕ)) (result : Result (Unit {0}) FileFault) (v : DiskVolume)
+      (file : DiskFile) → RepresentsVolume before v → v.files n ≡ Some file → length file.contents < size
+      → ((w : DiskVolume) (f : DiskFile) → RepresentsVolume mid w → w.files m ≡ Some f → AnswersLaying w f (record { number = m; at = size; bytes = []; now = now }) mid after result)
       → AnswersSize v file (record { number = n; size = max size (length file.contents); now = now }) before after result
   sized_answers after result v file on is longer answers =
       let there : v.files m ≡ Some file = subst (λ i. v.files i ≡ Some file) (sym number) is in
@@ -194,9 +195,9 @@ module _ (before mid : Option (List ℕ)) (n m size : ℕ) (now : TimePacket) (s
       (subst (λ b. AnswersLaying v file (record { number = m; at = size; bytes = []; now = now }) b after result) same laid)))
 
   pub sized_calls : (after : Option (List ℕ)) (result : Result (Unit {0}) FileFault) (f : Option ℕ) (s t u : DriveCounts) (v : DiskVolume) (file : DiskFile)
-      → Represents before v → v.files n ≡ Some file → length file.contents < size
+      → RepresentsVolume before v → v.files n ≡ Some file → length file.contents < size
       → MovesCounts None 1 s t
-      → ((w : DiskVolume) (g : DiskFile) → Represents mid w → w.files m ≡ Some g → (marks : ℕ) → AreMarked w g m after result marks → MovesCounts f (laying_calls w g marks size (size + 0)) t u)
+      → ((w : DiskVolume) (g : DiskFile) → RepresentsVolume mid w → w.files m ≡ Some g → (marks : ℕ) → AreMarked w g m after result marks → MovesCounts f (laying_calls w g marks size (size + 0)) t u)
       → (marks : ℕ) → AreMarked v file n after result marks → MovesCounts f (size_calls v file marks (record { number = n; size = max size (length file.contents); now = now })) s u
   sized_calls after result f s t u v file on is longer one calls marks are =
       let there : v.files m ≡ Some file = subst (λ i. v.files i ≡ Some file) (sym number) is in

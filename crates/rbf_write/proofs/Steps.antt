@@ -32,7 +32,7 @@ use Rattle.rbf_access.specs.Drive.{DriveCounts, MovesCounts}
 use Rattle.rbf_access.specs.Faults.{file_fault}
 use Rattle.rbf_access.specs.MapMarks.{marking_sectors}
 use Rattle.rbf_access.specs.Cached.{IsCacheOf}
-use Rattle.rbf_access.specs.Mounted.{kept, Represents, IsMounted, IsSound, HasFile}
+use Rattle.rbf_access.specs.Mounted.{mounted_part, RepresentsVolume, IsMounted, IsSoundMedia, HasFile}
 use Rattle.rbf_access.specs.Reading.{IsFdOf}
 use Rattle.rbf_access.proofs.Counting.{no_calls, counts_most, counts_then, counts_within}
 use Rattle.rbf_access.proofs.MapMarks.{marking_most}
@@ -46,14 +46,14 @@ use Rattle.rbf_write.specs.Laid.{IsDataOf, IsLaid, IsPartLaid, MayLay, Fills, la
 use Rattle.rbf_write.proofs.Segments.{used_is}
 use Rattle.rbf_write.proofs.FilledFile.{put_here}
 use Rattle.rbf_write.specs.declared.loaded.Loaded.{Loaded}
-use Rattle.rbf_write.specs.Files.{HasDataFile, IsLoaded, IsClusterCount, IsPastVolumes}
+use Rattle.rbf_write.specs.Files.{HasDataFile, IsDescriptorLoaded, IsClusterCount, IsPastVolumes}
 use Rattle.rbf_write.specs.Finished.{IsFinished, stays, resized}
 use Rattle.rbf_write.specs.Laying.{Laying, laid_file, laying_needs, IsLaidOver, LayingEnds, AnswersLaying}
 use Rattle.rbf_write.specs.Outcomes.{AreMarked, laying_calls}
 use Rattle.rbf_write.proofs.Laid.{needs_is, growth_ends, volume_grown, has_room_then, known, on_grown, part_ends, all_ends, done_inside, done_longer, list_inside, list_longer, mounted_last, sound_last}
 
 -- a file that is no directory, in whichever volume the media represents
-pub data_in : (media : Option (List ℕ)) (n : ℕ) → HasDataFile media n → (v : DiskVolume) (file : DiskFile) → Represents media v → v.files n ≡ Some file → is_directory file ≡ false
+pub data_in : (media : Option (List ℕ)) (n : ℕ) → HasDataFile media n → (v : DiskVolume) (file : DiskFile) → RepresentsVolume media v → v.files n ≡ Some file → is_directory file ≡ false
 data_in media n has v file on is =
     let both : Some has.on.image ≡ Some on.image = sym has.on.is ∙ on.is in
     let image : has.on.image ≡ on.image = cc in
@@ -66,7 +66,7 @@ pub has_file : (media : Option (List ℕ)) (n : ℕ) → HasDataFile media n →
 has_file media n has = record { content = has.content; on = has.on; file = has.file; is = has.is }
 
 -- and the file itself
-pub file_of : (media : Option (List ℕ)) (n : ℕ) → HasDataFile media n → (v : DiskVolume) → Represents media v → (file : DiskFile) × (v.files n ≡ Some file)
+pub file_of : (media : Option (List ℕ)) (n : ℕ) → HasDataFile media n → (v : DiskVolume) → RepresentsVolume media v → (file : DiskFile) × (v.files n ≡ Some file)
 file_of media n has v on =
     let both : Some has.on.image ≡ Some on.image = sym has.on.is ∙ on.is in
     let image : has.on.image ≡ on.image = cc in
@@ -81,8 +81,8 @@ few_segments descriptor =
     omega (arith, length-prefix_len has_sectors pairs, prefix_len-le-length has_sectors pairs, length-map-range_with_len (segment_field descriptor) 0 48)
 
 -- a file that gains no cluster keeps its segments, and no call of the drive is made
-pub none_grows : (media : Option (List ℕ)) (loaded : Loaded) → IsLoaded media loaded.number loaded → (count : ℕ) → count ≡ 0
-    → (v : DiskVolume) → Represents media v → Grows v count loaded.file.segs media media (Ok loaded.file.segs)
+pub none_grows : (media : Option (List ℕ)) (loaded : Loaded) → IsDescriptorLoaded media loaded.number loaded → (count : ℕ) → count ≡ 0
+    → (v : DiskVolume) → RepresentsVolume media v → Grows v count loaded.file.segs media media (Ok loaded.file.segs)
 none_grows media loaded is_loaded count zero v on = record {
   grown = none_grown v media on count zero loaded.file.segs (subst (λ xs. length xs ≤ 48) is_loaded.list_is (few_segments loaded.descriptor));
   full = (λ is. cc, λ low. absurd (omega (arith, low, zero)));
@@ -94,7 +94,7 @@ pub no_counts : (n : ℕ) (s : DriveCounts) → MovesCounts None n s s
 no_counts n s = counts_most None 0 n s s (omega arith) (no_calls s)
 
 -- the clusters of a file are not free
-pub own_not_free : (media : Option (List ℕ)) (v : DiskVolume) → (on : Represents media v) → (n : ℕ) (old : DiskFile)
+pub own_not_free : (media : Option (List ℕ)) (v : DiskVolume) → (on : RepresentsVolume media v) → (n : ℕ) (old : DiskFile)
     → v.files n ≡ Some old → (c : ℕ) → uses (cluster_size v) old.segments c ≡ true → is_free_in v c ≡ false
 own_not_free media v on n old is c used =
     let g = image_geometry on.image in
@@ -104,7 +104,7 @@ own_not_free media v on n old is c used =
     both_ways (has_cluster g n old c) ((free_parts g (sector on.image) v on.vol.sound c (subst (λ h. is_free h v c ≡ true) same free)).2 n old is) own)
 
 -- no volume has more free sectors than 524,280
-pub free_few : (volume : Volume) (image : List ℕ) (v : DiskVolume) → Vol image v → Agrees (kept volume) image → free_total v * volume.ident.cluster ≤ 524280
+pub free_few : (volume : Volume) (image : List ℕ) (v : DiskVolume) → Vol image v → Agrees (mounted_part volume) image → free_total v * volume.ident.cluster ≤ 524280
 free_few volume image v vol agrees =
     let sizes = sizes_are volume image v vol agrees in
     let total = free_total_is volume image v agrees vol in
@@ -129,7 +129,7 @@ answers_fault v old laying before after NoCluster is ends = absurd (both_ways fa
 answers_fault v old laying before after TooManyRuns is ends = absurd (both_ways false refl is)
 
 growth_fault : (v : DiskVolume) (old : DiskFile) (laying : Laying) (count : ℕ) (before after : Option (List ℕ)) (fault : FileFault) → count ≡ laying_needs v old laying
-    → (count ≡ clusters_needed (cluster_size v) old.segments (laying.at + length laying.bytes)) → Represents before v → v.files laying.number ≡ Some old
+    → (count ≡ clusters_needed (cluster_size v) old.segments (laying.at + length laying.bytes)) → RepresentsVolume before v → v.files laying.number ≡ Some old
     → Grows v count old.segments before after (Err fault) → (IsNone (file_fault {A = List (ℕ × ℕ)} (Err fault)) → after ≡ before) → AnswersLaying v old laying before after (Err fault)
 growth_fault v old laying count before after (Device n) needs counted on is grows refused = growth_ends before v on laying old is count after counted grows.ends
 growth_fault v old laying count before after NoCluster needs counted on is grows refused =
@@ -145,7 +145,7 @@ growth_fault v old laying count before after TooManyRuns needs counted on is gro
     }
 
 module _ (before : Option (List ℕ)) (loaded : Loaded) (at : ℕ) (from : List ℕ) (now : TimePacket)
-    (is_loaded : IsLoaded before loaded.number loaded) (has : HasDataFile before loaded.number) (volume : Volume)
+    (is_loaded : IsDescriptorLoaded before loaded.number loaded) (has : HasDataFile before loaded.number) (volume : Volume)
     (mounted : IsMounted volume before) where
   abbrev n : ℕ
   n = loaded.number
@@ -158,7 +158,7 @@ module _ (before : Option (List ℕ)) (loaded : Loaded) (at : ℕ) (from : List 
 
   -- more clusters are needed than any volume has
   pub past_answers : IsPastVolumes volume.ident.cluster loaded.file.segs end → (v : DiskVolume) (old : DiskFile)
-      → Represents before v → v.files n ≡ Some old → AnswersLaying v old laying before before (Err NoCluster)
+      → RepresentsVolume before v → v.files n ≡ Some old → AnswersLaying v old laying before before (Err NoCluster)
   past_answers past v old on is =
       let agrees = agrees_on volume before v mounted on in
       let fd = is_loaded.says v old on is in
@@ -177,13 +177,13 @@ module _ (before : Option (List ℕ)) (loaded : Loaded) (at : ℕ) (from : List 
         media_kept = refl;
       }
 
-  pub apart_all : (v : DiskVolume) → Represents before v → (c : ℕ) → uses (cluster_size v) loaded.file.segs c ≡ true → is_free_in v c ≡ false
+  pub apart_all : (v : DiskVolume) → RepresentsVolume before v → (c : ℕ) → uses (cluster_size v) loaded.file.segs c ≡ true → is_free_in v c ≡ false
   apart_all v on c used =
       let f = file_of before n has v on in
       own_not_free before v on n f.0 f.1 c (subst (λ xs. uses (cluster_size v) xs c ≡ true) (is_loaded.says v f.0 on f.1).segments_are used)
 
   module _ (count : ℕ) (counted : IsClusterCount volume.ident.cluster loaded.file.segs end count) where
-    module _ (v : DiskVolume) (old : DiskFile) (on : Represents before v) (is : v.files n ≡ Some old) where
+    module _ (v : DiskVolume) (old : DiskFile) (on : RepresentsVolume before v) (is : v.files n ≡ Some old) where
       fd : IsFdOf old loaded.file
       fd = is_loaded.says v old on is
 
@@ -251,8 +251,8 @@ module _ (before : Option (List ℕ)) (loaded : Loaded) (at : ℕ) (from : List 
           (counts_then None (min count marks) span s t u (grown_calls longer marks enough s t one marked) other) last)
 
     -- the clusters have been taken
-    module _ (mid : Option (List ℕ)) (longer : List (ℕ × ℕ)) (grows : (v : DiskVolume) → Represents before v → Grows v count loaded.file.segs before mid (Ok longer)) where
-      module _ (v : DiskVolume) (old : DiskFile) (on : Represents before v) (is : v.files n ≡ Some old) where
+    module _ (mid : Option (List ℕ)) (longer : List (ℕ × ℕ)) (grows : (v : DiskVolume) → RepresentsVolume before v → Grows v count loaded.file.segs before mid (Ok longer)) where
+      module _ (v : DiskVolume) (old : DiskFile) (on : RepresentsVolume before v) (is : v.files n ≡ Some old) where
         says : IsFdOf old loaded.file
         says = is_loaded.says v old on is
 
@@ -271,7 +271,7 @@ module _ (before : Option (List ℕ)) (loaded : Loaded) (at : ℕ) (from : List 
         known_then : IsDataOf volume_then n old longer loaded.file.size
         known_then = subst (λ s. IsDataOf volume_then n old longer s) (sym says.size_is) (known before v on laying old is count (count_on v old on is) mid longer grown not_directory)
 
-        on_then : Represents mid volume_then
+        on_then : RepresentsVolume mid volume_then
         on_then = on_grown before v on laying old is count (count_on v old on is) mid longer grown not_directory
 
         room_then : end ≤ 256 * length (sectors_of longer)
@@ -312,8 +312,8 @@ module _ (before : Option (List ℕ)) (loaded : Loaded) (at : ℕ) (from : List 
 
       -- a fault among the sectors
       pub fill_answers : (after : Option (List ℕ)) (fault : FileFault) → IsSome (file_fault {A = Unit {0}} (Err fault))
-          → ((u : DiskVolume) (m : ℕ) (file : DiskFile) → Represents mid u → IsDataOf u m file longer loaded.file.size → Fills u m file longer loaded.file.size at from mid after (Err fault))
-          → (v : DiskVolume) (old : DiskFile) → Represents before v → v.files n ≡ Some old → AnswersLaying v old laying before after (Err fault)
+          → ((u : DiskVolume) (m : ℕ) (file : DiskFile) → RepresentsVolume mid u → IsDataOf u m file longer loaded.file.size → Fills u m file longer loaded.file.size at from mid after (Err fault))
+          → (v : DiskVolume) (old : DiskFile) → RepresentsVolume before v → v.files n ≡ Some old → AnswersLaying v old laying before after (Err fault)
       fill_answers after fault device fills v old on is =
           let part = (fills (volume_then v old on is) n old (on_then v old on is) (known_then v old on is)).part in
           answers_fault v old laying before after fault device
@@ -321,9 +321,9 @@ module _ (before : Option (List ℕ)) (loaded : Loaded) (at : ℕ) (from : List 
           (subst (λ s. IsPartLaid (volume_then v old on is) n old longer mid after s at from) (says v old on is).size_is part))
 
       -- all sectors have been written
-      module _ (after : Option (List ℕ)) (fills : (u : DiskVolume) (m : ℕ) (file : DiskFile) → Represents mid u
+      module _ (after : Option (List ℕ)) (fills : (u : DiskVolume) (m : ℕ) (file : DiskFile) → RepresentsVolume mid u
           → IsDataOf u m file longer loaded.file.size → Fills u m file longer loaded.file.size at from mid after (Ok tt)) where
-        laid_then : (v : DiskVolume) (old : DiskFile) (on : Represents before v) (is : v.files n ≡ Some old)
+        laid_then : (v : DiskVolume) (old : DiskFile) (on : RepresentsVolume before v) (is : v.files n ≡ Some old)
             → IsLaid (volume_then v old on is) n old longer mid after (laid_bytes (segment_bytes (sector_at mid) longer) (length old.contents) at from)
         laid_then v old on is =
             subst (λ s. IsLaid (volume_then v old on is) n old longer mid after (laid_bytes (segment_bytes (sector_at mid) longer) s at from)) (says v old on is).size_is
@@ -336,7 +336,7 @@ module _ (before : Option (List ℕ)) (loaded : Loaded) (at : ℕ) (from : List 
 
         -- a fault at the descriptor
         pub finish_answers : (last : Option (List ℕ)) (fault : FileFault) → last ≡ after → loaded.file.size < end → IsSome (file_fault {A = Unit {0}} (Err fault))
-            → (v : DiskVolume) (old : DiskFile) → Represents before v → v.files n ≡ Some old → AnswersLaying v old laying before last (Err fault)
+            → (v : DiskVolume) (old : DiskFile) → RepresentsVolume before v → v.files n ≡ Some old → AnswersLaying v old laying before last (Err fault)
         finish_answers last fault same later device v old on is =
             subst (λ m. AnswersLaying v old laying before m (Err fault)) (sym same)
             (answers_fault v old laying before after fault device
@@ -344,7 +344,7 @@ module _ (before : Option (List ℕ)) (loaded : Loaded) (at : ℕ) (from : List 
             (subst (λ s. s < end) (says v old on is).size_is later)))
 
         pub done_answers : (last : Option (List ℕ)) → IsFinished loaded longer end now after last
-            → (v : DiskVolume) (old : DiskFile) → Represents before v → v.files n ≡ Some old
+            → (v : DiskVolume) (old : DiskFile) → RepresentsVolume before v → v.files n ≡ Some old
             → IsLaidOver v old laying before last
         done_answers last (stays inside same) v old on is =
             subst (λ m. IsLaidOver v old laying before m) (sym same)
@@ -357,11 +357,11 @@ module _ (before : Option (List ℕ)) (loaded : Loaded) (at : ℕ) (from : List 
             (subst (λ s. s < end) (says v old on is).size_is later) last written (enough v old on is)
 
         -- the file that is there then has these segments
-        pub list_then : (last : Option (List ℕ)) → IsFinished loaded longer end now after last → (v : DiskVolume) (old : DiskFile) (on : Represents before v) (is : v.files n ≡ Some old)
-            → (w : DiskVolume) (new : DiskFile) → Represents last w → w.files n ≡ Some new → new.segments ≡ longer
+        pub list_then : (last : Option (List ℕ)) → IsFinished loaded longer end now after last → (v : DiskVolume) (old : DiskFile) (on : RepresentsVolume before v) (is : v.files n ≡ Some old)
+            → (w : DiskVolume) (new : DiskFile) → RepresentsVolume last w → w.files n ≡ Some new → new.segments ≡ longer
         list_then last (stays inside same) v old on is w new there at =
             list_inside before v on laying old is count (count_on v old on is) mid longer (grown v old on is) (not_directory v old on is) after (laid_then v old on is)
-            (subst (λ s. end ≤ s) (says v old on is).size_is inside) w new (subst (λ m. Represents m w) same there) at
+            (subst (λ s. end ≤ s) (says v old on is).size_is inside) w new (subst (λ m. RepresentsVolume m w) same there) at
         list_then last (resized {bytes = bytes} later is_new written) v old on is w new there at =
             list_longer before v on laying old is count (count_on v old on is) mid longer (grown v old on is)
             (not_directory v old on is) after (laid_then v old on is) loaded (says v old on is) is_loaded.bytes_are
@@ -369,12 +369,13 @@ module _ (before : Option (List ℕ)) (loaded : Loaded) (at : ℕ) (from : List 
             (subst (λ s. s < end) (says v old on is).size_is later) last written w new there at
 
         -- the file that it has made
-        file_made : (last : Option (List ℕ)) (v : DiskVolume) (old : DiskFile) → IsLaidOver v old laying before last → (w : DiskVolume) × (new : DiskFile) × Represents last w × (w.files n ≡ Some new)
+        file_made : (last : Option (List ℕ)) (v : DiskVolume) (old : DiskFile) → IsLaidOver v old laying before last
+            → (w : DiskVolume) × (new : DiskFile) × RepresentsVolume last w × (w.files n ≡ Some new)
         file_made last v old done =
             let new = laid_file old laying (with_clusters (cluster_size v) old.segments done.gained) in
             (replaced v n (Some new), new, done.on, put_here v.files n (Some new))
 
-        pub marks_then : (last : Option (List ℕ)) → IsFinished loaded longer end now after last → (v : DiskVolume) (old : DiskFile) (on : Represents before v) (is : v.files n ≡ Some old)
+        pub marks_then : (last : Option (List ℕ)) → IsFinished loaded longer end now after last → (v : DiskVolume) (old : DiskFile) (on : RepresentsVolume before v) (is : v.files n ≡ Some old)
             → (marks : ℕ) → AreMarked v old n last (Ok tt) marks → marking_sectors (shape v) (is_gained (cluster_size v) loaded.file.segs longer) ≤ marks
         marks_then last finished v old on is marks are =
             let m = file_made last v old (done_answers last finished v old on is) in
@@ -386,7 +387,7 @@ module _ (before : Option (List ℕ)) (loaded : Loaded) (at : ℕ) (from : List 
             omega arith
 
         pub done_mounted : (last : Option (List ℕ)) → IsFinished loaded longer end now after last → (one other : Volume)
-            → IsMounted one after → kept other ≡ kept one → IsCacheOf last other.cache → IsMounted other last
+            → IsMounted one after → mounted_part other ≡ mounted_part one → IsCacheOf last other.cache → IsMounted other last
         done_mounted last (stays inside same) one other is_mounted kept_same cached = mounted_still one other after last kept_same same cached is_mounted
         done_mounted last (resized {bytes = new} later is_new written) one other is_mounted kept_same cached =
             let v = has.content in
@@ -399,7 +400,7 @@ module _ (before : Option (List ℕ)) (loaded : Loaded) (at : ℕ) (from : List 
             (subst (λ s. s < end) (says v old on is).size_is later) last written one other is_mounted kept_same cached
 
         -- the media is sound at that write
-        pub done_sound : (last : Option (List ℕ)) → IsFinished loaded longer end now after last → IsSound last
+        pub done_sound : (last : Option (List ℕ)) → IsFinished loaded longer end now after last → IsSoundMedia last
         done_sound last (stays inside same) =
             let laid = laid_then has.content has.file has.on has.is in
             (_, record { image = laid.now; is = same ∙ laid.is; vol = laid.vol })

@@ -18,13 +18,13 @@ use Rattle.rbf_access.specs.declared.faults.FileFault.{FileFault}
 use Rattle.rbf_access.specs.declared.faults.FileFault.TheVariants.{Device, NoCluster, TooManyRuns}
 use Rattle.rbf_access.specs.Drive.{DriveCounts, MovesCounts}
 use Rattle.rbf_access.specs.Faults.{file_fault}
-use Rattle.rbf_access.specs.Mounted.{Represents}
+use Rattle.rbf_access.specs.Mounted.{RepresentsVolume}
 use Rattle.rbf_access.proofs.Counting.{counts_then}
 use Rattle.rbf_access.proofs.ReadFile.{room_for}
 use Rattle.rbf_alloc.specs.Grown.{ChangesMap}
 use Rattle.rbf_write.proofs.FilledFile.{put_same_file}
 use Rattle.rbf_write.specs.Laying.{Laying, laying_end, laid_contents, laid_file, laying_needs, IsTidyChange, AnswersLaying}
-use Rattle.rbf_write.specs.Outcomes.{contents_written, write_needs, IsWritten, AnswersWrite, unchanged, stopped, AreMarked, laying_calls, write_calls}
+use Rattle.rbf_write.specs.Outcomes.{contents_written, write_needs, AreBytesWritten, AnswersWrite, unchanged, stopped, AreMarked, laying_calls, write_calls}
 use Rattle.rbf_write.proofs.Laid.{tidy_of, same_end, no_clusters}
 use Rattle.rbf_write.proofs.Steps.{few_segments}
 
@@ -36,7 +36,8 @@ same_map image = record { others = λ s out. refl; end = λ c past. and_true _ }
     and_true true = refl
     and_true false = refl
 
-pub nothing_changed : (before after : Option (List ℕ)) (v : DiskVolume) → Represents before v → after ≡ before → (n : ℕ) (segments : List (ℕ × ℕ)) (end : ℕ) → IsTidyChange before after n segments end
+pub nothing_changed : (before after : Option (List ℕ)) (v : DiskVolume) → RepresentsVolume before v → after ≡ before
+    → (n : ℕ) (segments : List (ℕ × ℕ)) (end : ℕ) → IsTidyChange before after n segments end
 nothing_changed before after v on same n segments end =
     tidy_of before after on.image on.image on.image n segments end on.is (same ∙ on.is) (same_map on.image)
     (λ s low. refl) (λ s map differ out. refl) (λ p high. refl) (same_end (sector on.image n) (sector on.image n) refl)
@@ -45,7 +46,7 @@ pub laid_is_written : (contents : List ℕ) (at : ℕ) (bytes : List ℕ) → 1 
 laid_is_written contents at [] some = absurd (omega arith)
 laid_is_written contents at (byte ∷ bytes) some = refl
 
-module _ (before : Option (List ℕ)) (v : DiskVolume) (old : DiskFile) (on : Represents before v) (write : Laying) (is : v.files write.number ≡ Some old) where
+module _ (before : Option (List ℕ)) (v : DiskVolume) (old : DiskFile) (on : RepresentsVolume before v) (write : Laying) (is : v.files write.number ≡ Some old) where
   abbrev k : ℕ
   k = cluster_size v
 
@@ -53,7 +54,7 @@ module _ (before : Option (List ℕ)) (v : DiskVolume) (old : DiskFile) (on : Re
   positive = subst (λ (g : Geometry). 1 ≤ g.cluster) (sym (shape-image on.image v on.vol)) (cluster_positive (image_geometry on.image).cluster on.vol.sound.shape.header.clusters)
 
   -- no bytes are written
-  pub nothing_written : write.bytes ≡ [] → IsWritten v old write before before
+  pub nothing_written : write.bytes ≡ [] → AreBytesWritten v old write before before
   nothing_written empty =
       let contents : contents_written old write ≡ old.contents = ap (written old.contents write.at) empty in
       let size : length (contents_written old write) ≡ length old.contents = ap length contents in
@@ -151,8 +152,8 @@ module _ (before : Option (List ℕ)) (v : DiskVolume) (old : DiskFile) (on : Re
 -- a write of a loaded file
 module _ (before mid : Option (List ℕ)) (n m at : ℕ) (from : List ℕ) (now : TimePacket) (same : mid ≡ before) (number : m ≡ n) (some : 1 ≤ length from) where
   pub whole_answers : (after : Option (List ℕ)) (result : Result (Unit {0}) FileFault)
-      → ((v : DiskVolume) (file : DiskFile) → Represents mid v → v.files m ≡ Some file → AnswersLaying v file (record { number = m; at = at; bytes = from; now = now }) mid after result)
-      → (v : DiskVolume) (file : DiskFile) → Represents before v → v.files n ≡ Some file → AnswersWrite v file (record { number = n; at = at; bytes = from; now = now }) before after result
+      → ((v : DiskVolume) (file : DiskFile) → RepresentsVolume mid v → v.files m ≡ Some file → AnswersLaying v file (record { number = m; at = at; bytes = from; now = now }) mid after result)
+      → (v : DiskVolume) (file : DiskFile) → RepresentsVolume before v → v.files n ≡ Some file → AnswersWrite v file (record { number = n; at = at; bytes = from; now = now }) before after result
   whole_answers after result answers v file on is =
       let there : v.files m ≡ Some file = subst (λ i. v.files i ≡ Some file) (sym number) is in
       let laid = answers v file (record { image = on.image; is = same ∙ on.is; vol = on.vol }) there in
@@ -161,9 +162,9 @@ module _ (before mid : Option (List ℕ)) (n m at : ℕ) (from : List ℕ) (now 
       (subst (λ b. AnswersLaying v file (record { number = m; at = at; bytes = from; now = now }) b after result) same laid))
 
   pub whole_calls : (after : Option (List ℕ)) (result : Result (Unit {0}) FileFault) (f : Option ℕ) (s t u : DriveCounts) → MovesCounts None 1 s t
-      → ((v : DiskVolume) (file : DiskFile) → Represents mid v → v.files m ≡ Some file → (marks : ℕ)
+      → ((v : DiskVolume) (file : DiskFile) → RepresentsVolume mid v → v.files m ≡ Some file → (marks : ℕ)
       → AreMarked v file m after result marks → MovesCounts f (laying_calls v file marks at (at + length from)) t u)
-      → (v : DiskVolume) (file : DiskFile) → Represents before v → v.files n ≡ Some file → (marks : ℕ)
+      → (v : DiskVolume) (file : DiskFile) → RepresentsVolume before v → v.files n ≡ Some file → (marks : ℕ)
       → AreMarked v file n after result marks → MovesCounts f (write_calls v file marks at (length from)) s u
   whole_calls after result f s t u one calls v file on is marks are =
       let there : v.files m ≡ Some file = subst (λ i. v.files i ≡ Some file) (sym number) is in

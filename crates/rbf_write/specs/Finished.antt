@@ -6,7 +6,7 @@ use Rattle.rbf_model.specs.Fields.{segments_field}
 use Rattle.rbf_model.specs.Segments.{sectors_of}
 use Rattle.rbf_change.specs.Calls.{minute_of}
 use Rattle.rbf_change.specs.Tidy.{KeepsListEnd}
-use Rattle.rbf_access.specs.Mounted.{IsSound}
+use Rattle.rbf_access.specs.Mounted.{IsSoundMedia}
 use Rattle.rbf_write.specs.Changed.{HasFields}
 use Rattle.rbf_write.specs.declared.loaded.Loaded.{Loaded}
 
@@ -32,7 +32,7 @@ pub record MayFinish (media : Option (List ℕ)) (loaded : Loaded) (segments : L
   pub number : loaded.number < sector_count media
   pub list : segments_field loaded.descriptor ≡ loaded.file.segs
   pub same : length (sectors_of segments) ≡ length (sectors_of loaded.file.segs) → segments ≡ loaded.file.segs
-  pub sound : (after : Option (List ℕ)) → written after → IsSound after
+  pub sound : (after : Option (List ℕ)) → written after → IsSoundMedia after
 
 -- the same with the segments of the file; the descriptor has the fields that were read
 pub record MayResize (media : Option (List ℕ)) (loaded : Loaded) (written : Option (List ℕ) → Type 0) : Type 0 where

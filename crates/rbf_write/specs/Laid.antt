@@ -7,7 +7,7 @@ use Rattle.rbf_model.specs.File.{DiskFile, is_directory, segment_bytes}
 use Rattle.rbf_model.specs.Volume.{DiskVolume, Vol}
 use Rattle.rbf_model.specs.Writes.{put_at, with_file_in_place}
 use Rattle.rbf_change.specs.Calls.{shape, cluster_size}
-use Rattle.rbf_access.specs.Mounted.{Represents}
+use Rattle.rbf_access.specs.Mounted.{RepresentsVolume}
 use Rattle.rbf_access.specs.declared.faults.FileFault.{FileFault}
 
 -- a byte of a file over which bytes are laid from a place on, with zeros from its size up to that place
@@ -48,7 +48,7 @@ pub record IsDataOf (u : DiskVolume) (n : ℕ) (file : DiskFile) (segments : Lis
 -- the media has such a file
 pub record HasData (media : Option (List ℕ)) (segments : List (ℕ × ℕ)) (size : ℕ) : Type 0 where
   pub volume : DiskVolume
-  pub on : Represents media volume
+  pub on : RepresentsVolume media volume
   pub number : ℕ
   pub file : DiskFile
   pub is : IsDataOf volume number file segments size

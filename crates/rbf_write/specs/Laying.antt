@@ -11,11 +11,11 @@ use Rattle.rbf_model.specs.Laws.{IsMapSector}
 use Rattle.rbf_change.specs.Contents.{extended}
 use Rattle.rbf_change.specs.Growth.{with_clusters, clusters_needed, IsChoice, IsOneTooMany}
 use Rattle.rbf_change.specs.Calls.{cluster_size, is_free_in, free_total, replaced, minute_of}
-use Rattle.rbf_change.specs.Faults.{MayLose, IsFront, with_front}
+use Rattle.rbf_change.specs.Faults.{MayLose, IsWriteFront, with_front}
 use Rattle.rbf_change.specs.Tidy.{KeepsMapEnd, KeepsListEnd}
 use Rattle.rbf_access.specs.declared.faults.FileFault.{FileFault}
 use Rattle.rbf_access.specs.declared.faults.FileFault.TheVariants.{Device, NoCluster, TooManyRuns}
-use Rattle.rbf_access.specs.Mounted.{Represents}
+use Rattle.rbf_access.specs.Mounted.{RepresentsVolume}
 use Rattle.rbf_write.specs.declared.new_bytes.NewBytes.{NewBytes}
 
 -- bytes that are laid over file n from a place on, at a time
@@ -103,7 +103,7 @@ pub record IsLaidOver (v : DiskVolume) (old : DiskFile) (laying : Laying) (befor
   pub enough : laying_needs v old laying ≤ free_total v
   pub gained : List ℕ
   pub choice : IsChoice (cluster_size v) (is_free_in v) old.segments (length (laid_contents old.contents laying)) gained
-  pub on : Represents after
+  pub on : RepresentsVolume after
       (replaced v laying.number (Some (laid_file old laying (with_clusters (cluster_size v) old.segments gained))))
   pub tidy : IsTidyChange before after laying.number (with_clusters (cluster_size v) old.segments gained)
       (laying_end laying)
@@ -112,11 +112,11 @@ pub record IsLaidOver (v : DiskVolume) (old : DiskFile) (laying : Laying) (befor
 pub record LayingEnds (v : DiskVolume) (old : DiskFile) (laying : Laying) (before after : Option (List ℕ))
     : Type 0 where
   pub count : ℕ
-  pub front : IsFront (length old.contents) laying.at laying.bytes count
+  pub front : IsWriteFront (length old.contents) laying.at laying.bytes count
   pub taken : List ℕ
   pub choice : IsChoice (cluster_size v) (is_free_in v) old.segments (length (laid_contents old.contents laying)) taken
   pub left : DiskVolume
-  pub on : Represents after left
+  pub on : RepresentsVolume after left
   pub lose : MayLose (replaced v laying.number (Some (with_front old laying.at laying.bytes count))) left (has taken)
   -- the first byte is written after the last mark
   pub order : (count ≡ 0) ⊎ ((c : ℕ) → has taken c ≡ true → left.lost c ≡ true)

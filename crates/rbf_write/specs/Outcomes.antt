@@ -5,13 +5,13 @@ use Rattle.rbf_model.specs.File.{DiskFile}
 use Rattle.rbf_model.specs.Volume.{DiskVolume}
 use Rattle.rbf_change.specs.Contents.{written, sector_span}
 use Rattle.rbf_change.specs.Growth.{with_clusters, clusters_needed, IsChoice, IsOneTooMany}
-use Rattle.rbf_change.specs.Calls.{shape, cluster_size, is_free_in, free_total, Writes}
+use Rattle.rbf_change.specs.Calls.{shape, cluster_size, is_free_in, free_total, WritesFileAt}
 use Rattle.rbf_change.specs.Faults.{WriteEnds}
 use Rattle.rbf_access.specs.declared.faults.FileFault.{FileFault}
 use Rattle.rbf_access.specs.declared.faults.FileFault.TheVariants.{Device, NoCluster, TooManyRuns}
 use Rattle.rbf_access.specs.Faults.{file_fault}
 use Rattle.rbf_access.specs.MapMarks.{marking_sectors}
-use Rattle.rbf_access.specs.Mounted.{Represents}
+use Rattle.rbf_access.specs.Mounted.{RepresentsVolume}
 use Rattle.rbf_alloc.specs.Grown.{is_gained}
 use Rattle.rbf_write.specs.Files.{OnVolumeFile}
 use Rattle.rbf_write.specs.Laying.{Laying, laying_end, IsTidyChange, IsTidyStop}
@@ -25,19 +25,20 @@ abbrev pub write_needs : DiskVolume → DiskFile → Laying → ℕ
 write_needs v file write = clusters_needed (cluster_size v) file.segments (length (contents_written file write))
 
 -- all bytes have been written
-pub record IsWritten (v : DiskVolume) (old : DiskFile) (write : Laying) (before after : Option (List ℕ)) : Type 0 where
-  pub enough : write_needs v old write ≤ free_total v
-  pub volume : DiskVolume
-  pub on : Represents after volume
-  pub writes : Writes v volume write.number write.at write.bytes write.now
-  pub tidy : IsTidyChange before after write.number writes.new.segments (laying_end write)
-  pub nothing : write.bytes ≡ [] → after ≡ before
+pub record AreBytesWritten (v : DiskVolume) (old : DiskFile) (write : Laying) (before after : Option (List ℕ)) : Type 0
+  where
+    pub enough : write_needs v old write ≤ free_total v
+    pub volume : DiskVolume
+    pub on : RepresentsVolume after volume
+    pub writes : WritesFileAt v volume write.number write.at write.bytes write.now
+    pub tidy : IsTidyChange before after write.number writes.new.segments (laying_end write)
+    pub nothing : write.bytes ≡ [] → after ≡ before
 
 -- a fault has ended a write whose clusters had been chosen, so it would not have been refused: only the map, and
 -- sectors of the file with those clusters, have changed
 pub record WriteStops (v : DiskVolume) (write : Laying) (before after : Option (List ℕ)) : Type 0 where
   pub volume : DiskVolume
-  pub on : Represents after volume
+  pub on : RepresentsVolume after volume
   pub ends : WriteEnds v volume write.number write.at write.bytes
   pub choice : IsChoice (cluster_size v) (is_free_in v) ends.old.segments (length (contents_written ends.old write))
       ends.taken
@@ -66,7 +67,7 @@ pub record WriteIsTooLong (v : DiskVolume) (old : DiskFile) (write : Laying) (be
 -- each answer of a write with its cause and what it leaves
 abbrev pub AnswersWrite : DiskVolume → DiskFile → Laying → Option (List ℕ) → Option (List ℕ)
     → Result (Unit {0}) FileFault → Type 0
-AnswersWrite v old write before after (Ok done) = IsWritten v old write before after
+AnswersWrite v old write before after (Ok done) = AreBytesWritten v old write before after
 AnswersWrite v old write before after (Err (Device n)) = WriteIsEnded v write before after
 AnswersWrite v old write before after (Err NoCluster) = WriteIsFull v old write before after
 AnswersWrite v old write before after (Err TooManyRuns) = WriteIsTooLong v old write before after

@@ -9,7 +9,7 @@ pub record CoversSector (start at : ℕ) (from bytes : List ℕ) : Type 0 where
   pub each : (q : ℕ) → q < 256 → slice_index bytes q ≡ slice_index from (start - at + q)
 
 -- zeros from place `first` up to `end`; no other byte has changed
-pub record IsCleared (first end : ℕ) (old new : List ℕ) : Type 0 where
+pub record ClearsBytes (first end : ℕ) (old new : List ℕ) : Type 0 where
   pub whole : length new ≡ length old
   pub zeros : (q : ℕ) → first ≤ q → q < end → slice_index new q ≡ 0
   pub others : (q : ℕ) → (q < first) ⊎ (end ≤ q) → slice_index new q ≡ slice_index old q

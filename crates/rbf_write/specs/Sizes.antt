@@ -15,7 +15,7 @@ use Rattle.rbf_change.specs.Tidy.{KeepsMapEnd, MayKeepMapEnd, KeepsListEnd}
 use Rattle.rbf_access.specs.MapMarks.{marking_sectors}
 use Rattle.rbf_access.specs.declared.faults.FileFault.{FileFault}
 use Rattle.rbf_access.specs.declared.faults.FileFault.TheVariants.{Device, NoCluster, TooManyRuns}
-use Rattle.rbf_access.specs.Mounted.{Represents}
+use Rattle.rbf_access.specs.Mounted.{RepresentsVolume}
 use Rattle.rbf_write.specs.Laying.{KeepsBytesFrom, IsTidyStop}
 use Rattle.rbf_write.specs.Outcomes.{laying_calls}
 
@@ -82,20 +82,21 @@ IsTidyEnd left v w sizing gone media now (ends.longer end) =
 IsTidyEnd left v w sizing gone media now (ends.cut end) = IsTidyCut media now sizing.number gone
 
 -- the file has the size
-pub record IsSized (v : DiskVolume) (old : DiskFile) (sizing : Sizing) (before after : Option (List ℕ)) : Type 0 where
-  pub enough : size_needs v old sizing ≤ free_total v
-  pub volume : DiskVolume
-  pub on : Represents after volume
-  pub sets : SetsSize v volume sizing.number sizing.size sizing.now
-  pub tidy : IsTidySize before after sizing.number (zeroed_segments old sizing sets.new.segments) sizing.size
-      (giving_up v old sizing)
-  pub same : length old.contents ≡ sizing.size → after ≡ before
+pub record IsFileSized (v : DiskVolume) (old : DiskFile) (sizing : Sizing) (before after : Option (List ℕ)) : Type 0
+  where
+    pub enough : size_needs v old sizing ≤ free_total v
+    pub volume : DiskVolume
+    pub on : RepresentsVolume after volume
+    pub sets : SetsSize v volume sizing.number sizing.size sizing.now
+    pub tidy : IsTidySize before after sizing.number (zeroed_segments old sizing sets.new.segments) sizing.size
+        (giving_up v old sizing)
+    pub same : length old.contents ≡ sizing.size → after ≡ before
 
 -- a fault has ended the call
 pub record SizeIsEnded (v : DiskVolume) (old : DiskFile) (sizing : Sizing) (before after : Option (List ℕ))
     : Type 0 where
   pub volume : DiskVolume
-  pub on : Represents after volume
+  pub on : RepresentsVolume after volume
   pub ends : SizeEnds on.image v volume sizing.number sizing.size sizing.now
   pub tidy : IsTidyEnd on.image v volume sizing (giving_up v old sizing) before after ends
 
@@ -116,7 +117,7 @@ pub record SizeIsTooLong (v : DiskVolume) (old : DiskFile) (sizing : Sizing) (be
 -- each answer of a change of size with its cause and what it leaves
 abbrev pub AnswersSize : DiskVolume → DiskFile → Sizing → Option (List ℕ) → Option (List ℕ)
     → Result (Unit {0}) FileFault → Type 0
-AnswersSize v old sizing before after (Ok done) = IsSized v old sizing before after
+AnswersSize v old sizing before after (Ok done) = IsFileSized v old sizing before after
 AnswersSize v old sizing before after (Err (Device n)) = SizeIsEnded v old sizing before after
 AnswersSize v old sizing before after (Err NoCluster) = SizeIsFull v old sizing before after
 AnswersSize v old sizing before after (Err TooManyRuns) = SizeIsTooLong v old sizing before after

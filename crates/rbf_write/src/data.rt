@@ -7,7 +7,7 @@ ghost use Rattle.rbf_change.specs.Contents.{sector_span};
 ghost use Rattle.rbf_access.specs.Cached.{IsCacheOf};
 ghost use Rattle.rbf_access.specs.Drive.{Counts};
 ghost use Rattle.rbf_access.specs.Faults.{file_fault};
-ghost use Rattle.rbf_access.specs.Mounted.{IsMounted, IsSound, Represents, kept};
+ghost use Rattle.rbf_access.specs.Mounted.{IsMounted, IsSoundMedia, RepresentsVolume, mounted_part};
 ghost use Rattle.rbf_write.specs.Laid.{MayLay, IsDataOf, Fills, LaysSector};
 
 use crate::NewBytes;
@@ -45,12 +45,12 @@ pub fn fill(
 ) -> Result<(), FileFault>
     requires mounted { IsMounted volume.old (media d.old) }
     requires may { MayLay (media d.old) file.segs.now file.size write.at write.bytes.now }
-    ensures fills { (u : DiskVolume) (n : ℕ) (old : DiskFile) → Represents (media d.old) u →
+    ensures fills { (u : DiskVolume) (n : ℕ) (old : DiskFile) → RepresentsVolume (media d.old) u →
         IsDataOf u n old file.entry.segs.now file.entry.size → Fills u n old file.entry.segs.now
         file.entry.size write.entry.at write.entry.bytes.now (media d.old) (media d.new) result }
     ensures device { OnErr result (IsSome (file_fault result)) }
     ensures mounted { IsMounted volume.new (media d.new) }
-    ensures volume_kept { kept volume.new ≡ kept volume.old }
+    ensures volume_kept { mounted_part volume.new ≡ mounted_part volume.old }
     ensures counts { Counts BlockDriver-dyn (file_fault result) (2 * sector_span (min
         file.entry.size write.entry.at) (write.entry.at + length write.entry.bytes.now)) d.old
         d.new }
@@ -80,12 +80,12 @@ fn fill_sector(
     requires cached { IsCacheOf (media d.old) volume.old.cache }
     requires sound { (after : Option (List ℕ))
         → LaysSector size write.at write.bytes.now sector.start sector.lsn (media d.old) after
-        → IsSound after }
+        → IsSoundMedia after }
     ensures lays { OnOk result (LaysSector size write.entry.at write.entry.bytes.now
         sector.start sector.lsn (media d.old) (media d.new)) }
     ensures media_kept { OnErr result (media d.new ≡ media d.old) }
     ensures device { OnErr result (IsSome (file_fault result)) }
-    ensures volume_kept { kept volume.new ≡ kept volume.old }
+    ensures volume_kept { mounted_part volume.new ≡ mounted_part volume.old }
     ensures cached { IsCacheOf (media d.new) volume.new.cache }
     ensures counts { Counts BlockDriver-dyn (file_fault result) 2 d.old d.new }
 {

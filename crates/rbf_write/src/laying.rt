@@ -2,8 +2,8 @@ ghost use Rattle.std.specs.Prelude.{◌≡◌, ◌+◌, ◌*◌, ◌^◌, ◌<�
 ghost use Rattle.rbf_access.specs.Cached.{IsCacheOf};
 ghost use Rattle.rbf_access.specs.Drive.{Counts};
 ghost use Rattle.rbf_access.specs.Faults.{file_fault};
-ghost use Rattle.rbf_access.specs.Mounted.{IsMounted, kept};
-ghost use Rattle.rbf_write.specs.Files.{HasDataFile, IsClusterCount, IsLoaded, IsLoadedFile, OnVolumeFile};
+ghost use Rattle.rbf_access.specs.Mounted.{IsMounted, mounted_part};
+ghost use Rattle.rbf_write.specs.Files.{HasDataFile, IsClusterCount, IsDescriptorLoaded, IsLoadedFile, OnVolumeFile};
 ghost use Rattle.rbf_write.specs.Finished.{IsFinished, MayFinish};
 ghost use Rattle.rbf_write.specs.Laying.{AnswersLaying, laying_of};
 ghost use Rattle.rbf_write.specs.Outcomes.{IsRefusal, OnMarked, laying_calls};
@@ -31,7 +31,7 @@ pub fn lay_over(
 ) -> Result<(), FileFault>
     requires mounted { IsMounted volume.old (media d.old) }
     requires file { HasDataFile (media d.old) loaded.now.number }
-    requires loaded { IsLoaded (media d.old) loaded.now.number loaded.now }
+    requires loaded { IsDescriptorLoaded (media d.old) loaded.now.number loaded.now }
     requires some { min loaded.now.file.size write.at < write.at + length write.bytes.now }
     ensures answer { OnVolumeFile (media d.old) loaded.now.number (λ v file. AnswersLaying v file
         (laying_of loaded.now.number write.entry) (media d.old) (media d.new) result) }
@@ -110,7 +110,7 @@ fn finish(
     ensures media_kept { OnErr result (media d.new ≡ media d.old) }
     ensures later { OnErr result (loaded.now.file.size < new.entry.size) }
     ensures device { OnErr result (IsSome (file_fault result)) }
-    ensures volume_kept { kept volume.new ≡ kept volume.old }
+    ensures volume_kept { mounted_part volume.new ≡ mounted_part volume.old }
     ensures cached { IsCacheOf (media d.new) volume.new.cache }
     ensures counts { Counts BlockDriver-dyn (file_fault result) (if nat_lt loaded.now.file.size
         new.entry.size then 1 else 0) d.old d.new }

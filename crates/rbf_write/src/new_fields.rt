@@ -2,7 +2,7 @@ ghost use Rattle.std.specs.Prelude.{◌≡◌, OnOk, OnErr, IsSome};
 ghost use Rattle.rbf_access.specs.Cached.{IsCacheOf};
 ghost use Rattle.rbf_access.specs.Drive.{Counts};
 ghost use Rattle.rbf_access.specs.Faults.{file_fault};
-ghost use Rattle.rbf_access.specs.Mounted.{kept};
+ghost use Rattle.rbf_access.specs.Mounted.{mounted_part};
 ghost use Rattle.rbf_write.specs.Finished.{MayFinish};
 ghost use Rattle.rbf_write.specs.Kept.{IsStored};
 
@@ -36,7 +36,7 @@ pub fn store_fields(
         (media d.old) (media d.new)) }
     ensures media_kept { OnErr result (media d.new ≡ media d.old) }
     ensures device { OnErr result (IsSome (file_fault result)) }
-    ensures volume_kept { kept volume.new ≡ kept volume.old }
+    ensures volume_kept { mounted_part volume.new ≡ mounted_part volume.old }
     ensures cached { IsCacheOf (media d.new) volume.new.cache }
     ensures counts { Counts BlockDriver-dyn (file_fault result) 1 d.old d.new }
 {

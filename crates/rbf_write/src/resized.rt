@@ -2,7 +2,7 @@ ghost use Rattle.std.specs.Prelude.{◌≡◌, ◌+◌, ◌<◌, ◌≤◌, leng
 ghost use Rattle.rbf_access.specs.Cached.{IsCacheOf};
 ghost use Rattle.rbf_access.specs.Drive.{Counts};
 ghost use Rattle.rbf_access.specs.Faults.{file_fault};
-ghost use Rattle.rbf_access.specs.Mounted.{kept};
+ghost use Rattle.rbf_access.specs.Mounted.{mounted_part};
 ghost use Rattle.rbf_model.specs.Fields.{segments_field};
 ghost use Rattle.rbf_sector.specs.Parts.{PutsBytes, PutsNumber};
 ghost use Rattle.rbf_write.specs.Changed.{HasFields};
@@ -30,7 +30,7 @@ pub fn resize(
     ensures media_kept { OnErr result (media d.new ≡ media d.old) }
     ensures later { OnErr result (loaded.now.file.size < end) }
     ensures device { OnErr result (IsSome (file_fault result)) }
-    ensures volume_kept { kept volume.new ≡ kept volume.old }
+    ensures volume_kept { mounted_part volume.new ≡ mounted_part volume.old }
     ensures cached { IsCacheOf (media d.new) volume.new.cache }
     ensures counts { Counts BlockDriver-dyn (file_fault result)
         (if nat_lt loaded.now.file.size end then 1 else 0) d.old d.new }

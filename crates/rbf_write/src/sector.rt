@@ -1,7 +1,7 @@
 ghost use Rattle.std.specs.Prelude.{◌≡◌, ℕ, ◌+◌, ◌-◌, ◌<◌, ◌≤◌, length, min, slice_index, true, IfSome};
 ghost use Rattle.rbf_model.specs.Writes.{put_at};
 ghost use Rattle.rbf_write.specs.Laid.{laid_byte};
-ghost use Rattle.rbf_write.specs.Sector.{CoversSector, IsCleared, IsPartIn};
+ghost use Rattle.rbf_write.specs.Sector.{CoversSector, ClearsBytes, IsPartIn};
 
 // Do all bytes of a sector that begins in place `start` of the file lie from `size` up to `at`?
 pub fn is_zeros(start: u32, size: u32, at: u32) -> bool
@@ -54,7 +54,7 @@ fn part_in(from: &[u8], start: u32, at: u32, room: usize) -> &[u8]
 fn clear(bytes: &mut [u8; 256], first: usize, end: usize)
     requires first { first ≤ 256 }
     requires end { end ≤ 256 }
-    ensures { IsCleared first end bytes.old bytes.new }
+    ensures { ClearsBytes first end bytes.old bytes.new }
 {
     if end <= first {
         return;

@@ -2,7 +2,7 @@ ghost use Rattle.std.specs.Prelude.{◌+◌, ◌<◌, OnErr, IsSome};
 ghost use Rattle.rbf_access.specs.Drive.{Counts};
 ghost use Rattle.rbf_access.specs.Faults.{file_fault};
 ghost use Rattle.rbf_access.specs.Mounted.{IsMounted};
-ghost use Rattle.rbf_write.specs.Files.{HasDataFile, IsLoaded, OnVolumeFile};
+ghost use Rattle.rbf_write.specs.Files.{HasDataFile, IsDescriptorLoaded, OnVolumeFile};
 ghost use Rattle.rbf_write.specs.Sizes.{AnswersSize, giving_calls};
 
 use crate::Loaded;
@@ -29,7 +29,7 @@ pub fn cut(
 ) -> Result<(), FileFault>
     requires mounted { IsMounted volume.old (media d.old) }
     requires file { HasDataFile (media d.old) loaded.now.number }
-    requires loaded { IsLoaded (media d.old) loaded.now.number loaded.now }
+    requires loaded { IsDescriptorLoaded (media d.old) loaded.now.number loaded.now }
     requires shorter { size < loaded.now.file.size }
     ensures answer { OnVolumeFile (media d.old) loaded.now.number (λ v file. AnswersSize v file
         (record { number = loaded.now.number; size = size; now = now })

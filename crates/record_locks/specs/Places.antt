@@ -7,5 +7,5 @@ abbrev pub IsPath : ℕ → Type 0
 IsPath path = path < PATH_PLACES
 
 -- a process has a place for its request
-abbrev pub IsProcess : ℕ → Type 0
-IsProcess p = p < LOCK_PROCESSES
+abbrev pub HasRequestPlace : ℕ → Type 0
+HasRequestPlace p = p < LOCK_PROCESSES

@@ -4,7 +4,7 @@ ghost use Rattle.lock_model.specs.Laws.{AreLocks, MayHold};
 ghost use Rattle.lock_model.specs.declared.lock.Held.{Held as HeldLock};
 ghost use Rattle.lock_model.specs.Locks.{lock_of as lock_of_model, no_locks, request_of as request_of_model, with_lock, with_request};
 ghost use Rattle.lock_model.specs.Waits.{after_answer, after_later, closes as closes_model, first_answer, is_late as is_late_model, later_answer, lock_may_go};
-ghost use Rattle.record_locks.specs.Places.{IsPath, IsProcess};
+ghost use Rattle.record_locks.specs.Places.{IsPath, HasRequestPlace};
 
 use crate::conflict::conflicts;
 use crate::cycle::closes;
@@ -63,7 +63,7 @@ impl Locks {
     /// The process must not wait in another request. A grant locks nothing yet: that is
     /// [`Locks::grant`].
     pub fn request(&mut self, request: Request) -> Grant
-        requires process { IsProcess request.lock.owner.0 }
+        requires process { HasRequestPlace request.lock.owner.0 }
         requires quiet { request_of_model self.old request.lock.owner.0 ≡ None }
         ensures answer { result ≡ first_answer self.old request }
         ensures locks { self.new ≡ after_answer self.old request result }
@@ -79,7 +79,7 @@ impl Locks {
 
     /// Keeps the request of a process, if the process does not wait and the wait closes no cycle.
     fn keep(&mut self, request: Request)
-        requires process { IsProcess request.lock.owner.0 }
+        requires process { HasRequestPlace request.lock.owner.0 }
         requires quiet { request_of_model self.old request.lock.owner.0 ≡ None }
         requires unclosed { closes_model self.old request.lock ≡ false }
         ensures locks { self.new ≡ with_request self.old request.lock.owner.0 (Some request) }
@@ -125,7 +125,7 @@ impl Locks {
     /// exactly if it conflicts with no lock of another process. Otherwise `Locked` if its limit of
     /// ticks has passed, and else `Wait`. Only `Wait` keeps the request.
     pub fn again(&mut self, p: Pid, now: u32) -> Grant
-        requires process { IsProcess p.0 }
+        requires process { HasRequestPlace p.0 }
         requires waits { IsSome (request_of_model self.old p.0) }
         ensures answer { IfSome (request_of_model self.old p.0)
             (λ request. result ≡ later_answer self.old now request) }
@@ -234,7 +234,7 @@ impl Locks {
 
     /// Forgets the request of a process, if it waits in one.
     pub fn cancel(&mut self, p: Pid)
-        requires { IsProcess p.0 }
+        requires { HasRequestPlace p.0 }
         ensures locks { self.new ≡ with_request self.old p.0 None }
         ensures kept { AreLocks self.new }
     {

@@ -6,9 +6,9 @@ ghost use Rattle.lock_model.specs.Conflict.{conflicts};
 ghost use Rattle.lock_model.specs.History.{AtomicPairs};
 ghost use Rattle.lock_model.specs.Laws.{MayHold};
 ghost use Rattle.lock_model.specs.Locks.{request_of};
-ghost use Rattle.lock_model.specs.Records.{AreRecords, holding, no_records, with_waiting, without_lock, written_by};
+ghost use Rattle.lock_model.specs.Records.{AreLockRecords, holding, no_records, with_waiting, without_lock, written_by};
 ghost use Rattle.lock_model.specs.Waits.{after_answer, after_later, first_answer, later_answer};
-ghost use Rattle.record_locks.specs.Places.{IsPath, IsProcess};
+ghost use Rattle.record_locks.specs.Places.{IsPath, HasRequestPlace};
 
 use crate::locks::Locks;
 use lock_model::history::{Entry, EntryBytes};
@@ -33,14 +33,14 @@ pub struct Records {
 impl Model for Records {
     ghost use Rattle.std.specs.Prelude.{◌≤◌, ◌+◌, is_some, count_by, length};
     ghost use Rattle.std.specs.Vec.{vec_capacity};
-    ghost use Rattle.lock_model.specs.Records.{AreRecords, Records};
+    ghost use Rattle.lock_model.specs.Records.{AreLockRecords, Records};
 
     ghost Value = { Records };
 
     ghost view = { λ it. record { locks = it.locks; history = it.history.items } };
 
     ghost invariant = { λ it. record {
-      agree : AreRecords (record { locks = it.locks; history = it.history.items });
+      agree : AreLockRecords (record { locks = it.locks; history = it.history.items });
       room : length it.history.items + count_by is_some it.locks.held ≤ vec_capacity it.history;
     } };
 }
@@ -64,7 +64,7 @@ impl Records {
     /// The locks and requests.
     pub fn locks(&self) -> &Locks
         ensures locks { result.now ≡ self.now.locks }
-        ensures agree { AreRecords self.now }
+        ensures agree { AreLockRecords self.now }
     {
         &self.locks
     }
@@ -74,14 +74,14 @@ impl Records {
     pub fn history(&self) -> &[Entry]
         ensures history { result.now ≡ self.now.history }
         ensures atomic { AtomicPairs self.now.history }
-        ensures agree { AreRecords self.now }
+        ensures agree { AreLockRecords self.now }
     {
         self.history.as_slice()
     }
 
     /// Answers a request at its call's first attempt, as [`Locks::request`].
     pub fn request(&mut self, request: Request) -> Grant
-        requires process { IsProcess request.lock.owner.0 }
+        requires process { HasRequestPlace request.lock.owner.0 }
         requires quiet { request_of self.old.locks request.lock.owner.0 ≡ None }
         ensures answer { result ≡ first_answer self.old.locks request }
         ensures records { self.new
@@ -92,7 +92,7 @@ impl Records {
 
     /// Answers a process's kept request at a further attempt of its call, as [`Locks::again`].
     pub fn again(&mut self, p: Pid, now: u32) -> Grant
-        requires process { IsProcess p.0 }
+        requires process { HasRequestPlace p.0 }
         requires waits { IsSome (request_of self.old.locks p.0) }
         ensures answer { IfSome (request_of self.old.locks p.0)
             (λ request. result ≡ later_answer self.old.locks now request) }
@@ -104,7 +104,7 @@ impl Records {
 
     /// Forgets the request of a process, if it waits in one.
     pub fn cancel(&mut self, p: Pid)
-        requires { IsProcess p.0 }
+        requires { HasRequestPlace p.0 }
         ensures { self.new ≡ with_waiting self.old p.0 None }
     {
         self.locks.cancel(p);

@@ -16,7 +16,7 @@ use Rattle.file_laws.proofs.Loads.{chain-leaves, fork-leaves, load-leaves}
 use Rattle.file_laws.proofs.Splits.{Splits, StepSplits}
 use Rattle.machine_model.specs.Services.{Serves, Service, files_after_call, files_after_fork, loads, no_call, on_paths, on_processes, on_time}
 use Rattle.machine_model.specs.State.{Rest, State}
-use Rattle.run_laws.specs.Ends.{KeepsEnds}
+use Rattle.run_laws.specs.Ends.{KeepsVolumeEnds}
 use Rattle.run_laws.proofs.Volumes.{Keep, ends-is, ends-left, ends-made, ends-same, keep-changed, keep-same}
 
 -- ---- a call on paths, files and directories
@@ -44,7 +44,7 @@ module _ (call : PathCall) (asker : Asker) (files : Files) (terms : ℕ) where
       keep-same files.volumes it.files.volumes (ap volumes_in long.effect_is)
 
   -- what a fault leaves
-  fault-keeps : (deed : Deed) (old left : DiskVolume) → MayBeLeft deed asker old left → KeepsEnds old left
+  fault-keeps : (deed : Deed) (old left : DiskVolume) → MayBeLeft deed asker old left → KeepsVolumeEnds old left
   fault-keeps (leaves_so it) old left is = ends-is old old left is (ends-same old)
   fault-keeps (as_io step) old left is = ends-is old old left is (ends-same old)
   fault-keeps (changes it) old left may_be = ends-left old left it.change asker.user asker.now may_be

@@ -15,7 +15,7 @@ use Rattle.machine_model.specs.ProcessEvent.{cost_of}
 use Rattle.machine_model.specs.declared.ends.EventEnd.{EventEnd}
 use Rattle.machine_model.specs.declared.ends.SliceEnd.{SliceEnd}
 use Rattle.machine_model.specs.Event.{Event, cost}
-use Rattle.machine_model.specs.Run.{Choose, Run, Slice, Steps, Tick, is_going}
+use Rattle.machine_model.specs.Run.{Choose, Run, Slice, SliceEvents, Tick, is_going}
 use Rattle.machine_model.specs.State.{State, has_living}
 use Rattle.run_laws.specs.Runs.{SameCounts}
 use Rattle.run_laws.proofs.Going.{GoesOn, rank}
@@ -87,7 +87,7 @@ begun s = record s {
 -- the events of a slice, where this process is chosen or none is
 abbrev Begun : ℕ → State → Option ℕ → List State → SliceEnd → State → Type 0
 Begun n chosen who states end t =
-    MatchOption who ((end ≡ SliceEnd.Idle) × (states ≡ []) × (t ≡ chosen)) (λ p. (end ≡ SliceEnd.Ran) × Steps n chosen states t)
+    MatchOption who ((end ≡ SliceEnd.Idle) × (states ≡ []) × (t ≡ chosen)) (λ p. (end ≡ SliceEnd.Ran) × SliceEvents n chosen states t)
 
 -- a run over a slice and others, where a process lives or none does
 abbrev Begins : Bool → ℕ → List ℕ → State → List State → List ℕ → State → Type 0
@@ -108,7 +108,7 @@ module _ (Good : State → Type 0) (Still : State → State → Type 0) (builds 
   record SomeSteps (left : ℕ) (s : State) : Type 0 where
     pub states : List State
     pub last : State
-    pub steps : Steps left s states last
+    pub steps : SliceEvents left s states last
     pub good : Good last
     pub counts : SameCounts s last
     pub still : Still s last
@@ -124,7 +124,7 @@ module _ (Good : State → Type 0) (Still : State → State → Type 0) (builds 
           some,
           next.end,
           next.event,
-          subst (λ (going : Bool). MatchBool going (Steps (left - cost s) next.last rest.states rest.last) ((rest.states ≡ []) × (rest.last ≡ next.last))) (sym is) rest.steps,
+          subst (λ (going : Bool). MatchBool going (SliceEvents (left - cost s) next.last rest.states rest.last) ((rest.states ≡ []) × (rest.last ≡ next.last))) (sym is) rest.steps,
         );
         good = rest.good;
         counts = rest.counts ∙ next.counts;
@@ -137,7 +137,7 @@ module _ (Good : State → Type 0) (Still : State → State → Type 0) (builds 
       some,
       next.end,
       next.event,
-      subst (λ (going : Bool). MatchBool going (Steps (left - cost s) next.last [] next.last) ((let none : List State = [] in none ≡ []) × (next.last ≡ next.last))) (sym is) (refl, refl),
+      subst (λ (going : Bool). MatchBool going (SliceEvents (left - cost s) next.last [] next.last) ((let none : List State = [] in none ≡ []) × (next.last ≡ next.last))) (sym is) (refl, refl),
     );
     good = good;
     counts = next.counts;

@@ -22,7 +22,7 @@ use Rattle.io_model.specs.Attempts.{result_of as io_result}
 use Rattle.file_rules.specs.Attempts.{asker_of, files_after, io_effect}
 use Rattle.file_rules.specs.Codes.{path_call_of}
 use Rattle.rbf_model.specs.Volume.{DiskVolume}
-use Rattle.file_rules.specs.Files.{Asker, DriveState, Files, NoneFailed, volume_at}
+use Rattle.file_rules.specs.Files.{Asker, DriveState, Files, KeepsDriveFaults, volume_at}
 use Rattle.file_rules.specs.declared.path_call.PathCall.{PathCall}
 use Rattle.file_rules.specs.declared.path_call.PathCall.TheVariants as Path
 use Rattle.file_rules.specs.Load.{GoesOnLoaded, LoadAttempts, Loaded, links_first, loaded_by}
@@ -31,7 +31,7 @@ use Rattle.file_rules.specs.ProgramFile.{ProgramFile, ReadsProgram, program_file
 use Rattle.file_rules.specs.Step.{Step}
 use Rattle.time_rules.specs.Attempts.{clock_after, result_of, time_step}
 use Rattle.time_rules.specs.Clock.{IsNow, seconds_since}
-use Rattle.machine_model.specs.Services.{Attempts, Serves, Service, files_after_call, files_after_fork, loads, no_call, on_paths, on_processes, on_time, service_of, with_files}
+use Rattle.machine_model.specs.Services.{CallAttempted, Serves, Service, files_after_call, files_after_fork, loads, no_call, on_paths, on_processes, on_time, service_of, with_files}
 use Rattle.machine_model.specs.State.{Rest, State, rest_of}
 use Rattle.run_laws.specs.Mounted.{CanGo}
 use Rattle.isolation_laws.proofs.Asked.{Asks, asks}
@@ -139,7 +139,7 @@ call-drives files p (refused number) = refl
 call-drives files p (waits t) = refl
 call-drives files p (ends status) = refl
 
-pub same-drives : (old new : List DriveState) → new ≡ old → NoneFailed old new
+pub same-drives : (old new : List DriveState) → new ≡ old → KeepsDriveFaults old new
 same-drives old new same = same
 
 module _ (s : State) (p : ℕ) (can : CanGo s) where
@@ -148,7 +148,7 @@ module _ (s : State) (p : ℕ) (can : CanGo s) where
     pub rest : Rest
     pub serves : Serves service s now p result rest
     pub counts : fault_counts rest.terms ≡ fault_counts s.terms
-    pub stays : NoneFailed s.files.drives rest.files.drives ⊎ Makes service s.files
+    pub stays : KeepsDriveFaults s.files.drives rest.files.drives ⊎ Makes service s.files
 
   some-service : (service : Service) (now : TimePacket) → SomeService service now
   some-service loads now =
@@ -213,9 +213,9 @@ module _ (s : State) (p : ℕ) (can : CanGo s) where
   pub record SomeAttempt (code : ℕ) : Type 0 where
     pub result : CallResult
     pub rest : Rest
-    pub attempt : Attempts code s p result rest
+    pub attempt : CallAttempted code s p result rest
     pub counts : fault_counts rest.terms ≡ fault_counts s.terms
-    pub stays : NoneFailed s.files.drives rest.files.drives ⊎ CodeMakes code s.files
+    pub stays : KeepsDriveFaults s.files.drives rest.files.drives ⊎ CodeMakes code s.files
 
   pub some-attempt : (code : ℕ) → SomeAttempt code
   some-attempt code =

@@ -18,7 +18,7 @@ use Rattle.rbf_change.specs.Cut.{cut_file}
 use Rattle.rbf_change.specs.Growth.{clusters_needed, with_clusters}
 use Rattle.rbf_change.specs.Names.{freed_entry, place_of}
 use Rattle.rbf_model.specs.Laws.{with_directory_entry}
-use Rattle.file_rules.specs.Change.{Change, Makes, MayBeTooLong, deletes, sets_attributes, sizes, writes}
+use Rattle.file_rules.specs.Change.{Change, AppliesChange, MayBeTooLong, deletes, sets_attributes, sizes, writes}
 use Rattle.file_rules.specs.Files.{Asker, Files, volume_at}
 use Rattle.file_rules.specs.Step.{FileEffect, IsChanged, IsTooLong, VolumeChange, refuses_so, with_volume_after}
 use Rattle.run_laws.proofs.Gaining.{ChoiceOrNot, file-choice}
@@ -32,7 +32,7 @@ module _ (asker : Asker) (files : Files) (drive : ℕ) (v : DiskVolume) (is : vo
   abbrev changing : Change → VolumeChange
   changing change = record { drive = drive; change = change; effect = beside }
 
-  made : (change : Change) (w : DiskVolume) (number : ℕ) → Makes change asker.user asker.now v w number → SomeChange (changing change) asker files
+  made : (change : Change) (w : DiskVolume) (number : ℕ) → AppliesChange change asker.user asker.now v w number → SomeChange (changing change) asker files
   made change w number makes = (
     with_volume_after (beside number) drive w,
     inl (record { old = v; is = is; new = w; number = number; makes = makes; effect_is = refl }),

@@ -14,9 +14,9 @@ use Rattle.rbf_change.specs.Calls.{Changes, SizesFile, WritesFile, cluster_size,
 use Rattle.rbf_change.specs.Contents.{written}
 use Rattle.rbf_change.specs.Growth.{IsChoice, clusters_needed, with_clusters}
 use Rattle.rbf_change.specs.Names.{freed_entry, place_of}
-use Rattle.io_model.specs.Attempts.{Does}
+use Rattle.io_model.specs.Attempts.{IoDoes}
 use Rattle.io_model.specs.Step.{IoEffect, IoEnd, IoStep, answers, fails}
-use Rattle.file_rules.specs.Change.{Change, FindsNoPlace, Makes, MayBeTooLong, writes, sizes, sets_attributes, creates, makes_directory, deletes}
+use Rattle.file_rules.specs.Change.{Change, FindsNoPlace, AppliesChange, MayBeTooLong, writes, sizes, sets_attributes, creates, makes_directory, deletes}
 use Rattle.file_rules.specs.Files.{Asker, DriveState, Files, drive_at, volume_at}
 use Rattle.file_rules.specs.Step.{Deed, DoesDeed, FileDoes, FileEffect, FileStep, GoesWell, IsBroken, IsChanged, IsTooLong, VolumeChange, as_io, changes, deed_of, leaves_so, on_files, with_drives_after, with_volume_after}
 use Rattle.file_rules.specs.declared.path_call.PathCall.{PathCall}
@@ -113,7 +113,8 @@ file-one size change v w x n same one two = by_needed (zero-or (clusters_needed 
     by_needed (inr some) = inl (record { file = one.old; is = one.is; some = inl some })
 
 -- what a change makes of a volume is one, or it takes clusters
-makes-one : (change : Change) (user : ℕ) (now : TimePacket) (v w x : DiskVolume) (m n : ℕ) → Makes change user now v w m → Makes change user now v x n → TakesClusters change v ⊎ (w ≡ x)
+makes-one : (change : Change) (user : ℕ) (now : TimePacket) (v w x : DiskVolume) (m n : ℕ) → AppliesChange change user
+    now v w m → AppliesChange change user now v x n → TakesClusters change v ⊎ (w ≡ x)
 makes-one (writes n at bytes) user now v w x m k one two =
     file-one (λ file. length (written file.contents at bytes)) (WritesFile (cluster_size v) (is_free_in v) at bytes now) v w x n (written-one (cluster_size v) (is_free_in v) at bytes now) one two
 makes-one (sizes n size) user now v w x m k one two =
@@ -138,7 +139,7 @@ module _ (it : VolumeChange) (asker : Asker) (files : Files) (effect other : Fil
   changed-one fixed one two =
       let old : two.old ≡ one.old = same_Some two.old one.old (sym two.is ∙ one.is) in
       by_made (makes-one it.change asker.user asker.now one.old one.new two.new one.number two.number one.makes
-      (subst (λ (old : DiskVolume). Makes it.change asker.user asker.now old two.new two.number) old two.makes))
+      (subst (λ (old : DiskVolume). AppliesChange it.change asker.user asker.now old two.new two.number) old two.makes))
     where
       by_made : TakesClusters it.change one.old ⊎ (one.new ≡ two.new) → TakesFrom files it ⊎ (effect ≡ other)
       by_made (inl takes) = inl (taking one.old one.is takes)

@@ -47,7 +47,7 @@ use Rattle.file_rules.specs.Change.{Change, creates, deletes, makes_directory, s
 use Rattle.file_rules.specs.ChgDir.{goes_on_route, goes_to, may_go_to}
 use Rattle.file_rules.specs.Create.{clusters_for, creates_in, creates_on_route, creates_with_path, has_room_for, opens_new}
 use Rattle.file_rules.specs.Delete.{deletes_by, deletes_file, deletes_in, deletes_named}
-use Rattle.file_rules.specs.Files.{Asker, DriveState, Files, NoneFailed, OneFailed, OpenFile, directories_at, drive_at, new_drive, open_file, target_on, volume_at, with_directories_of, with_directory, with_drives, with_path_table, with_position, with_records, with_ticks, with_volume}
+use Rattle.file_rules.specs.Files.{Asker, DriveState, Files, KeepsDriveFaults, OneFailed, OpenFile, directories_at, drive_at, new_drive, open_file, target_on, volume_at, with_directories_of, with_directory, with_drives, with_path_table, with_position, with_records, with_ticks, with_volume}
 use Rattle.file_rules.specs.Close.{files_after_close}
 use Rattle.file_rules.specs.Locking.{answer_to, asks, asks_by, call_of, is_for_update, pending_request, request_now, waiting_in}
 use Rattle.file_rules.specs.MakDir.{makes_in, makes_on_route, new_directory_size, past_list}
@@ -70,7 +70,7 @@ use Rattle.file_laws.proofs.Steps.{IsFound, list-by, needs-by, refuses-by}
 use Rattle.call_laws.specs.Terminals.{AreOnTerminals}
 use Rattle.call_laws.proofs.StepWalk.{step-gives}
 use Rattle.run_laws.proofs.SomeEffects.{IsThere, SomeEffect, call-there, some-effect}
-use Rattle.run_laws.specs.Mounted.{AreMounted}
+use Rattle.run_laws.specs.Mounted.{MountsAreSound}
 use Rattle.run_laws.proofs.Changing.{SomeChange, some-attributes, some-deletion, some-size, some-write}
 
 min-least : (n m : ℕ) → min n m ≤ n
@@ -102,7 +102,7 @@ module _ (call : PathCall) (asker : Asker) (files : Files) (terms : List Termina
     pub after : List TerminalState
     pub does : FileDoes step asker files effect terms after
     pub counts : fault_counts after ≡ fault_counts terms
-    pub stays : NoneFailed files.drives effect.files.drives ⊎ Making call files
+    pub stays : KeepsDriveFaults files.drives effect.files.drives ⊎ Making call files
 
   -- what is done on this drive, or a fault of it may leave its volume as it was
   abbrev On : ℕ → FileStep → Type 0
@@ -174,7 +174,7 @@ module _ (call : PathCall) (asker : Asker) (files : Files) (terms : List Termina
 
   -- ---- drives
 
-  module _ (kinds : AreKinds files) (mounted : AreMounted files) where
+  module _ (kinds : AreKinds files) (mounted : MountsAreSound files) where
     -- a fault of a drive
     abbrev with-fault : ℕ → DriveState
     with-fault drive = record { faults = (drive_at files.drives drive).faults + 1; last = Some NotReady }

@@ -14,7 +14,7 @@ use Rattle.machine_model.specs.declared.ends.EventEnd.TheVariants.{Ran}
 use Rattle.machine_model.specs.declared.ends.SliceEnd.{SliceEnd}
 use Rattle.machine_model.specs.declared.ends.SliceEnd.TheVariants.{Idle, Ran as SliceRan}
 use Rattle.machine_model.specs.Event.{Acts, Event, before_delivery, cost, files_after_delivery, files_after_instruction}
-use Rattle.machine_model.specs.Run.{BeginsSlice, Choose, FirstSteps, Run, Slice, Steps, Tick, is_going}
+use Rattle.machine_model.specs.Run.{BeginsSlice, Choose, FirstSteps, Run, Slice, SliceEvents, Tick, is_going}
 use Rattle.machine_model.specs.Services.{service_of}
 use Rattle.machine_model.specs.State.{State, has_living}
 use Rattle.run_laws.specs.Ends.{VolumesKeepEnds}
@@ -72,12 +72,12 @@ choice-keeps-ends s t is = keeps-same s t (ap volumes_in is)
 
 -- ---- slices
 
-steps-keep : (left : ℕ) (s : State) (states : List State) (t : State) → Steps left s states t → VolumesKeepEnds s t
+steps-keep : (left : ℕ) (s : State) (states : List State) (t : State) → SliceEvents left s states t → VolumesKeepEnds s t
 steps-keep left s [] t (over, is) = keeps-same s t (ap volumes_in is)
 steps-keep left s (m ∷ ms) t (some, end, event, steps) =
     keeps-then s m t (event-keeps-ends s m end event) (rest (is_going end) (steps-keep (left - cost s) m ms t) steps)
   where
-    rest : (going : Bool) → (Steps (left - cost s) m ms t → VolumesKeepEnds m t) → MatchBool going (Steps (left - cost s) m ms t) ((ms ≡ []) × (t ≡ m)) → VolumesKeepEnds m t
+    rest : (going : Bool) → (SliceEvents (left - cost s) m ms t → VolumesKeepEnds m t) → MatchBool going (SliceEvents (left - cost s) m ms t) ((ms ≡ []) × (t ≡ m)) → VolumesKeepEnds m t
     rest true keep steps = keep steps
     rest false keep (over, is) = keeps-same m t (ap volumes_in is)
 
@@ -87,7 +87,7 @@ first-keep left s (m ∷ ms) t (some, event, steps) =
     keeps-then s m t (event-keeps-ends s m Ran event) (first-keep (left - cost s) m ms t steps)
 
 chosen-keep : (n : ℕ) (s : State) (states : List State) (end : SliceEnd) (t : State) (who : Option ℕ)
-    → MatchOption who ((end ≡ Idle) × (states ≡ []) × (t ≡ s)) (λ p. (end ≡ SliceRan) × Steps n s states t)
+    → MatchOption who ((end ≡ Idle) × (states ≡ []) × (t ≡ s)) (λ p. (end ≡ SliceRan) × SliceEvents n s states t)
     → VolumesKeepEnds s t
 chosen-keep n s states end t None (idle, none, is) = keeps-same s t (ap volumes_in is)
 chosen-keep n s states end t (Some p) (ran, steps) = steps-keep n s states t steps

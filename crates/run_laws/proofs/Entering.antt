@@ -25,7 +25,7 @@ use Rattle.rbf_change.specs.Calls.{cluster_size, day_of, free_total, is_free_in,
 use Rattle.rbf_change.specs.Contents.{sector_count, written}
 use Rattle.rbf_change.specs.Growth.{IsChoice, clusters_needed, free_beside, uses, with_clusters}
 use Rattle.rbf_change.specs.Names.{entry_place, new_entry}
-use Rattle.rbf_change.specs.NewFiles.{IsEntered, IsNewFile, Plan, entry_clusters, file_clusters, first_segments, free_but, free_without}
+use Rattle.rbf_change.specs.NewFiles.{IsFileEntered, IsNewFile, Plan, entry_clusters, file_clusters, first_segments, free_but, free_without}
 use Rattle.file_laws.proofs.Volumes.{fresh, unused}
 use Rattle.run_laws.specs.Mounted.{HasNumbers}
 use Rattle.run_laws.proofs.Gaining.{drop-one, some-free}
@@ -285,7 +285,7 @@ module _ (v : DiskVolume) (order : IsInOrder v) (numbers : HasNumbers v) (some :
             sure-choice k then-free dir.segments entry-size (cluster_count (shape v)) some (omega (arith, same, entry-few)) held.few (λ one. not-full (omega (arith, one, same)))
             (subst (λ (xs : List ℕ). clusters_needed k dir.segments entry-size ≤ length xs) (sym (filter_agree (free_beside k then-free dir.segments) then-free beside-entry all)) enough_then)
 
-        entered : (n : ℕ) × IsEntered v d n name (plan n)
+        entered : (n : ℕ) × IsFileEntered v d n name (plan n)
         entered =
             let (gained, choice) = chosen-entry in (
               it.n,
@@ -299,7 +299,7 @@ module _ (v : DiskVolume) (order : IsInOrder v) (numbers : HasNumbers v) (some :
               },
             )
 
-      pub some-entered : (n : ℕ) × IsEntered v d n name (plan n)
+      pub some-entered : (n : ℕ) × IsFileEntered v d n name (plan n)
       some-entered =
           let there = some-free free 0 (cluster_count (shape v)) (omega (arith, enough)) in
           entered (new-one there.0 there.1 (omega (arith, enough)))

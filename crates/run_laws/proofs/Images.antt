@@ -9,7 +9,7 @@ use Rattle.file_rules.specs.Files.{volume_at}
 use Rattle.machine_model.specs.Run.{Run}
 use Rattle.machine_model.specs.Start.{Boot, Starts}
 use Rattle.machine_model.specs.State.{State}
-use Rattle.run_laws.specs.Ends.{KeepsEnds}
+use Rattle.run_laws.specs.Ends.{KeepsVolumeEnds}
 use Rattle.run_laws.specs.Images.{IsWrittenBack}
 use Rattle.run_laws.proofs.EndsAlong.{run-keeps-ends}
 use Rattle.run_laws.proofs.Starts.{start-has-images}
@@ -23,7 +23,7 @@ whole image v vol =
     parts (length image) (image_geometry image).total (length v.rest) vol.header.fits
     (ap (λ (xs : List ℕ). length xs) vol.rest ∙ length-drop (256 * (image_geometry image).total) image)
 
-module _ (old new : List ℕ) (v w : DiskVolume) (was : Vol old v) (is : Vol new w) (kept : KeepsEnds v w) where
+module _ (old new : List ℕ) (v w : DiskVolume) (was : Vol old v) (is : Vol new w) (kept : KeepsVolumeEnds v w) where
   first-same : sector new 0 ≡ sector old 0
   first-same = sym is.sound.shows.ident ∙ kept.ident ∙ was.sound.shows.ident
 
@@ -47,4 +47,4 @@ pub images-keep-ends : (boot : Boot) (slices written : List ℕ) (s t : State) (
 images-keep-ends boot slices written s t states starts run n old new w at there is =
     let (v, first, was) = start-has-images boot s starts n old at in
     let (u, last, kept) = (run-keeps-ends slices written s t states run).kept n v first in
-    written-back old new v w was is (subst (KeepsEnds v) (same_Some u w (sym last ∙ there)) kept)
+    written-back old new v w was is (subst (KeepsVolumeEnds v) (same_Some u w (sym last ∙ there)) kept)

@@ -13,10 +13,10 @@ use Rattle.rbf_model.specs.Volume.{DiskVolume, Vol}
 use Rattle.rbf_model.proofs.Free.{number_below}
 use Rattle.rbf_change.specs.Calls.{Changes, cluster_size, replaced, shape}
 use Rattle.rbf_change.specs.Faults.{DeletionEnds, MayLose, NewFileEnds, SizeEnds, before, cut, gone, longer, taken}
-use Rattle.rbf_change.specs.NewFiles.{Deletes, Enters, Plan, directory_plan, file_plan}
+use Rattle.rbf_change.specs.NewFiles.{Deletes, EntersNewFile, Plan, directory_plan, file_plan}
 use Rattle.rbf_change.proofs.LawfulWrites.{shape-image}
 use Rattle.file_rules.specs.Attempts.{file_step}
-use Rattle.file_rules.specs.Change.{Change, Makes, MayLeave, creates, deletes, makes_directory, sets_attributes, sizes, writes}
+use Rattle.file_rules.specs.Change.{Change, AppliesChange, ChangeMayLeave, creates, deletes, makes_directory, sets_attributes, sizes, writes}
 use Rattle.file_rules.specs.Files.{Asker, DriveState, Files, volume_at, with_drives, with_volume}
 use Rattle.file_rules.specs.Processes.{first_files}
 use Rattle.file_rules.specs.Step.{Deed, DoesDeed, FileDoes, FileEffect, MayBeLeft, as_io, changes, deed_of, drive_of, leaves_so, on_files}
@@ -28,7 +28,7 @@ use Rattle.file_laws.proofs.Starts.{image-of}
 use Rattle.file_laws.proofs.Volumes.{free-whole}
 use Rattle.file_laws.proofs.TouchAttempts.{step-splits}
 use Rattle.file_laws.proofs.Splits.{EndsSo, Splits}
-use Rattle.run_laws.specs.Mounted.{AreMounted, HasNumbers}
+use Rattle.run_laws.specs.Mounted.{MountsAreSound, HasNumbers}
 
 -- ---- one volume
 
@@ -77,7 +77,7 @@ numbers-changed change v w n it =
 below-total : (c k n total : ℕ) → n ≡ c * k → 0 < k → (c + 1) * k ≤ total → n < total
 below-total c k n total is some end = omega arith
 
-numbers-entered : (v w : DiskVolume) (d n : ℕ) (name : List ℕ) (plan : Plan) → 0 < cluster_size v → Enters v w d n name plan → KeepsNumbers v w
+numbers-entered : (v w : DiskVolume) (d n : ℕ) (name : List ℕ) (plan : Plan) → 0 < cluster_size v → EntersNewFile v w d n name plan → KeepsNumbers v w
 numbers-entered v w d n name plan some it =
     let both = it.both in
     let made = both.made in
@@ -96,7 +96,7 @@ numbers-deleted v w d n name it =
     (numbers-put v d (Some _) (λ file is has. has d it.drops.old it.drops.is))
     (numbers-put (replaced v d _) n None (λ file is has. absurd (none-some file is))))
 
-numbers-made : (change : Change) (user : ℕ) (now : TimePacket) (v w : DiskVolume) (number : ℕ) → 0 < cluster_size v → Makes change user now v w number → KeepsNumbers v w
+numbers-made : (change : Change) (user : ℕ) (now : TimePacket) (v w : DiskVolume) (number : ℕ) → 0 < cluster_size v → AppliesChange change user now v w number → KeepsNumbers v w
 numbers-made (writes n at bytes) user now v w number some it = numbers-changed _ v w n it
 numbers-made (sizes n size) user now v w number some it = numbers-changed _ v w n it
 numbers-made (sets_attributes n attributes) user now v w number some it = numbers-changed _ v w n it
@@ -123,7 +123,7 @@ deletion-left image v w d n name (before same) = numbers-same v w same
 deletion-left image v w d n name (gone {u = u} it there lose unfinished) =
     numbers-then v u w (numbers-deleted v u d n name it) (numbers-lost u w _ lose)
 
-numbers-left : (change : Change) (user : ℕ) (now : TimePacket) (v w : DiskVolume) → MayLeave change user now v w → KeepsNumbers v w
+numbers-left : (change : Change) (user : ℕ) (now : TimePacket) (v w : DiskVolume) → ChangeMayLeave change user now v w → KeepsNumbers v w
 numbers-left (writes n at bytes) user now v w it =
     numbers-then v (replaced v n _) w (numbers-put v n (Some _) (λ file is has. has n it.old it.is)) (numbers-lost (replaced v n _) w _ it.volume)
 numbers-left (sizes n size) user now v w it = size-left it.0 v w n size now it.2
@@ -136,7 +136,7 @@ numbers-left (deletes d n name) user now v w it = deletion-left it.0 v w d n nam
 
 -- ---- all volumes
 
-pub mounted-same : (files new : Files) → new.volumes ≡ files.volumes → length new.drives ≡ length files.drives → AreMounted files → AreMounted new
+pub mounted-same : (files new : Files) → new.volumes ≡ files.volumes → length new.drives ≡ length files.drives → MountsAreSound files → MountsAreSound new
 mounted-same files new volumes drives mounted = record {
   drives =
       λ drive v is. subst (λ (n : ℕ). drive < n) (sym drives) (mounted.drives drive v (sym (at drive) ∙ is));
@@ -148,7 +148,7 @@ mounted-same files new volumes drives mounted = record {
 
 mounted-set : (files new : Files) (drive : ℕ) (old left : DiskVolume) → volume_at files drive ≡ Some old
     → new.volumes ≡ slice_set files.volumes drive (Some left) → length new.drives ≡ length files.drives
-    → KeepsNumbers old left → AreMounted files → AreMounted new
+    → KeepsNumbers old left → MountsAreSound files → MountsAreSound new
 mounted-set files new drive old left is volumes drives keeps mounted = record {
   drives =
       λ other v there. subst (λ (n : ℕ). other < n) (sym drives) (in_drive other v there (cases_eq other drive));
@@ -180,23 +180,23 @@ ends-volumes call asker files terms it (inl left) = left.volumes
 ends-volumes call asker files terms it (inr (inl device)) = ap (λ (it : FileEffect). it.files.volumes) device.same
 ends-volumes call asker files terms it (inr (inr waiting)) = ap (λ (it : FileEffect). it.files.volumes) waiting.same
 
-module _ (call : PathCall) (asker : Asker) (files : Files) (kinds : AreKinds files) (mounted : AreMounted files) (old new : List TerminalState) where
+module _ (call : PathCall) (asker : Asker) (files : Files) (kinds : AreKinds files) (mounted : MountsAreSound files) (old new : List TerminalState) where
   deed-mounted : (reached : Option ℕ) (deed : Deed) (it : FileEffect) (drives : List DriveState)
       → length drives ≡ length files.drives → Splits call asker files (length old) reached deed → DoesDeed deed asker
-      files it old new → AreMounted (with_drives it.files drives)
+      files it old new → MountsAreSound (with_drives it.files drives)
   deed-mounted reached (leaves_so effect) it drives many left (is, same) =
-      subst (λ (it : FileEffect). AreMounted (with_drives it.files drives)) (sym is)
+      subst (λ (it : FileEffect). MountsAreSound (with_drives it.files drives)) (sym is)
       (mounted-same files (with_drives effect.files drives) (ends-volumes call asker files (length old) effect left) many mounted)
   deed-mounted reached (as_io step) it drives many on (effect, does, is) =
-      subst (λ (it : FileEffect). AreMounted (with_drives it.files drives)) (sym is)
+      subst (λ (it : FileEffect). MountsAreSound (with_drives it.files drives)) (sym is)
       (mounted-same files (with_drives (on_files asker.caller.process.0 files effect).files drives) refl many mounted)
   deed-mounted reached (changes change) it drives many answers (inl changed, same) =
-      subst (λ (it : FileEffect). AreMounted (with_drives it.files drives)) (sym changed.effect_is)
+      subst (λ (it : FileEffect). MountsAreSound (with_drives it.files drives)) (sym changed.effect_is)
       (mounted-set files (with_drives (with_volume (change.effect changed.number).files change.drive changed.new) drives) change.drive changed.old changed.new changed.is
       (ap (λ (volumes : List (Option DiskVolume)). slice_set volumes change.drive (Some changed.new)) (answers.left changed.number).volumes)
       many (numbers-made change.change asker.user asker.now changed.old changed.new changed.number (kinds.clusters change.drive changed.old changed.is) changed.makes) mounted)
   deed-mounted reached (changes change) it drives many answers (inr long, same) =
-      subst (λ (it : FileEffect). AreMounted (with_drives it.files drives)) (sym long.effect_is)
+      subst (λ (it : FileEffect). MountsAreSound (with_drives it.files drives)) (sym long.effect_is)
       (mounted-same files (with_drives files drives) refl many mounted)
 
   deed-left : (deed : Deed) (was left : DiskVolume) → MayBeLeft deed asker was left → KeepsNumbers was left
@@ -204,14 +204,14 @@ module _ (call : PathCall) (asker : Asker) (files : Files) (kinds : AreKinds fil
   deed-left (as_io step) was left it = numbers-same was left it
   deed-left (changes change) was left it = numbers-left change.change asker.user asker.now was left it
 
-  pub does-mounted : (effect : FileEffect) → FileDoes (file_step call asker files (length old)) asker files effect old new → AreMounted effect.files
+  pub does-mounted : (effect : FileEffect) → FileDoes (file_step call asker files (length old)) asker files effect old new → MountsAreSound effect.files
   does-mounted effect (inl well) =
-      subst (λ (effect : FileEffect). AreMounted effect.files) (sym well.effect_is)
+      subst (λ (effect : FileEffect). MountsAreSound effect.files) (sym well.effect_is)
       (deed-mounted (drive_of (file_step call asker files (length old)))
       (deed_of (file_step call asker files (length old)) files) well.it well.drives
       (none-many files.drives well.drives well.none_failed) (step-splits call asker files (length old)) well.does)
   does-mounted effect (inr (broken, same)) =
-      subst (λ (effect : FileEffect). AreMounted effect.files) (sym broken.effect_is)
+      subst (λ (effect : FileEffect). MountsAreSound effect.files) (sym broken.effect_is)
       (mounted-set files (with_drives (with_volume files broken.drive broken.left) broken.drives) broken.drive broken.old broken.left broken.is refl broken.failed.as_many
       (deed-left (deed_of (file_step call asker files (length old)) files) broken.old broken.left broken.may_be) mounted)
 
@@ -230,7 +230,7 @@ zip-long (image ∷ images) (v ∷ volumes) mounted =
     let rest : length volumes ≡ length images = zip-long images volumes mounted.1 in omega (arith, rest)
 
 pub mounted-first : (images : List (List ℕ)) (volumes : List DiskVolume) (drives : List DriveState)
-    → AllZip Vol images volumes → length images ≤ length drives → AreMounted (first_files volumes drives)
+    → AllZip Vol images volumes → length images ≤ length drives → MountsAreSound (first_files volumes drives)
 mounted-first images volumes drives mounted few = record {
   drives = in_drive;
   numbers =

@@ -15,8 +15,8 @@ use Rattle.file_rules.specs.Files.{Files, volume_at}
 use Rattle.file_rules.specs.Step.{Deed, as_io, changes, deed_of, leaves_so}
 use Rattle.machine_model.specs.ProcessEvent.{next_instruction}
 use Rattle.machine_model.specs.declared.ends.EventEnd.{EventEnd}
-use Rattle.file_laws.specs.Devices.{IsOnDevice}
-use Rattle.file_laws.specs.Touch.{LeavesDevices, NoVolumeChanges, OneDriveFails, OneVolumeChanges, WaitsForRecord}
+use Rattle.file_laws.specs.Devices.{DeviceAttempted}
+use Rattle.file_laws.specs.Touch.{TouchesNoDevice, NoVolumeChanges, OneDriveFails, OneVolumeChanges, WaitsForRecord}
 use Rattle.file_laws.proofs.TouchAttempts.{attempt-comes}
 use Rattle.file_laws.proofs.Loads.{chain-leaves, fork-leaves, load-leaves}
 use Rattle.machine_model.specs.Event.{Acts, Event, before_delivery, files_after_delivery, files_after_instruction}
@@ -74,7 +74,7 @@ module _ (s : State) (now : TimePacket) (p : ℕ) (result : CallResult) (rest : 
   serves-bare (on_paths call) (it, clock) =
       by_case (attempt-comes call s.processes s.files now p result rest.files s.terms rest.terms it)
     where
-      by_case : IsOnDevice call s.processes s.files p result rest.files s.terms rest.terms ⊎ LeavesDevices call s.processes
+      by_case : DeviceAttempted call s.processes s.files p result rest.files s.terms rest.terms ⊎ TouchesNoDevice call s.processes
           s.files now p result rest.files s.terms rest.terms ⊎ WaitsForRecord call s.processes s.files now p result
           rest.files s.terms rest.terms → Bare rest.files
       by_case (inl on) = bare-same s.files rest.files on.volumes bare

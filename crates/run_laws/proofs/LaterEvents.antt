@@ -12,10 +12,10 @@ use Rattle.proc_model.specs.CallResult.{CallResult}
 use Rattle.proc_model.specs.Processes.{Processes}
 use Rattle.proc_model.specs.Ready.{Act, attempts, delivers, executes, act_of}
 use Rattle.proc_model.specs.declared.proc_call.ProcCall.TheVariants as Call
-use Rattle.io_model.specs.Terminal.{IsCutShort, IsWritten, Reads, Terminal, Writes}
+use Rattle.io_model.specs.Terminal.{IsOutputCutShort, IsOutputWritten, ReadAttempted, Terminal, WriteAttempted}
 use Rattle.io_model.specs.declared.terminal.Progress.{Progress}
 use Rattle.io_model.specs.declared.terminal.Reading.{Reading}
-use Rattle.io_model.specs.Attempts.{Does}
+use Rattle.io_model.specs.Attempts.{IoDoes}
 use Rattle.io_model.specs.Io.{Io, terminal_at}
 use Rattle.io_model.specs.Step.{Caller, IoEffect, IoStep, TerminalRead, TerminalWrite, comes, reads, refused, writes}
 use Rattle.io_model.specs.Terminals.{ReadsTerminal, WritesTerminal, request_of}
@@ -28,7 +28,7 @@ use Rattle.machine_model.specs.declared.ends.EventEnd.{EventEnd}
 use Rattle.machine_model.specs.Event.{Acts, Event}
 use Rattle.machine_model.specs.Services.{Service, Serves, loads, no_call, on_paths, on_processes, on_time, service_of, with_files}
 use Rattle.machine_model.specs.State.{Rest, State, with_rest}
-use Rattle.run_laws.specs.Later.{AreSameBut, Rests, SameBut, SameEventTo, SameTo}
+use Rattle.run_laws.specs.Later.{AreSameBut, UnsharedKeys, SameBut, SameEventTo, SameTo}
 use Rattle.run_laws.proofs.LaterKeys.{At, at-zip, length-all, on_terms}
 
 -- ---- one terminal, with other keys
@@ -37,7 +37,7 @@ abbrev keyed : TerminalState → List Key → TerminalState
 keyed terminal keys = record terminal { keys = keys }
 
 reads-keyed : (request : Reading) (answer : Progress) (old new : Terminal) (before now : TerminalState)
-    (keys : List Key) → Reads request answer old new before now → Reads request answer old new (keyed before keys)
+    (keys : List Key) → ReadAttempted request answer old new before now → ReadAttempted request answer old new (keyed before keys)
     (keyed now keys)
 reads-keyed request (Progress.Done count) old new before now keys it = record {
   outcome = record { answer_is = it.outcome.answer_is; terminal = it.outcome.terminal; echo = it.outcome.echo };
@@ -100,7 +100,7 @@ reads-keyed request Progress.NoMemory old new before now keys it = record {
 }
 
 module _ (process : Pid) (put : List ℕ) (count : ℕ) (old new : Terminal) (before now : TerminalState) (keys : List Key) where
-  writes-keyed : (answer : Progress) → Writes process put count answer old new before now → Writes process put count answer old new (keyed before keys) (keyed now keys)
+  writes-keyed : (answer : Progress) → WriteAttempted process put count answer old new before now → WriteAttempted process put count answer old new (keyed before keys) (keyed now keys)
   writes-keyed (Progress.Done n) it = record {
     outcome = record {
       answer_is = it.outcome.answer_is;
@@ -160,11 +160,11 @@ module _ (process : Pid) (put : List ℕ) (count : ℕ) (old new : Terminal) (be
     };
   }
 
-keyed-is : (later : ℕ) (rest : Rests) (one other : TerminalState) → SameBut later rest one other → other ≡ keyed one other.keys
+keyed-is : (later : ℕ) (rest : UnsharedKeys) (one other : TerminalState) → SameBut later rest one other → other ≡ keyed one other.keys
 keyed-is later rest one other same = λ i. record { keys = other.keys; put = same.put i; faults = same.faults i }
 
 -- a terminal that kept its keys is the other one still, but for later keys
-still-same : (later : ℕ) (rest : Rests) (before now other : TerminalState) → SameBut later rest before other → now.keys ≡ before.keys → SameBut later rest now (keyed now other.keys)
+still-same : (later : ℕ) (rest : UnsharedKeys) (before now other : TerminalState) → SameBut later rest before other → now.keys ≡ before.keys → SameBut later rest now (keyed now other.keys)
 still-same later rest before now other same kept = record {
   front = same.front;
   keys = kept ∙ same.keys;
@@ -178,16 +178,16 @@ still-same later rest before now other same kept = record {
 -- ---- what is done
 
 -- the terminals after it, from others before it
-record Too (later : ℕ) (rests : List Rests) (after : List TerminalState) (Comes : List TerminalState → Type 0) : Type 0 where
+record Too (later : ℕ) (rests : List UnsharedKeys) (after : List TerminalState) (Comes : List TerminalState → Type 0) : Type 0 where
   pub terms : List TerminalState
   pub comes : Comes terms
   pub same : AreSameBut later rests after terms
 
 -- nothing changed
-too-same : (later : ℕ) (rests : List Rests) (before after others : List TerminalState) → AreSameBut later rests before others → after ≡ before → AreSameBut later rests after others
+too-same : (later : ℕ) (rests : List UnsharedKeys) (before after others : List TerminalState) → AreSameBut later rests before others → after ≡ before → AreSameBut later rests after others
 too-same later rests before after others all is = subst (λ (after : List TerminalState). AreSameBut later rests after others) (sym is) all
 
-module _ (later : ℕ) (rests : List Rests) (before after others : List TerminalState) (all : AreSameBut later rests before others) where
+module _ (later : ℕ) (rests : List UnsharedKeys) (before after others : List TerminalState) (all : AreSameBut later rests before others) where
   -- a terminal that changes so keeps its keys, and changes so with others
   change-too : (n : ℕ) (Change : TerminalState → TerminalState → Type 0) → ((old now : TerminalState) → Change old now
       → now.keys ≡ old.keys) → ((old now : TerminalState) (keys : List Key) → Change old now → Change (keyed old keys)
@@ -212,22 +212,22 @@ module _ (later : ℕ) (rests : List Rests) (before after others : List Terminal
             (keeps old now changed))) is;
       }
 
-  does-too : (step : IoStep) (caller : Caller) (io : Io) (effect : IoEffect) → Does step caller io effect before after → Too later rests after (Does step caller io effect others)
+  does-too : (step : IoStep) (caller : Caller) (io : Io) (effect : IoEffect) → IoDoes step caller io effect before after → Too later rests after (IoDoes step caller io effect others)
   does-too (refused number) caller io effect (is, same) =
       record { terms = others; comes = (is, refl); same = too-same later rests before after others all same }
   does-too (comes it) caller io effect (is, same) =
       record { terms = others; comes = (is, refl); same = too-same later rests before after others all same }
   does-too (reads read) caller io effect it =
-      let too : Too later rests after (ChangesOneTerminal (Reads (request_of caller read) it.answer
+      let too : Too later rests after (ChangesOneTerminal (ReadAttempted (request_of caller read) it.answer
       (terminal_at io read.terminal) it.new) read.terminal others) = change-too read.terminal
-      (Reads (request_of caller read) it.answer (terminal_at io read.terminal) it.new)
+      (ReadAttempted (request_of caller read) it.answer (terminal_at io read.terminal) it.new)
       (λ old now changed. changed.driver.keys) (λ old now keys changed. reads-keyed (request_of caller read)
       it.answer (terminal_at io read.terminal) it.new old now keys changed) it.device in
       record { terms = too.terms; comes = record { answer = it.answer; new = it.new; end = it.end; device = too.comes; ends = it.ends; effect_is = it.effect_is }; same = too.same }
   does-too (writes write) caller io effect it =
-      let too : Too later rests after (ChangesOneTerminal (Writes caller.process write.put write.count it.answer
+      let too : Too later rests after (ChangesOneTerminal (WriteAttempted caller.process write.put write.count it.answer
       (terminal_at io write.terminal) it.new) write.terminal others) = change-too write.terminal
-      (Writes caller.process write.put write.count it.answer (terminal_at io write.terminal) it.new)
+      (WriteAttempted caller.process write.put write.count it.answer (terminal_at io write.terminal) it.new)
       (λ old now changed. changed.driver.keys) (λ old now keys changed. writes-keyed caller.process write.put
       write.count (terminal_at io write.terminal) it.new old now keys it.answer changed) it.device in
       record { terms = too.terms; comes = record { answer = it.answer; new = it.new; end = it.end; device = too.comes; ends = it.ends; effect_is = it.effect_is }; same = too.same }
@@ -236,7 +236,7 @@ module _ (later : ℕ) (rests : List Rests) (before after others : List Terminal
   deed-too (leaves_so it) asker files effect (is, same) =
       record { terms = others; comes = (is, refl); same = too-same later rests before after others all same }
   deed-too (as_io step) asker files effect (it, does, is) =
-      let too : Too later rests after (Does step asker.caller files.io it others) = does-too step asker.caller files.io it does in
+      let too : Too later rests after (IoDoes step asker.caller files.io it others) = does-too step asker.caller files.io it does in
       record { terms = too.terms; comes = (it, too.comes, is); same = too.same }
   deed-too (changes it) asker files effect (is, same) =
       record { terms = others; comes = (is, refl); same = too-same later rests before after others all same }
@@ -253,7 +253,8 @@ module _ (later : ℕ) (rests : List Rests) (before after others : List Terminal
 abbrev rest_on : Rest → List TerminalState → Rest
 rest_on rest terms = record rest { terms = terms }
 
-module _ (later : ℕ) (rests : List Rests) (s : State) (others : List TerminalState) (all : AreSameBut later rests s.terms others) (p : ℕ) (now : TimePacket) (result : CallResult) (rest : Rest) where
+module _ (later : ℕ) (rests : List UnsharedKeys) (s : State) (others : List TerminalState)
+    (all : AreSameBut later rests s.terms others) (p : ℕ) (now : TimePacket) (result : CallResult) (rest : Rest) where
   abbrev ServesToo : Service → Type 0
   ServesToo service = Too later rests rest.terms (λ terms. Serves service (on_terms s others) now p result (rest_on rest terms))
 
@@ -317,12 +318,12 @@ module _ (later : ℕ) (rests : List Rests) (s : State) (others : List TerminalS
 -- ---- an event
 
 -- the same act, from other terminals
-record ActsToo (later : ℕ) (rests : List Rests) (act : Act) (s : State) (others : List TerminalState) (p : ℕ) (end : EventEnd) (t : State) : Type 0 where
+record ActsToo (later : ℕ) (rests : List UnsharedKeys) (act : Act) (s : State) (others : List TerminalState) (p : ℕ) (end : EventEnd) (t : State) : Type 0 where
   pub last : State
   pub acts : Acts act (on_terms s others) p end last
   pub same : SameTo later rests t last
 
-acts-too : (later : ℕ) (rests : List Rests) (act : Act) (s : State) (others : List TerminalState) (p : ℕ)
+acts-too : (later : ℕ) (rests : List UnsharedKeys) (act : Act) (s : State) (others : List TerminalState) (p : ℕ)
     (end : EventEnd) (t : State) → AreSameBut later rests s.terms others → Acts act s p end t → ActsToo later rests
     act s others p end t
 acts-too later rests executes s others p end t all (ending, is) = record {
@@ -343,7 +344,7 @@ acts-too later rests (attempts code) s others p end t all (result, rest, (now, i
       same = record { terms = subst (λ (t : State). AreSameBut later rests t.terms too.terms) (sym is) too.same; rest = refl };
     }
 
-pub event-too : (later : ℕ) (rests : List Rests) (s t other : State) (end : EventEnd) → SameTo later rests s other → Event s end t → SameEventTo later rests end t other
+pub event-too : (later : ℕ) (rests : List UnsharedKeys) (s t other : State) (end : EventEnd) → SameTo later rests s other → Event s end t → SameEventTo later rests end t other
 event-too later rests s t other end same (p, chosen, lives, acts) =
     let too : ActsToo later rests (act_of s.processes p) s other.terms p end t = acts-too later rests (act_of s.processes p) s other.terms p end t same.terms acts in
     record {

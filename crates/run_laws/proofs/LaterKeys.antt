@@ -12,7 +12,7 @@ use Rattle.os9_outer.specs.Stream.{stream_with, GainsPart}
 use Rattle.os9_outer.specs.Terminal.{due_byte}
 use Rattle.os9_outer.specs.TerminalState.{TerminalState, ChangesOneTerminal}
 use Rattle.os9_outer.specs.declared.terminal.Key.{Key}
-use Rattle.io_model.specs.Terminal.{Arrives, Reads, RoseTimes, Terminal, Writes}
+use Rattle.io_model.specs.Terminal.{Arrives, ReadAttempted, RoseTimes, Terminal, WriteAttempted}
 use Rattle.os9_base.specs.declared.registers.Pid.{Pid}
 use Rattle.io_model.specs.declared.keys.TheConstants.{BELL}
 use Rattle.io_model.specs.declared.terminal.Arrival.{Arrival}
@@ -23,20 +23,20 @@ use Rattle.io_model.specs.Io.{Io, terminal_at}
 use Rattle.machine_model.specs.Run.{Choose, Tick, desk_of}
 use Rattle.machine_model.specs.State.{State}
 use Rattle.file_rules.specs.Files.{with_io}
-use Rattle.run_laws.specs.Later.{AreSameBut, Rests, SameBut, SameTo, SameTickTo, SameChoiceTo}
+use Rattle.run_laws.specs.Later.{AreSameBut, UnsharedKeys, SameBut, SameTo, SameTickTo, SameChoiceTo}
 
 -- ---- lists of terminals
 
 module _ (later : ℕ) where
   -- a terminal, and the other one at its place; both may be set
-  pub record At (rests : List Rests) (xs ys : List TerminalState) (n : ℕ) (x : TerminalState) : Type 0 where
-    pub rest : Rests
+  pub record At (rests : List UnsharedKeys) (xs ys : List TerminalState) (n : ℕ) (x : TerminalState) : Type 0 where
+    pub rest : UnsharedKeys
     pub y : TerminalState
     pub there : slice_get ys n ≡ Some y
     pub same : SameBut later rest x y
     pub set : (a b : TerminalState) → SameBut later rest a b → AreSameBut later rests (slice_set xs n a) (slice_set ys n b)
 
-  pub at-zip : (rests : List Rests) (xs ys : List TerminalState) (n : ℕ) (x : TerminalState) → AreSameBut later rests xs ys → slice_get xs n ≡ Some x → At rests xs ys n x
+  pub at-zip : (rests : List UnsharedKeys) (xs ys : List TerminalState) (n : ℕ) (x : TerminalState) → AreSameBut later rests xs ys → slice_get xs n ≡ Some x → At rests xs ys n x
   at-zip rests [] ys n x all is = absurd (none-some x is)
   at-zip [] (a ∷ xs) ys n x all is = absurd all
   at-zip (r ∷ rests) (a ∷ xs) [] n x all is = absurd all
@@ -47,7 +47,7 @@ module _ (later : ℕ) where
       let it : At rests xs ys n x = at-zip rests xs ys n x all.1 is in
       record { rest = it.rest; y = it.y; there = it.there; same = it.same; set = λ c d now. (all.0, it.set c d now) }
 
-  pub length-all : (rests : List Rests) (xs ys : List TerminalState) → AreSameBut later rests xs ys → length xs ≡ length ys
+  pub length-all : (rests : List UnsharedKeys) (xs ys : List TerminalState) → AreSameBut later rests xs ys → length xs ≡ length ys
   length-all [] [] [] all = refl
   length-all [] [] (y ∷ ys) all = absurd all
   length-all [] (x ∷ xs) ys all = absurd all
@@ -97,12 +97,12 @@ none-behind tick (key ∷ mid) left other none is = is
 
 -- ---- one terminal in a tick
 
-record ArrivesToo (tick later : ℕ) (rests : Rests) (old new : Terminal) (answer : Arrival) (now other : TerminalState) : Type 0 where
+record ArrivesToo (tick later : ℕ) (rests : UnsharedKeys) (old new : Terminal) (answer : Arrival) (now other : TerminalState) : Type 0 where
   pub last : TerminalState
   pub arrives : Arrives tick old new other last answer
   pub same : SameBut later rests now last
 
-arrives-too : (tick later : ℕ) (rests : Rests) (old new : Terminal) (before now other : TerminalState)
+arrives-too : (tick later : ℕ) (rests : UnsharedKeys) (old new : Terminal) (before now other : TerminalState)
     (answer : Arrival) → tick ≤ later → SameBut later rests before other → Arrives tick old new before now answer
     → ArrivesToo tick later rests old new answer now other
 arrives-too tick later rests old new before now other answer below same it =
@@ -145,12 +145,12 @@ arrives-too tick later rests old new before now other answer below same it =
 abbrev with_terms : Desk → List TerminalState → Desk
 with_terms desk terms = record desk { terms = terms }
 
-record DeskToo (later : ℕ) (rests : List Rests) (new : Desk) (Comes : Desk → Type 0) : Type 0 where
+record DeskToo (later : ℕ) (rests : List UnsharedKeys) (new : Desk) (Comes : Desk → Type 0) : Type 0 where
   pub terms : List TerminalState
   pub comes : Comes (with_terms new terms)
   pub same : AreSameBut later rests new.terms terms
 
-at-too : (tick later n : ℕ) (rests : List Rests) (old new : Desk) (terms : List TerminalState) → tick ≤ later
+at-too : (tick later n : ℕ) (rests : List UnsharedKeys) (old new : Desk) (terms : List TerminalState) → tick ≤ later
     → AreSameBut later rests old.terms terms → ArrivesAt tick n old new → DeskToo later rests new
     (ArrivesAt tick n (with_terms old terms))
 at-too tick later n rests old new terms below all it =
@@ -172,7 +172,7 @@ at-too tick later n rests old new terms below all it =
           subst (λ (now : List TerminalState). AreSameBut later rests now (slice_set terms n too.last)) (sym it.device.3) (here.set it.device.1 too.last too.same);
     }
 
-from-too : (tick later n count : ℕ) (rests : List Rests) (old new : Desk) (terms : List TerminalState) → tick ≤ later
+from-too : (tick later n count : ℕ) (rests : List UnsharedKeys) (old new : Desk) (terms : List TerminalState) → tick ≤ later
     → AreSameBut later rests old.terms terms → ArrivesFrom tick n count old new → DeskToo later rests new
     (ArrivesFrom tick n count (with_terms old terms))
 from-too tick later n zero rests old new terms below all is =
@@ -186,7 +186,7 @@ from-too tick later n (suc count) rests old new terms below all (between, here, 
 abbrev pub on_terms : State → List TerminalState → State
 on_terms s terms = record s { terms = terms }
 
-pub tick-too : (later : ℕ) (rests : List Rests) (s t other : State) → s.processes.tick + 1 ≤ later → SameTo later rests s other → Tick s t → SameTickTo later rests t other
+pub tick-too : (later : ℕ) (rests : List UnsharedKeys) (s t other : State) → s.processes.tick + 1 ≤ later → SameTo later rests s other → Tick s t → SameTickTo later rests t other
 tick-too later rests s t other below same (desk, arrives, is) =
     let all : AreSameBut later rests s.terms other.terms = same.terms in
     let count : length s.terms ≡ length other.terms = length-all later rests s.terms other.terms all in
@@ -207,7 +207,7 @@ tick-too later rests s t other below same (desk, arrives, is) =
       same = subst (λ (t : State). SameTo later rests t there) (sym is) (record { terms = too.same; rest = refl });
     }
 
-pub choice-too : (later : ℕ) (rests : List Rests) (s t other : State) → SameTo later rests s other → Choose s t → SameChoiceTo later rests t other
+pub choice-too : (later : ℕ) (rests : List UnsharedKeys) (s t other : State) → SameTo later rests s other → Choose s t → SameChoiceTo later rests t other
 choice-too later rests s t other same is = record {
   last = on_terms t other.terms;
   chooses = subst (λ (other : State). Choose other (on_terms t other.terms)) (sym same.rest) (ap (λ (t : State). on_terms t other.terms) is);

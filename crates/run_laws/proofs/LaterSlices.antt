@@ -7,22 +7,22 @@ use Rattle.machine_model.specs.declared.ends.EventEnd.{EventEnd}
 use Rattle.machine_model.specs.declared.ends.SliceEnd.{SliceEnd}
 use Rattle.machine_model.specs.declared.ends.SliceEnd.TheVariants.{Idle, Ran}
 use Rattle.machine_model.specs.Event.{Event, cost}
-use Rattle.machine_model.specs.Run.{Choose, Slice, Steps, Tick, is_going}
+use Rattle.machine_model.specs.Run.{Choose, Slice, SliceEvents, Tick, is_going}
 use Rattle.machine_model.specs.State.{State}
-use Rattle.run_laws.specs.Later.{AreSameBut, Rests, SameChoiceTo, SameEventTo, SameSliceTo, SameTickTo, SameTo}
+use Rattle.run_laws.specs.Later.{AreSameBut, UnsharedKeys, SameChoiceTo, SameEventTo, SameSliceTo, SameTickTo, SameTo}
 use Rattle.run_laws.proofs.LaterEvents.{event-too}
 use Rattle.run_laws.proofs.LaterKeys.{choice-too, on_terms, tick-too}
 
-module _ (later : ℕ) (rests : List Rests) where
+module _ (later : ℕ) (rests : List UnsharedKeys) where
   record StepsToo (left : ℕ) (states : List State) (t other : State) : Type 0 where
     pub through : List State
     pub last : State
-    pub steps : Steps left other through last
+    pub steps : SliceEvents left other through last
     pub all : AllZip (SameTo later rests) states through
     pub same : SameTo later rests t last
 
   abbrev After : ℕ → Bool → State → List State → State → Type 0
-  After left going m ms t = MatchBool going (Steps left m ms t) ((ms ≡ []) × (t ≡ m))
+  After left going m ms t = MatchBool going (SliceEvents left m ms t) ((ms ≡ []) × (t ≡ m))
 
   record AfterToo (left : ℕ) (going : Bool) (states : List State) (t other : State) : Type 0 where
     pub through : List State
@@ -32,7 +32,7 @@ module _ (later : ℕ) (rests : List Rests) where
     pub same : SameTo later rests t last
 
   after-too : (left : ℕ) (going : Bool) (m other : State) (ms : List State) (t : State)
-      → ((t : State) → Steps left m ms t → StepsToo left ms t other) → SameTo later rests m other → After left going m
+      → ((t : State) → SliceEvents left m ms t → StepsToo left ms t other) → SameTo later rests m other → After left going m
       ms t → AfterToo left going ms t other
   after-too left true m other ms t steps-of same steps =
       let it : StepsToo left ms t other = steps-of t steps in
@@ -48,7 +48,7 @@ module _ (later : ℕ) (rests : List Rests) where
   same-cost : (s other : State) → SameTo later rests s other → cost other ≡ cost s
   same-cost s other same = ap cost same.rest
 
-  steps-too : (left : ℕ) (s other : State) (states : List State) (t : State) → SameTo later rests s other → Steps left s states t → StepsToo left states t other
+  steps-too : (left : ℕ) (s other : State) (states : List State) (t : State) → SameTo later rests s other → SliceEvents left s states t → StepsToo left states t other
   steps-too left s other [] t same (over, is) = record {
     through = [];
     last = other;
@@ -71,7 +71,7 @@ module _ (later : ℕ) (rests : List Rests) where
 
   abbrev Begun : ℕ → State → Option ℕ → List State → SliceEnd → State → Type 0
   Begun n chosen who states end t =
-      MatchOption who ((end ≡ Idle) × (states ≡ []) × (t ≡ chosen)) (λ p. (end ≡ Ran) × Steps n chosen states t)
+      MatchOption who ((end ≡ Idle) × (states ≡ []) × (t ≡ chosen)) (λ p. (end ≡ Ran) × SliceEvents n chosen states t)
 
   record BegunToo (n : ℕ) (who : Option ℕ) (states : List State) (end : SliceEnd) (t other : State) : Type 0 where
     pub through : List State

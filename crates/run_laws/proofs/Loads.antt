@@ -12,7 +12,7 @@ use Rattle.machine_model.specs.declared.ends.SliceEnd.{SliceEnd}
 use Rattle.machine_model.specs.Event.{Event, cost}
 use Rattle.machine_model.specs.Run.{BeginsSlice, Choose, FirstSteps, Slice, Tick}
 use Rattle.machine_model.specs.State.{State}
-use Rattle.run_laws.specs.Later.{AreSameBut, Rests, SameBut, SameChoiceTo, SameEventTo, SameSliceTo, SameTickTo, SameTo}
+use Rattle.run_laws.specs.Later.{AreSameBut, UnsharedKeys, SameBut, SameChoiceTo, SameEventTo, SameSliceTo, SameTickTo, SameTo}
 use Rattle.run_laws.specs.Session.{AreLater, Keys, keys_loaded, keys_then, with_keys}
 use Rattle.run_laws.proofs.LaterEvents.{event-too}
 use Rattle.run_laws.proofs.LaterKeys.{choice-too, tick-too}
@@ -21,10 +21,10 @@ use Rattle.run_laws.specs.SoFar.{each_with}
 
 -- ---- the terminals of two states, one of which has keys behind those of the other
 
-abbrev only_other : List Key → Rests
+abbrev only_other : List Key → UnsharedKeys
 only_other keys = record { one = []; other = keys }
 
-abbrev rests_of : List TerminalState → Keys → List Rests
+abbrev rests_of : List TerminalState → Keys → List UnsharedKeys
 rests_of [] keys = []
 rests_of (term ∷ terms) [] = only_other [] ∷ rests_of terms []
 rests_of (term ∷ terms) (keys ∷ more) = only_other keys ∷ rests_of terms more
@@ -111,7 +111,7 @@ later-then tick (keys ∷ load) (others ∷ more) one other =
 -- ---- slices
 
 module _ (s : State) (keys : Keys) (tick : ℕ) (are_later : AreLater tick keys) where
-  abbrev rests : List Rests
+  abbrev rests : List UnsharedKeys
   rests = rests_of s.terms keys
 
   start : SameTo tick rests s (with_keys s keys)

@@ -9,7 +9,7 @@ use Rattle.rbf_model.specs.Volume.{DiskVolume}
 use Rattle.rbf_model.specs.Walk.{WalkEnd, arrives, look_up, not_allowed, not_found, walk}
 use Rattle.rbf_change.specs.Calls.{cluster_size, free_total, replaced}
 use Rattle.rbf_change.specs.Names.{may_change, new_entry, new_listing}
-use Rattle.rbf_change.specs.NewFiles.{IsEntered, Plan, directory_plan, entry_clusters, file_plan}
+use Rattle.rbf_change.specs.NewFiles.{IsFileEntered, Plan, directory_plan, entry_clusters, file_plan}
 use Rattle.io_model.specs.Path.{new_number}
 use Rattle.io_model.specs.Attempts.{io_step}
 use Rattle.io_model.specs.Modes.{can_write}
@@ -19,7 +19,7 @@ use Rattle.io_model.specs.declared.io_call.IoCall.TheVariants as Device
 use Rattle.file_rules.specs.Attempts.{file_step}
 use Rattle.file_rules.specs.Change.{creates, makes_directory}
 use Rattle.file_rules.specs.Create.{clusters_for, creates_in, creates_on_device, creates_on_route, creates_with_path, has_room_for, opens_new}
-use Rattle.file_rules.specs.Files.{Asker, Files, NoneFailed, volume_at}
+use Rattle.file_rules.specs.Files.{Asker, Files, KeepsDriveFaults, volume_at}
 use Rattle.file_rules.specs.MakDir.{makes_in, makes_on_route, new_directory_size, past_list}
 use Rattle.file_rules.specs.Open.{is_for_execution, says_directory, tests_mode}
 use Rattle.file_rules.specs.Step.{Deed, DoesDeed, FileDoes, FileEffect, FileStep, VolumeChange, changes, comes, deed_of, leaves, on_files, reaches, refused, refuses, refuses_so, with_drives_after, with_volume_after}
@@ -31,7 +31,7 @@ use Rattle.file_laws.proofs.Steps.{IsFound, needs-by, refuses-by}
 use Rattle.file_laws.proofs.Splits.{list-by}
 use Rattle.call_laws.specs.Terminals.{AreOnTerminals}
 use Rattle.call_laws.proofs.StepWalk.{step-gives}
-use Rattle.run_laws.specs.Mounted.{AreMounted}
+use Rattle.run_laws.specs.Mounted.{MountsAreSound}
 use Rattle.run_laws.proofs.Changing.{SomeChange}
 use Rattle.run_laws.proofs.SomeEffects.{call-there, some-effect}
 use Rattle.run_laws.specs.InOrder.{AreInOrder}
@@ -54,7 +54,7 @@ module _ (asker : Asker) (files : Files) (terms : List TerminalState) where
     pub after : List TerminalState
     pub does : FileDoes step asker files effect terms after
     pub counts : fault_counts after ≡ fault_counts terms
-    pub stays : NoneFailed files.drives effect.files.drives
+    pub stays : KeepsDriveFaults files.drives effect.files.drives
 
   -- a deed that is done so
   record SomeDeed (deed : Deed) : Type 0 where
@@ -112,7 +112,7 @@ module _ (asker : Asker) (files : Files) (terms : List TerminalState) where
           counts = it.counts;
         }
 
-  module _ (kinds : AreKinds files) (mounted : AreMounted files) (order : AreInOrder files) where
+  module _ (kinds : AreKinds files) (mounted : MountsAreSound files) (order : AreInOrder files) where
     module _ (list : PathList) (name : List ℕ) (short : length name ≤ 29) (found : Found) (there : IsFound files found) where
       -- so many clusters are free, and the directory's list has a place
       abbrev HasRoom : ℕ → Type 0
@@ -127,14 +127,14 @@ module _ (asker : Asker) (files : Files) (terms : List TerminalState) where
           (refuses (nat_lt 0 (entry_clusters (cluster_size found.volume) found.file) && (length found.file.segments == 48)) E_SLF next)
           (λ room. refuses-by D no (nat_lt 0 (entry_clusters (cluster_size found.volume) found.file) && (length found.file.segments == 48)) E_SLF next (λ fits. holds room fits))
 
-      entered : (plan : ℕ → Plan) (size : ℕ) → ((n : ℕ) → length (plan n).contents ≡ size) → size ≤ 256 → HasRoom size → Fits → (n : ℕ) × IsEntered found.volume found.place.number n name (plan n)
+      entered : (plan : ℕ → Plan) (size : ℕ) → ((n : ℕ) → length (plan n).contents ≡ size) → size ≤ 256 → HasRoom size → Fits → (n : ℕ) × IsFileEntered found.volume found.place.number n name (plan n)
       entered plan size long small room fits =
           some-entered found.volume (order found.place.drive found.volume there.mounted) (mounted.numbers found.place.drive found.volume there.mounted)
           (kinds.clusters found.place.drive found.volume there.mounted) plan size long small found.place.number found.file there.there name short
           (ltb-false (free_total found.volume) (clusters_for found size) room) fits
 
       -- the volume with a new file
-      abbrev after-entry : (plan : Plan) (n : ℕ) → IsEntered found.volume found.place.number n name plan → DiskVolume
+      abbrev after-entry : (plan : Plan) (n : ℕ) → IsFileEntered found.volume found.place.number n name plan → DiskVolume
       after-entry plan n both =
           replaced (replaced found.volume found.place.number (Some both.new)) n (Some both.file)
 

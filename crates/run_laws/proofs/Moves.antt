@@ -23,29 +23,29 @@ use Rattle.machine_model.specs.Start.{Boot, Starts}
 use Rattle.machine_model.specs.State.{Rest, State}
 use Rattle.call_laws.proofs.Events.{event-running}
 use Rattle.call_laws.proofs.RunningLaws.{choice-running, emptied-running, start-running, tick-running}
-use Rattle.run_laws.specs.Mounted.{AreMounted, CanGo}
+use Rattle.run_laws.specs.Mounted.{MountsAreSound, CanGo}
 use Rattle.run_laws.proofs.Keeping.{does-mounted, mounted-first, mounted-same}
 
 -- ---- files beside other events
 
-module _ (files : Files) (p : ℕ) (mounted : AreMounted files) where
-  after-instruction : (outcome : Outcome) → AreMounted (files_after_instruction files p outcome)
+module _ (files : Files) (p : ℕ) (mounted : MountsAreSound files) where
+  after-instruction : (outcome : Outcome) → MountsAreSound (files_after_instruction files p outcome)
   after-instruction (Done effect) = mounted
   after-instruction (Calls code regs) = mounted
   after-instruction (Aborts status) =
       mounted-same files (files_after_instruction files p (Aborts status)) refl refl mounted
 
-  after-delivery : (result : Result Processes ℕ) → AreMounted (files_after_delivery files p result)
+  after-delivery : (result : Result Processes ℕ) → MountsAreSound (files_after_delivery files p result)
   after-delivery (Ok t) = mounted-same files (files_after_delivery files p (Ok t)) refl refl mounted
   after-delivery (Err status) = mounted-same files (files_after_delivery files p (Err status)) refl refl mounted
 
-  after-call : (result : CallResult) → AreMounted (files_after_call files p result)
+  after-call : (result : CallResult) → MountsAreSound (files_after_call files p result)
   after-call (done t) = mounted
   after-call (refused number) = mounted
   after-call (waits t) = mounted
   after-call (ends status) = mounted-same files (files_after_call files p (ends status)) refl refl mounted
 
-  after-fork : (result : CallResult) → AreMounted (files_after_fork files p result)
+  after-fork : (result : CallResult) → MountsAreSound (files_after_fork files p result)
   after-fork (done t) = mounted-same files (files_after_fork files p (done t)) refl refl mounted
   after-fork (refused number) = mounted
   after-fork (waits t) = mounted
@@ -55,10 +55,10 @@ module _ (files : Files) (p : ℕ) (mounted : AreMounted files) where
 
 module _ (s : State) (p : ℕ) (can : CanGo s) (now : TimePacket) where
   -- the rest has these files
-  by-rest : (rest with : Rest) → rest ≡ with → AreMounted with.files → AreMounted rest.files
-  by-rest rest with is mounted = subst (λ (rest : Rest). AreMounted rest.files) (sym is) mounted
+  by-rest : (rest with : Rest) → rest ≡ with → MountsAreSound with.files → MountsAreSound rest.files
+  by-rest rest with is mounted = subst (λ (rest : Rest). MountsAreSound rest.files) (sym is) mounted
 
-  serves-mounted : (service : Service) (result : CallResult) (rest : Rest) → Serves service s now p result rest → AreMounted rest.files
+  serves-mounted : (service : Service) (result : CallResult) (rest : Rest) → Serves service s now p result rest → MountsAreSound rest.files
   serves-mounted loads result rest (files, it, is) =
       by-rest rest _ is (mounted-same s.files files (load-leaves s.processes (asker_of s.processes p now) s.files
       (length s.terms) p result files it).volumes (load-many s.processes (asker_of s.processes p now) s.files
@@ -74,19 +74,19 @@ module _ (s : State) (p : ℕ) (can : CanGo s) (now : TimePacket) where
   serves-mounted (on_processes call) result rest it = by-rest rest _ it.1 (after-call s.files p can.mounted result)
   serves-mounted (on_time call) result rest (clock, it, is) = by-rest rest _ is can.mounted
   serves-mounted (on_paths call) result rest (it, same) =
-      subst AreMounted (sym it.state)
+      subst MountsAreSound (sym it.state)
       (mounted-same it.effect.files (files_after p it.effect) refl refl (does-mounted call (asker_of s.processes p now) s.files can.running.kinds can.mounted s.terms rest.terms it.effect it.does))
   serves-mounted no_call result rest (result_is, is) = by-rest rest _ is can.mounted
 
 -- ---- an event
 
-acts-mounted : (act : Act) (s : State) (p : ℕ) (end : EventEnd) (t : State) → CanGo s → Acts act s p end t → AreMounted t.files
+acts-mounted : (act : Act) (s : State) (p : ℕ) (end : EventEnd) (t : State) → CanGo s → Acts act s p end t → MountsAreSound t.files
 acts-mounted executes s p end t can (over, is) =
-    subst (λ (t : State). AreMounted t.files) (sym is) (after-instruction s.files p can.mounted (next_instruction s.processes p))
+    subst (λ (t : State). MountsAreSound t.files) (sym is) (after-instruction s.files p can.mounted (next_instruction s.processes p))
 acts-mounted (delivers signal) s p end t can (over, is) =
-    subst (λ (t : State). AreMounted t.files) (sym is) (after-delivery s.files p can.mounted (delivered (before_delivery s p) p signal))
+    subst (λ (t : State). MountsAreSound t.files) (sym is) (after-delivery s.files p can.mounted (delivered (before_delivery s p) p signal))
 acts-mounted (attempts code) s p end t can (result, rest, (now, is_now, it), over, is) =
-    subst (λ (t : State). AreMounted t.files) (sym is) (serves-mounted s p can now (service_of code) result rest it)
+    subst (λ (t : State). MountsAreSound t.files) (sym is) (serves-mounted s p can now (service_of code) result rest it)
 
 pub event-can : (s t : State) (end : EventEnd) → Event s end t → CanGo s → CanGo t
 event-can s t end (p, chosen, lives, acts) can = record {
@@ -104,7 +104,7 @@ tick-can s t (desk, arrives, is) can = record {
 pub choice-can : (s t : State) → Choose s t → CanGo s → CanGo t
 choice-can s t is can = record {
   running = choice-running s t is can.running;
-  mounted = subst (λ (t : State). AreMounted t.files) (sym is) can.mounted;
+  mounted = subst (λ (t : State). MountsAreSound t.files) (sym is) can.mounted;
 }
 
 pub emptied-can : (m : State) → CanGo m → CanGo (record m { terms = terminals_emptied m.terms })
@@ -114,6 +114,6 @@ pub start-can : (boot : Boot) (s : State) → Starts boot s → 0 < length boot.
 start-can boot s starts some few time drives = record {
   running = start-running boot s starts some few time;
   mounted =
-      subst (λ (s : State). AreMounted s.files) (sym starts.is)
-      (subst AreMounted (sym starts.mounted.is) (mounted-first boot.images starts.mounted.volumes boot.drives starts.mounted.mounted drives));
+      subst (λ (s : State). MountsAreSound s.files) (sym starts.is)
+      (subst MountsAreSound (sym starts.mounted.is) (mounted-first boot.images starts.mounted.volumes boot.drives starts.mounted.mounted drives));
 }

@@ -17,11 +17,11 @@ use Rattle.rbf_segs.proofs.Runs.{length-shortened, sectors_of-shortened}
 use Rattle.rbf_change.specs.Calls.{SizesFile, cluster_size, cuts, lengthens, minute_of, replaced, shape, stays}
 use Rattle.rbf_change.specs.Contents.{sector_count}
 use Rattle.rbf_change.specs.Cut.{cut_file, kept_count}
-use Rattle.rbf_change.specs.Faults.{DeletionEnds, IsFront, MayLose, NewFileEnds, SizeEnds, before, cut, end, gone, longer, none, sector, taken, with_front}
+use Rattle.rbf_change.specs.Faults.{DeletionEnds, IsWriteFront, MayLose, NewFileEnds, SizeEnds, before, cut, end, gone, longer, none, sector, taken, with_front}
 use Rattle.rbf_change.specs.Growth.{IsChoice, with_clusters}
 use Rattle.rbf_change.specs.Names.{freed_entry, place_of}
-use Rattle.rbf_change.specs.NewFiles.{Deletes, Enters, Plan, directory_plan, file_plan}
-use Rattle.file_rules.specs.Change.{Change, Makes, MayLeave, creates, deletes, makes_directory, sets_attributes, sizes, writes}
+use Rattle.rbf_change.specs.NewFiles.{Deletes, EntersNewFile, Plan, directory_plan, file_plan}
+use Rattle.file_rules.specs.Change.{Change, AppliesChange, ChangeMayLeave, creates, deletes, makes_directory, sets_attributes, sizes, writes}
 use Rattle.file_laws.proofs.Kept.{AllStill, Still}
 use Rattle.file_laws.proofs.Volumes.{all-same, attributes-kind, changes-still, deleted-still, deletion-still, entered-still, new-file-still, size-kind, size-still, write-still}
 use Rattle.run_laws.specs.InOrder.{DeletesNoDirectory, IsDescribable, IsInOrder}
@@ -116,7 +116,7 @@ held-deleted v w d n name it held =
 
 -- ---- where it is done
 
-held-entered : (v w : DiskVolume) (d n : ℕ) (name : List ℕ) (plan : Plan) → 0 < cluster_size v → Enters v w d n name plan → Held v.files → Held w.files
+held-entered : (v w : DiskVolume) (d n : ℕ) (name : List ℕ) (plan : Plan) → 0 < cluster_size v → EntersNewFile v w d n name plan → Held v.files → Held w.files
 held-entered v w d n name plan some it held =
     let both = it.both in
     held-same (replaced (replaced v d (Some both.new)) n (Some both.file)) w it.volume
@@ -127,7 +127,7 @@ held-entered v w d n name plan some it held =
     (held-choice (cluster_size v) _ _ _ both.entry.gained both.new some both.entry.choice (ap (λ (file : DiskFile). length file.contents) both.entry.file)
     (ap (λ (file : DiskFile). file.segments) both.entry.file)) held))
 
-held-made : (change : Change) (user : ℕ) (now : TimePacket) (v w : DiskVolume) (number : ℕ) → 0 < cluster_size v → Makes change user now v w number → Held v.files → Held w.files
+held-made : (change : Change) (user : ℕ) (now : TimePacket) (v w : DiskVolume) (number : ℕ) → 0 < cluster_size v → AppliesChange change user now v w number → Held v.files → Held w.files
 held-made (writes n at bytes) user now v w number some it held =
     held-same (replaced v n (Some it.new)) w it.volume
     (held-file v n it.new
@@ -148,7 +148,7 @@ held-made (deletes d n name) user now v w number some it held = held-deleted v w
 
 -- ---- where a fault has ended it
 
-front-long : (contents bytes : List ℕ) (at count : ℕ) → IsFront (length contents) at bytes count → length (put_at contents at (take count bytes)) ≤ length contents
+front-long : (contents bytes : List ℕ) (at count : ℕ) → IsWriteFront (length contents) at bytes count → length (put_at contents at (take count bytes)) ≤ length contents
 front-long contents bytes at _ none =
     let front : length (take at contents) ≡ min at (length contents) = length-take at contents in
     let rest : length (drop (at + 0) contents) ≡ length contents - (at + 0) = length-drop (at + 0) contents in
@@ -181,7 +181,7 @@ held-deletion_ends image v w d n name (before same) held = held-same v w same he
 held-deletion_ends image v w d n name (gone {u = u} it there lose unfinished) held =
     held-lost u w _ lose (held-deleted v u d n name it held)
 
-held-left : (change : Change) (user : ℕ) (now : TimePacket) (v w : DiskVolume) → MayLeave change user now v w → Held v.files → Held w.files
+held-left : (change : Change) (user : ℕ) (now : TimePacket) (v w : DiskVolume) → ChangeMayLeave change user now v w → Held v.files → Held w.files
 held-left (writes n at bytes) user now v w it held =
     held-lost (replaced v n (Some (with_front it.old at bytes it.count))) w _ it.volume
     (held-file v n (with_front it.old at bytes it.count)
@@ -210,7 +210,7 @@ not-deleted : (v : DiskVolume) (n root : ℕ) (file : DiskFile) → v.files root
 not-deleted v n root file there kind plain same = plain file (ap v.files (sym same) ∙ there) kind
 
 module _ (v w : DiskVolume) (order : IsInOrder v) where
-  root-made : (change : Change) (user : ℕ) (now : TimePacket) (number : ℕ) → 0 < cluster_size v → DeletesNoDirectory change v → Makes change user now v w number → StaysThere v w (shape v).root
+  root-made : (change : Change) (user : ℕ) (now : TimePacket) (number : ℕ) → 0 < cluster_size v → DeletesNoDirectory change v → AppliesChange change user now v w number → StaysThere v w (shape v).root
   root-made (writes n at bytes) user now number some plain it =
       all-there v w (shape v).root (changes-still _ (λ old new is. ap (λ (file : DiskFile). is_directory file) is.file) v w n it)
   root-made (sizes n size) user now number some plain it =
@@ -229,7 +229,7 @@ module _ (v w : DiskVolume) (order : IsInOrder v) where
         file = others.files (shape v).root (not-deleted v n (shape v).root order.root order.there order.directory plain);
       }
 
-  root-left : (change : Change) (user : ℕ) (now : TimePacket) → DeletesNoDirectory change v → MayLeave change user now v w → StaysThere v w (shape v).root
+  root-left : (change : Change) (user : ℕ) (now : TimePacket) → DeletesNoDirectory change v → ChangeMayLeave change user now v w → StaysThere v w (shape v).root
   root-left (writes n at bytes) user now plain it = all-there v w (shape v).root (write-still v w n at bytes it)
   root-left (sizes n size) user now plain it = all-there v w (shape v).root (size-still it.0 v w n size now it.2)
   root-left (sets_attributes n attributes) user now plain it = all-there v w (shape v).root (all-same v w it)
@@ -255,11 +255,11 @@ module _ (v w : DiskVolume) (order : IsInOrder v) where
       }
 
   -- a change keeps a volume in order
-  pub order-made : (change : Change) (user : ℕ) (now : TimePacket) (number : ℕ) → 0 < cluster_size v → DeletesNoDirectory change v → Makes change user now v w number → IsInOrder w
+  pub order-made : (change : Change) (user : ℕ) (now : TimePacket) (number : ℕ) → 0 < cluster_size v → DeletesNoDirectory change v → AppliesChange change user now v w number → IsInOrder w
   order-made change user now number some plain it =
       ordered (held-made change user now v w number some it order.files) (root-made change user now number some plain it)
 
   -- and so does one that a fault has ended
-  pub order-left : (change : Change) (user : ℕ) (now : TimePacket) → DeletesNoDirectory change v → MayLeave change user now v w → IsInOrder w
+  pub order-left : (change : Change) (user : ℕ) (now : TimePacket) → DeletesNoDirectory change v → ChangeMayLeave change user now v w → IsInOrder w
   order-left change user now plain it =
       ordered (held-left change user now v w it order.files) (root-left change user now plain it)

@@ -14,14 +14,14 @@ use Rattle.machine_model.specs.declared.ends.SliceEnd.{SliceEnd}
 use Rattle.machine_model.specs.declared.ends.SliceEnd.TheVariants.{Idle, Ran}
 use Rattle.machine_model.specs.Devices.{DrivesOnlyGain, OnlyGain}
 use Rattle.machine_model.specs.Event.{Event, cost}
-use Rattle.machine_model.specs.Run.{Choose, Run, Slice, Steps, Tick, is_going}
+use Rattle.machine_model.specs.Run.{Choose, Run, Slice, SliceEvents, Tick, is_going}
 use Rattle.machine_model.specs.State.{State, has_living}
 use Rattle.machine_model.proofs.Drives.{drives-same, drives-then}
 use Rattle.machine_model.proofs.Gains.{event-gains, run-gains, slice-gains, tick-gains}
 use Rattle.machine_model.proofs.TerminalLaws.{gain-same, gain-then}
 use Rattle.run_laws.specs.Faults.{HasNoVolumes, MayChoose, NoDriveFailed, NoneFailed, SameButClusters, SameEvent, SameRun, SameSlice}
 use Rattle.run_laws.proofs.Events.{event-one, tick-one}
-use Rattle.run_laws.specs.Reached.{NeverChooses, Reaches, by_choice, by_emptying, by_event, by_tick, here}
+use Rattle.run_laws.specs.Reached.{NeverChooses, ReachesState, by_choice, by_emptying, by_event, by_tick, here}
 use Rattle.run_laws.proofs.Kept.{choice-bare, event-bare, never-chooses, tick-bare}
 use Rattle.run_laws.proofs.Terminals.{first-none, rose-before, rose-later, then-none}
 
@@ -39,7 +39,7 @@ keeps-choice s t chooses never m reached = never m (by_choice chooses reached)
 keeps-emptied : (s : State) → NeverChooses s → NeverChooses (record s { terms = terminals_emptied s.terms })
 keeps-emptied s never m reached = never m (by_emptying reached)
 
-reached-bare : (s m : State) → Reaches s m → HasNoVolumes s → HasNoVolumes m
+reached-bare : (s m : State) → ReachesState s m → HasNoVolumes s → HasNoVolumes m
 reached-bare s m here bare = bare
 reached-bare s m (by_event {next = next} end event rest) bare = reached-bare next m rest (event-bare s next end event bare)
 reached-bare s m (by_tick {next = next} ticks rest) bare = reached-bare next m rest (tick-bare s next ticks bare)
@@ -80,14 +80,14 @@ gain-two a b c first next = record {
 
 -- the rest of a slice after an event
 abbrev After : ℕ → Bool → State → List State → State → Type 0
-After left going m ms t = MatchBool going (Steps left m ms t) ((ms ≡ []) × (t ≡ m))
+After left going m ms t = MatchBool going (SliceEvents left m ms t) ((ms ≡ []) × (t ≡ m))
 
-gain-steps : (left : ℕ) (s : State) (states : List State) (t : State) → Steps left s states t → OnlyGain s t
+gain-steps : (left : ℕ) (s : State) (states : List State) (t : State) → SliceEvents left s states t → OnlyGain s t
 gain-steps left s [] t (over, is) = gain-self s t is
 gain-steps left s (m ∷ ms) t (some, end, event, steps) =
     gain-two s m t (event-gains s m end event) (rest (is_going end) (gain-steps (left - cost s) m ms t) steps)
   where
-    rest : (going : Bool) → (Steps (left - cost s) m ms t → OnlyGain m t) → After (left - cost s) going m ms t → OnlyGain m t
+    rest : (going : Bool) → (SliceEvents (left - cost s) m ms t → OnlyGain m t) → After (left - cost s) going m ms t → OnlyGain m t
     rest true gains steps = gains steps
     rest false gains (over, is) = gain-self m t is
 
@@ -107,8 +107,8 @@ event-single s t u end other bare one two none none_too = by_one (event-one s t 
     by_one (inl choose) = absurd (bare s here choose.choice)
     by_one (inr same) = same
 
-steps-one : (left : ℕ) (s : State) (states others : List State) (t u : State) → NeverChooses s → Steps left s states t
-    → Steps left s others u → NoneFailed s t → NoneFailed s u → SameSteps states others t u
+steps-one : (left : ℕ) (s : State) (states others : List State) (t u : State) → NeverChooses s → SliceEvents left s states t
+    → SliceEvents left s others u → NoneFailed s t → NoneFailed s u → SameSteps states others t u
 steps-one left s [] [] t u bare (over, is) (over_too, is_too) none none_too = record { through = refl; last = is ∙ sym is_too }
 steps-one left s [] (n ∷ ns) t u bare (over, is) (some, end, event, steps) none none_too = absurd (omega arith)
 steps-one left s (m ∷ ms) [] t u bare (some, end, event, steps) (over, is) none none_too = absurd (omega arith)
@@ -128,17 +128,17 @@ steps-one left s (m ∷ ms) (n ∷ ns) t u bare (some, end, event, steps) (some_
     record { through = λ i. one.last i ∷ rest.through i; last = rest.last }
   where
     by_going : (left : ℕ) (m : State) (ms ns : List State) (t u : State) (going : Bool)
-        → (Steps left m ms t → Steps left m ns u → NoneFailed m t → NoneFailed m u → SameSteps ms ns t u)
+        → (SliceEvents left m ms t → SliceEvents left m ns u → NoneFailed m t → NoneFailed m u → SameSteps ms ns t u)
         → After left going m ms t → After left going m ns u → NoneFailed m t → NoneFailed m u → SameSteps ms ns t u
     by_going left m ms ns t u true others one two none none_too = others one two none none_too
     by_going left m ms ns t u false others (over, is) (over_too, is_too) none none_too = record { through = over ∙ sym over_too; last = is ∙ sym is_too }
 
-bare-steps : (left : ℕ) (s : State) (states : List State) (t : State) → Steps left s states t → NeverChooses s → NeverChooses t
+bare-steps : (left : ℕ) (s : State) (states : List State) (t : State) → SliceEvents left s states t → NeverChooses s → NeverChooses t
 bare-steps left s [] t (over, is) bare = subst NeverChooses (sym is) bare
 bare-steps left s (m ∷ ms) t (some, end, event, steps) bare =
     rest (is_going end) (bare-steps (left - cost s) m ms t) steps (keeps-event s m end event bare)
   where
-    rest : (going : Bool) → (Steps (left - cost s) m ms t → NeverChooses m → NeverChooses t) → After (left - cost s) going m ms t → NeverChooses m → NeverChooses t
+    rest : (going : Bool) → (SliceEvents (left - cost s) m ms t → NeverChooses m → NeverChooses t) → After (left - cost s) going m ms t → NeverChooses m → NeverChooses t
     rest true keeps steps bare = keeps steps bare
     rest false keeps (over, is) bare = subst NeverChooses (sym is) bare
 
@@ -154,7 +154,7 @@ begun s = record s {
 -- its events then
 abbrev Begun : ℕ → State → Option ℕ → List State → SliceEnd → State → Type 0
 Begun n chosen who states end t =
-    MatchOption who ((end ≡ Idle) × (states ≡ []) × (t ≡ chosen)) (λ p. (end ≡ Ran) × Steps n chosen states t)
+    MatchOption who ((end ≡ Idle) × (states ≡ []) × (t ≡ chosen)) (λ p. (end ≡ Ran) × SliceEvents n chosen states t)
 
 -- a slice, from its tick on
 record BegunSlice (n : ℕ) (s : State) (states : List State) (end : SliceEnd) (t : State) : Type 0 where

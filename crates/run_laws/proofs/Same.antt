@@ -6,7 +6,7 @@ use Rattle.machine_model.specs.Run.{Run}
 use Rattle.machine_model.specs.State.{State}
 use Rattle.run_laws.specs.Faults.{NoneFailed, NotFailed, SameRun}
 use Rattle.run_laws.specs.Reached.{NeverChooses}
-use Rattle.run_laws.specs.Session.{IsRunOf, Keys, Session, Turn, counts, keys_loaded, script, with_keys}
+use Rattle.run_laws.specs.Session.{IsRunOf, Keys, Session, SessionTurn, counts, keys_loaded, script, with_keys}
 use Rattle.run_laws.proofs.Runs.{run-one}
 use Rattle.run_laws.proofs.Sessions.{session-runs}
 
@@ -28,7 +28,7 @@ none-failed s t last keys left is none =
     subst (NoneFailed (with_keys s keys)) (sym is)
     (record { terminals = unfailed-loaded s.terms t.terms keys left none.terminals; drives = none.drives })
 
-pub sessions-same : (turns others : List Turn) (s t u : State) (states through : List State) (written bytes : List ℕ) → script turns ≡ script others → counts turns ≡ counts others
+pub sessions-same : (turns others : List SessionTurn) (s t u : State) (states through : List State) (written bytes : List ℕ) → script turns ≡ script others → counts turns ≡ counts others
     → NeverChooses (with_keys s (script turns)) → NoneFailed s t → NoneFailed s u → Session turns s states written t → Session others s through bytes u → written ≡ bytes
 sessions-same turns others s t u states through written bytes scripts slices never none none_too session session_too =
     let one : IsRunOf turns s states written t = session-runs turns s states written t session in

@@ -10,16 +10,16 @@ use Rattle.machine_model.specs.Console.{console_bytes, put_bytes, terminals_empt
 use Rattle.machine_model.specs.declared.ends.SliceEnd.{SliceEnd}
 use Rattle.machine_model.specs.Run.{Run, Slice}
 use Rattle.machine_model.specs.State.{State, has_living}
-use Rattle.run_laws.specs.Later.{AreSameBut, Rests, SameBut, SameSliceTo, SameTo}
-use Rattle.run_laws.specs.Session.{AreLater, IsRecorded, IsRunOf, Keys, Session, Turn, counts, keys_loaded, keys_then, script, with_keys}
+use Rattle.run_laws.specs.Later.{AreSameBut, UnsharedKeys, SameBut, SameSliceTo, SameTo}
+use Rattle.run_laws.specs.Session.{AreLater, IsRecorded, IsRunOf, Keys, Session, SessionTurn, counts, keys_loaded, keys_then, script, with_keys}
 use Rattle.run_laws.proofs.LaterSlices.{slice-too}
 
 -- ---- keys that are loaded
 
-abbrev only_other : List Key → Rests
+abbrev only_other : List Key → UnsharedKeys
 only_other keys = record { one = []; other = keys }
 
-abbrev rests_of : List TerminalState → Keys → List Rests
+abbrev rests_of : List TerminalState → Keys → List UnsharedKeys
 rests_of [] keys = []
 rests_of (term ∷ terms) [] = only_other [] ∷ rests_of terms []
 rests_of (term ∷ terms) (keys ∷ more) = only_other keys ∷ rests_of terms more
@@ -103,7 +103,7 @@ zip-append (x ∷ a) [] c d one two = absurd one
 zip-append (x ∷ a) (y ∷ b) c d one two = (one.0, zip-append a b c d one.1 two)
 
 -- what a session goes on as, where a process lives or none does
-abbrev Goes : Bool → Turn → List Turn → State → List State → List ℕ → State → Type 0
+abbrev Goes : Bool → SessionTurn → List SessionTurn → State → List State → List ℕ → State → Type 0
 Goes living turn turns s states written t =
     MatchBool living
     (AreLater (s.processes.tick + 1) (script turns) × (end : SliceEnd) × (m : State) × (first later : List State)
@@ -120,18 +120,18 @@ Runs living n ns s states written t =
     × Run ns (record m { terms = terminals_emptied m.terms }) later rest t)
     ((states ≡ []) × (written ≡ []) × (t ≡ s))
 
-record GoesOn (living : Bool) (turn : Turn) (turns : List Turn) (full : State) (states : List State) (written : List ℕ) (t : State) : Type 0 where
+record GoesOn (living : Bool) (turn : SessionTurn) (turns : List SessionTurn) (full : State) (states : List State) (written : List ℕ) (t : State) : Type 0 where
   pub through : List State
   pub last : State
   pub run : Runs living turn.count (counts turns) full through written last
   pub all : AllZip IsRecorded states through
   pub same : IsRecorded t last
 
-abbrev SessionsRun : List Turn → Type 0
+abbrev SessionsRun : List SessionTurn → Type 0
 SessionsRun turns =
     (s : State) (states : List State) (written : List ℕ) (t : State) → Session turns s states written t → IsRunOf turns s states written t
 
-goes-on : (living : Bool) (turn : Turn) (turns : List Turn) (s : State) (states : List State) (written : List ℕ)
+goes-on : (living : Bool) (turn : SessionTurn) (turns : List SessionTurn) (s : State) (states : List State) (written : List ℕ)
     (t : State) → SessionsRun turns → Goes living turn turns s states written t → GoesOn living turn turns
     (with_keys s (script (turn ∷ turns))) states written t
 goes-on false turn turns s states written t others (none, nothing, is) = record {
@@ -180,7 +180,7 @@ goes-on true turn turns s states written t others (are_later, end, m, first, lat
       same = it.same;
     }
 
-pub session-runs : (turns : List Turn) (s : State) (states : List State) (written : List ℕ) (t : State) → Session turns s states written t → IsRunOf turns s states written t
+pub session-runs : (turns : List SessionTurn) (s : State) (states : List State) (written : List ℕ) (t : State) → Session turns s states written t → IsRunOf turns s states written t
 session-runs [] s states written t (none, nothing, is) = record {
   through = [];
   last = s;

@@ -10,12 +10,12 @@ use Rattle.io_model.specs.Attempts.{result_of as io_result}
 use Rattle.proc_model.specs.Records.{IsLiving}
 use Rattle.file_rules.specs.Attempts.{asker_of, file_step, files_after, io_effect}
 use Rattle.file_rules.specs.Codes.{path_call_of, path_codes}
-use Rattle.file_rules.specs.Files.{NoneFailed}
+use Rattle.file_rules.specs.Files.{KeepsDriveFaults}
 use Rattle.file_rules.specs.declared.path_call.PathCall.{PathCall}
 use Rattle.file_rules.specs.declared.path_call.PathCall.TheVariants as Call
 use Rattle.time_rules.specs.Clock.{IsNow, seconds_since}
 use Rattle.machine_model.specs.Run.{Tick}
-use Rattle.machine_model.specs.Services.{Attempts, Serves, Service, on_paths, service_of}
+use Rattle.machine_model.specs.Services.{CallAttempted, Serves, Service, on_paths, service_of}
 use Rattle.machine_model.specs.Start.{Boot, Starts}
 use Rattle.machine_model.specs.State.{Rest, State}
 use Rattle.run_laws.specs.Faults.{CanRise, NoneFailed as NoDeviceFailed}
@@ -56,7 +56,7 @@ asks-for code call is =
 
 -- no drive fails
 abbrev Stays : State → State → Type 0
-Stays s t = NoneFailed s.files.drives t.files.drives
+Stays s t = KeepsDriveFaults s.files.drives t.files.drives
 
 module _ (s : State) (p : ℕ) (well : GoesOnWell s) (chosen : s.chosen ≡ Some p) (lives : IsLiving s.processes.records p) where
   -- an attempt of a call on paths without a fault is an event without one
@@ -71,7 +71,7 @@ module _ (s : State) (p : ℕ) (well : GoesOnWell s) (chosen : s.chosen ≡ Some
           let rest : Rest = record { files = files_after p it.effect; clock = s.clock; terms = it.after } in
           let result = io_result s.processes p (io_effect it.effect) in
           let serves : Serves (on_paths call) s now p result rest = (record { effect = it.effect; does = it.does; result_is = refl; state = refl }, refl) in
-          let attempt : Attempts code s p result rest = (now, is_now, subst (λ (service : Service). Serves service s now p result rest) (sym (asks-for code call is)) serves) in
+          let attempt : CallAttempted code s p result rest = (now, is_now, subst (λ (service : Service). Serves service s now p result rest) (sym (asks-for code call is)) serves) in
           attempt-event s p chosen lives well.can code next Stays result rest attempt it.counts it.stays
 
   making : MakesFile s → Next Stays s p

@@ -4,7 +4,7 @@ use Rattle.std.specs.Prelude.{slice_index_or}
 use Rattle.std.specs.List.{AllZip}
 use Rattle.rbf_model.specs.Volume.{DiskVolume, Vol}
 use Rattle.file_rules.specs.Files.{DriveState, Files, volume_at}
-use Rattle.file_rules.specs.Processes.{StartsOn, first_files}
+use Rattle.file_rules.specs.Processes.{StartsWithImages, first_files}
 use Rattle.machine_model.specs.Start.{Boot, Starts}
 use Rattle.machine_model.specs.State.{State}
 use Rattle.run_laws.specs.Faults.{HasNoVolumes}

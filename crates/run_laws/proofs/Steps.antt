@@ -16,7 +16,7 @@ use Rattle.proc_model.specs.Ready.{Act, act_of, attempts, delivers, executes}
 use Rattle.proc_model.specs.declared.proc_call.ProcCall.TheVariants as Call
 use Rattle.file_rules.specs.Attempts.{asker_of, io_effect}
 use Rattle.std.proofs.lemmas.Option.{none-some}
-use Rattle.file_rules.specs.Files.{Files, NoneFailed}
+use Rattle.file_rules.specs.Files.{Files, KeepsDriveFaults}
 use Rattle.time_rules.specs.Attempts.{time_step}
 use Rattle.machine_model.specs.declared.ends.EventEnd.{EventEnd}
 use Rattle.call_laws.proofs.CallsKept.{left-refused}
@@ -25,7 +25,7 @@ use Rattle.call_laws.proofs.ForksKept.{attempt-left}
 use Rattle.call_laws.proofs.OthersKept.{living-within}
 use Rattle.machine_model.specs.Event.{Acts, Event, before_delivery, files_after_delivery, files_after_instruction}
 use Rattle.machine_model.specs.Run.{Tick, is_going}
-use Rattle.machine_model.specs.Services.{Attempts, Serves, Service, loads, no_call, on_paths, on_processes, on_time, service_of}
+use Rattle.machine_model.specs.Services.{CallAttempted, Serves, Service, loads, no_call, on_paths, on_processes, on_time, service_of}
 use Rattle.machine_model.specs.Start.{Boot, Starts}
 use Rattle.machine_model.specs.State.{Rest, State, with_rest}
 use Rattle.isolation_laws.proofs.Asked.{Asks, asks}
@@ -34,7 +34,7 @@ use Rattle.call_laws.proofs.Loads.{Child, chain-over, fork-over, load-over}
 use Rattle.call_laws.proofs.Over.{over-by}
 use Rattle.run_laws.specs.Mounted.{CanGo}
 use Rattle.run_laws.specs.Faults.{HasNoVolumes}
-use Rattle.run_laws.specs.Runs.{HasEvent, HasRun, HasSlice, MakesFile}
+use Rattle.run_laws.specs.Runs.{HasUnfailedEvent, HasRun, HasUnfailedSlice, MakesFile}
 use Rattle.run_laws.proofs.Kept.{choice-bare, event-bare, tick-bare}
 use Rattle.run_laws.proofs.Calls.{SomeAttempt, same-drives, some-attempt}
 use Rattle.run_laws.proofs.Moves.{choice-can, emptied-can, event-can, start-can, tick-can}
@@ -70,7 +70,7 @@ module _ (s : State) (p code : ℕ) (next : act_of s.processes p ≡ attempts co
 
 -- no drive fails in an event, unless a file or a directory is made
 abbrev pub Staying : State → State → Type 0
-Staying s t = NoneFailed s.files.drives t.files.drives ⊎ MakesFile s
+Staying s t = KeepsDriveFaults s.files.drives t.files.drives ⊎ MakesFile s
 
 -- what the drives counted stays in what is no call
 instruction-drives : (files : Files) (p : ℕ) (outcome : Outcome) → (files_after_instruction files p outcome).drives ≡ files.drives
@@ -134,11 +134,11 @@ module _ (s : State) (p : ℕ) (chosen : s.chosen ≡ Some p) (lives : IsLiving 
     goes-by (waits t) places going = absurd (false≢true going)
     goes-by (ends status) places going = absurd (false≢true going)
 
-    attempt-places : (result : CallResult) (rest : Rest) → Attempts code s p result rest → length (after_attempt s.processes p result).records ≡ length s.processes.records
+    attempt-places : (result : CallResult) (rest : Rest) → CallAttempted code s p result rest → length (after_attempt s.processes p result).records ≡ length s.processes.records
     attempt-places result rest (now, at, it) = serves-places s p code next lives now rest (service_of code) result (asks code) it
 
     -- an attempt is an event
-    pub attempt-event : (Still : State → State → Type 0) (result : CallResult) (rest : Rest) → Attempts code s p result rest → fault_counts rest.terms ≡ fault_counts s.terms
+    pub attempt-event : (Still : State → State → Type 0) (result : CallResult) (rest : Rest) → CallAttempted code s p result rest → fault_counts rest.terms ≡ fault_counts s.terms
         → Still s (with_rest s (after_attempt s.processes p result) rest) → Next Still s p
     attempt-event Still result rest attempt counts still = record {
       end = call_event_end result;
@@ -178,7 +178,7 @@ module _ (s : State) (p : ℕ) (chosen : s.chosen ≡ Some p) (lives : IsLiving 
       by_act (attempts code) next = next-attempt code next
       by_act (delivers signal) next = next-delivers signal next
 
-pub event-end : (s : State) (p : ℕ) → CanGo s → s.chosen ≡ Some p → IsLiving s.processes.records p → HasEvent s
+pub event-end : (s : State) (p : ℕ) → CanGo s → s.chosen ≡ Some p → IsLiving s.processes.records p → HasUnfailedEvent s
 event-end s p can chosen lives =
     let next : Next Staying s p = next-event s p chosen lives can in
     record { end = next.end; last = next.last; event = next.event; counts = next.counts; drives = next.still }
@@ -187,14 +187,14 @@ event-end s p can chosen lives =
 
 -- without volumes no drive fails, and none is mounted
 abbrev BareStays : State → State → Type 0
-BareStays s t = HasNoVolumes s → NoneFailed s.files.drives t.files.drives × HasNoVolumes t
+BareStays s t = HasNoVolumes s → KeepsDriveFaults s.files.drives t.files.drives × HasNoVolumes t
 
 -- without volumes no file is made
 bare-still : (s : State) (p : ℕ) (next : Next Staying s p) → BareStays s next.last
 bare-still s p next bare =
     (by_drives next.still, event-bare s next.last next.end next.event bare)
   where
-    by_drives : NoneFailed s.files.drives next.last.files.drives ⊎ MakesFile s → NoneFailed s.files.drives next.last.files.drives
+    by_drives : KeepsDriveFaults s.files.drives next.last.files.drives ⊎ MakesFile s → KeepsDriveFaults s.files.drives next.last.files.drives
     by_drives (inl none) = none
     by_drives (inr making) = absurd (none-some making.volume (sym (bare making.drive) ∙ making.mounted))
 
@@ -211,7 +211,7 @@ bare-next s p can chosen lives =
       still = bare-still s p next;
     }
 
-tick-still : (s t : State) → Tick s t → NoneFailed s.files.drives t.files.drives
+tick-still : (s t : State) → Tick s t → KeepsDriveFaults s.files.drives t.files.drives
 tick-still s t (desk, arrives, is) = ap (λ (t : State). t.files.drives) is
 
 bare-builds : Builds CanGo BareStays
@@ -228,7 +228,7 @@ bare-builds = record {
   took = λ m bare. (refl, bare);
 }
 
-pub slice-end : (n : ℕ) (s : State) → CanGo s → HasSlice n s
+pub slice-end : (n : ℕ) (s : State) → CanGo s → HasUnfailedSlice n s
 slice-end n s can =
     let it : SomeSlice CanGo BareStays bare-builds n s = some-slice CanGo BareStays bare-builds n s can in
     record {

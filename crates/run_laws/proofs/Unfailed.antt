@@ -1,6 +1,6 @@
 -- Where counts of faults stay and can rise, nothing has failed.
 use Rattle.std.proofs.Common.{◌≡◌, ℕ, List, ap}
-use Rattle.file_rules.specs.Files.{DriveState, NoneFailed as NoDriveChanged, drive_at}
+use Rattle.file_rules.specs.Files.{DriveState, KeepsDriveFaults as NoDriveChanged, drive_at}
 use Rattle.machine_model.specs.State.{State}
 use Rattle.run_laws.specs.Faults.{CanRise, NoneFailed}
 use Rattle.run_laws.specs.Runs.{SameCounts}

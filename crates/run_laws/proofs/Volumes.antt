@@ -11,30 +11,30 @@ use Rattle.rbf_change.specs.Calls.{replaced}
 use Rattle.rbf_change.specs.Faults as ends
 use Rattle.rbf_change.specs.Faults.{DeletionEnds, MayLose, NewFileEnds, SizeEnds, with_front}
 use Rattle.rbf_change.specs.NewFiles.{Plan, directory_plan, file_plan}
-use Rattle.file_rules.specs.Change.{Change, writes, sizes, sets_attributes, creates, makes_directory, deletes, Makes, MayLeave}
-use Rattle.run_laws.specs.Ends.{KeepsEnds}
+use Rattle.file_rules.specs.Change.{Change, writes, sizes, sets_attributes, creates, makes_directory, deletes, AppliesChange, ChangeMayLeave}
+use Rattle.run_laws.specs.Ends.{KeepsVolumeEnds}
 
 -- ---- one volume
 
-pub ends-same : (v : DiskVolume) → KeepsEnds v v
+pub ends-same : (v : DiskVolume) → KeepsVolumeEnds v v
 ends-same v = record { ident = refl; rest = refl }
 
-pub ends-then : (u v w : DiskVolume) → KeepsEnds u v → KeepsEnds v w → KeepsEnds u w
+pub ends-then : (u v w : DiskVolume) → KeepsVolumeEnds u v → KeepsVolumeEnds v w → KeepsVolumeEnds u w
 ends-then u v w first next = record { ident = next.ident ∙ first.ident; rest = next.rest ∙ first.rest }
 
 -- a volume that is this one
-pub ends-is : (u v w : DiskVolume) → w ≡ v → KeepsEnds u v → KeepsEnds u w
-ends-is u v w is kept = subst (KeepsEnds u) (sym is) kept
+pub ends-is : (u v w : DiskVolume) → w ≡ v → KeepsVolumeEnds u v → KeepsVolumeEnds u w
+ends-is u v w is kept = subst (KeepsVolumeEnds u) (sym is) kept
 
 -- and one that has lost clusters
-ends-lost : (u v w : DiskVolume) (clusters : ℕ → Bool) → KeepsEnds u v → MayLose v w clusters → KeepsEnds u w
+ends-lost : (u v w : DiskVolume) (clusters : ℕ → Bool) → KeepsVolumeEnds u v → MayLose v w clusters → KeepsVolumeEnds u w
 ends-lost u v w clusters kept lose = record {
   ident = ap (λ (w : DiskVolume). w.ident) lose.same ∙ kept.ident;
   rest = ap (λ (w : DiskVolume). w.rest) lose.same ∙ kept.rest;
 }
 
 module _ (v w : DiskVolume) where
-  pub ends-made : (change : Change) (user : ℕ) (now : TimePacket) (number : ℕ) → Makes change user now v w number → KeepsEnds v w
+  pub ends-made : (change : Change) (user : ℕ) (now : TimePacket) (number : ℕ) → AppliesChange change user now v w number → KeepsVolumeEnds v w
   ends-made (writes n at bytes) user now number it = ends-is v _ w it.volume (record { ident = refl; rest = refl })
   ends-made (sizes n size) user now number it = ends-is v _ w it.volume (record { ident = refl; rest = refl })
   ends-made (sets_attributes n attributes) user now number it = ends-is v _ w it.volume (record { ident = refl; rest = refl })
@@ -42,22 +42,22 @@ module _ (v w : DiskVolume) where
   ends-made (makes_directory d name attributes) user now number it = ends-is v _ w it.volume (record { ident = refl; rest = refl })
   ends-made (deletes d n name) user now number it = ends-is v _ w it.drops.volume (record { ident = refl; rest = refl })
 
-  ends-sized : (image : List ℕ) (n size : ℕ) (now : TimePacket) → SizeEnds image v w n size now → KeepsEnds v w
+  ends-sized : (image : List ℕ) (n size : ℕ) (now : TimePacket) → SizeEnds image v w n size now → KeepsVolumeEnds v w
   ends-sized image n size now (ends.before same) = ends-is v v w same (ends-same v)
   ends-sized image n size now (ends.longer end) = ends-lost v v w _ (ends-same v) end.volume
   ends-sized image n size now (ends.cut end) =
       ends-lost v (replaced v n (Some end.new)) w _ (record { ident = refl; rest = refl }) end.volume
 
-  ends-new : (d : ℕ) (name : List ℕ) (plan : ℕ → Plan) → NewFileEnds v w d name plan → KeepsEnds v w
+  ends-new : (d : ℕ) (name : List ℕ) (plan : ℕ → Plan) → NewFileEnds v w d name plan → KeepsVolumeEnds v w
   ends-new d name plan (ends.before same) = ends-is v v w same (ends-same v)
   ends-new d name plan (ends.taken end) = ends-lost v v w _ (ends-same v) end.volume
 
-  ends-deleted : (image : List ℕ) (d n : ℕ) (name : List ℕ) → DeletionEnds image v w d n name → KeepsEnds v w
+  ends-deleted : (image : List ℕ) (d n : ℕ) (name : List ℕ) → DeletionEnds image v w d n name → KeepsVolumeEnds v w
   ends-deleted image d n name (ends.before same) = ends-is v v w same (ends-same v)
   ends-deleted image d n name (ends.gone {u = u} it there lose marked) =
       ends-lost v u w _ (ends-is v _ u it.drops.volume (record { ident = refl; rest = refl })) lose
 
-  pub ends-left : (change : Change) (user : ℕ) (now : TimePacket) → MayLeave change user now v w → KeepsEnds v w
+  pub ends-left : (change : Change) (user : ℕ) (now : TimePacket) → ChangeMayLeave change user now v w → KeepsVolumeEnds v w
   ends-left (writes n at bytes) user now it =
       ends-lost v (replaced v n (Some (with_front it.old at bytes it.count))) w _ (record { ident = refl; rest = refl }) it.volume
   ends-left (sizes n size) user now (image, vol, it) = ends-sized image n size now it
@@ -71,7 +71,7 @@ module _ (v w : DiskVolume) where
 -- the volumes that are there keep their ends, and where none is there is none
 pub record Keep (old new : List (Option DiskVolume)) : Type 0 where
   pub kept : (drive : ℕ) (v : DiskVolume) → slice_index_or old drive None ≡ Some v
-      → (w : DiskVolume) × (slice_index_or new drive None ≡ Some w) × KeepsEnds v w
+      → (w : DiskVolume) × (slice_index_or new drive None ≡ Some w) × KeepsVolumeEnds v w
   pub none : (drive : ℕ) → slice_index_or old drive None ≡ None → slice_index_or new drive None ≡ None
 
 pub keep-same : (old new : List (Option DiskVolume)) → new ≡ old → Keep old new
@@ -90,7 +90,7 @@ keep-then a b c first next = record {
 }
 
 -- another volume with the same ends is in a drive that has one
-module _ (old : List (Option DiskVolume)) (drive : ℕ) (v w : DiskVolume) (was : slice_index_or old drive None ≡ Some v) (ends_kept : KeepsEnds v w) where
+module _ (old : List (Option DiskVolume)) (drive : ℕ) (v w : DiskVolume) (was : slice_index_or old drive None ≡ Some v) (ends_kept : KeepsVolumeEnds v w) where
   abbrev changed : List (Option DiskVolume)
   changed = slice_set old drive (Some w)
 
@@ -108,11 +108,12 @@ module _ (old : List (Option DiskVolume)) (drive : ℕ) (v w : DiskVolume) (was 
   at-drive : (other : ℕ) → other ≡ drive → slice_index_or old other None ≡ Some v
   at-drive other same = ap (λ (n : ℕ). slice_index_or old n None) same ∙ was
 
-  kept-by : (other : ℕ) (u : DiskVolume) → slice_index_or old other None ≡ Some u → (other ≡ drive) ⊎ (other ≢ drive) → (x : DiskVolume) × (slice_index_or changed other None ≡ Some x) × KeepsEnds u x
+  kept-by : (other : ℕ) (u : DiskVolume) → slice_index_or old other None ≡ Some u → (other ≡ drive) ⊎ (other ≢ drive)
+      → (x : DiskVolume) × (slice_index_or changed other None ≡ Some x) × KeepsVolumeEnds u x
   kept-by other u there (inl same) = (
     w,
     ap (λ (n : ℕ). slice_index_or changed n None) same ∙ there-now,
-    subst (λ (u : DiskVolume). KeepsEnds u w) (same_Some v u (sym (at-drive other same) ∙ there)) ends_kept,
+    subst (λ (u : DiskVolume). KeepsVolumeEnds u w) (same_Some v u (sym (at-drive other same) ∙ there)) ends_kept,
   )
   kept-by other u there (inr differ) = (u, other-now other differ ∙ there, ends-same u)
 

@@ -6,12 +6,12 @@ use Rattle.machine_model.specs.State.{State}
 
 -- the first sector of the volume and the bytes after its end are unchanged (OS-9 Technical Reference, "Identification
 -- Sector")
-pub record KeepsEnds (v w : DiskVolume) : Type 0 where
+pub record KeepsVolumeEnds (v w : DiskVolume) : Type 0 where
   pub ident : w.ident ≡ v.ident
   pub rest : w.rest ≡ v.rest
 
 -- each drive with a volume still has one, with the same ends, and no other drive has got one
 pub record VolumesKeepEnds (s t : State) : Type 0 where
   pub kept : (drive : ℕ) (v : DiskVolume) → volume_at s.files drive ≡ Some v
-      → (w : DiskVolume) × (volume_at t.files drive ≡ Some w) × KeepsEnds v w
+      → (w : DiskVolume) × (volume_at t.files drive ≡ Some w) × KeepsVolumeEnds v w
   pub none : (drive : ℕ) → volume_at s.files drive ≡ None → volume_at t.files drive ≡ None

@@ -1,6 +1,6 @@
 -- The existence of events, slices and runs in which no device fails.
 use Rattle.std.specs.Prelude.{ℕ, List}
-use Rattle.file_rules.specs.Files.{NoneFailed}
+use Rattle.file_rules.specs.Files.{KeepsDriveFaults}
 use Rattle.machine_model.specs.declared.ends.EventEnd.{EventEnd}
 use Rattle.machine_model.specs.declared.ends.SliceEnd.{SliceEnd}
 use Rattle.machine_model.specs.Event.{Event}
@@ -18,7 +18,7 @@ pub record GoesOnWell (s : State) : Type 0 where
 -- no device has failed: the terminals have the same counts of faults, and the drives are the same
 pub record IsFaultless (s t : State) : Type 0 where
   pub terminals : SameCounts s t
-  pub drives : NoneFailed s.files.drives t.files.drives
+  pub drives : KeepsDriveFaults s.files.drives t.files.drives
 
 -- the state has an event in which no device fails
 pub record HasFaultlessEvent (s : State) : Type 0 where

@@ -12,11 +12,11 @@ abbrev pub HasNumbers : DiskVolume → Type 0
 HasNumbers v = (n : ℕ) (file : DiskFile) → v.files n ≡ Some file → n < (shape v).total
 
 -- each mounted volume is in an existing drive, and its files have numbers of its sectors
-pub record AreMounted (files : Files) : Type 0 where
+pub record MountsAreSound (files : Files) : Type 0 where
   pub drives : (drive : ℕ) (v : DiskVolume) → volume_at files drive ≡ Some v → drive < length files.drives
   pub numbers : (drive : ℕ) (v : DiskVolume) → volume_at files drive ≡ Some v → HasNumbers v
 
 -- facts of a state from which the machine goes on
 pub record CanGo (s : State) : Type 0 where
   pub running : IsRunning s
-  pub mounted : AreMounted s.files
+  pub mounted : MountsAreSound s.files

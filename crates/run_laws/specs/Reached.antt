@@ -8,13 +8,13 @@ use Rattle.machine_model.specs.State.{State}
 use Rattle.run_laws.specs.Faults.{MayChoose}
 
 -- a state is reached from another one, step by step
-pub data Reaches : State → State → Type 0 where
-  here : {s : State} → Reaches s s
-  by_event : {s next t : State} (end : EventEnd) → Event s end next → Reaches next t → Reaches s t
-  by_tick : {s next t : State} → Tick s next → Reaches next t → Reaches s t
-  by_choice : {s next t : State} → Choose s next → Reaches next t → Reaches s t
-  by_emptying : {s t : State} → Reaches (record s { terms = terminals_emptied s.terms }) t → Reaches s t
+pub data ReachesState : State → State → Type 0 where
+  here : {s : State} → ReachesState s s
+  by_event : {s next t : State} (end : EventEnd) → Event s end next → ReachesState next t → ReachesState s t
+  by_tick : {s next t : State} → Tick s next → ReachesState next t → ReachesState s t
+  by_choice : {s next t : State} → Choose s next → ReachesState next t → ReachesState s t
+  by_emptying : {s t : State} → ReachesState (record s { terms = terminals_emptied s.terms }) t → ReachesState s t
 
 -- in no reached state the chosen process attempts a call that takes clusters
 abbrev pub NeverChooses : State → Type 0
-NeverChooses s = (m : State) → Reaches s m → MayChoose m → ⊥
+NeverChooses s = (m : State) → ReachesState s m → MayChoose m → ⊥

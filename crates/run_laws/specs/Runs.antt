@@ -4,7 +4,7 @@ use Rattle.os9_outer.specs.TerminalState.{fault_counts}
 use Rattle.proc_model.specs.Ready.{attempts, act_of}
 use Rattle.file_rules.specs.Codes.{path_call_of}
 use Rattle.rbf_model.specs.Volume.{DiskVolume}
-use Rattle.file_rules.specs.Files.{NoneFailed, volume_at}
+use Rattle.file_rules.specs.Files.{KeepsDriveFaults, volume_at}
 use Rattle.file_rules.specs.declared.path_call.PathCall.TheVariants as Call
 use Rattle.machine_model.specs.declared.ends.EventEnd.{EventEnd}
 use Rattle.machine_model.specs.declared.ends.SliceEnd.{SliceEnd}
@@ -29,21 +29,21 @@ pub record MakesFile (s : State) : Type 0 where
   pub mounted : volume_at s.files drive ≡ Some volume
 
 -- a state has an event in which no terminal fails, and no drive unless a file or a directory is made
-pub record HasEvent (s : State) : Type 0 where
+pub record HasUnfailedEvent (s : State) : Type 0 where
   pub end : EventEnd
   pub last : State
   pub event : Event s end last
   pub counts : SameCounts s last
-  pub drives : NoneFailed s.files.drives last.files.drives ⊎ MakesFile s
+  pub drives : KeepsDriveFaults s.files.drives last.files.drives ⊎ MakesFile s
 
 -- a slice of n instructions ends without a failure of a terminal, and without volumes also of a drive
-pub record HasSlice (n : ℕ) (s : State) : Type 0 where
+pub record HasUnfailedSlice (n : ℕ) (s : State) : Type 0 where
   pub states : List State
   pub end : SliceEnd
   pub last : State
   pub slice : Slice n s states end last
   pub counts : SameCounts s last
-  pub drives : HasNoVolumes s → NoneFailed s.files.drives last.files.drives
+  pub drives : HasNoVolumes s → KeepsDriveFaults s.files.drives last.files.drives
 
 -- there is a run over these slices in which no terminal fails, and without volumes no drive
 pub record HasRun (slices : List ℕ) (s : State) : Type 0 where
@@ -52,4 +52,4 @@ pub record HasRun (slices : List ℕ) (s : State) : Type 0 where
   pub last : State
   pub run : Run slices s states written last
   pub counts : SameCounts s last
-  pub drives : HasNoVolumes s → NoneFailed s.files.drives last.files.drives
+  pub drives : HasNoVolumes s → KeepsDriveFaults s.files.drives last.files.drives

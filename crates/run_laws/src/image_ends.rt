@@ -9,7 +9,7 @@ ghost use Rattle.machine_model.specs.Event.{Event};
 ghost use Rattle.machine_model.specs.Run.{BeginsSlice, Choose, Run, Slice, Tick};
 ghost use Rattle.machine_model.specs.Start.{Boot, Starts};
 ghost use Rattle.machine_model.specs.State.{State};
-ghost use Rattle.run_laws.specs.Ends.{KeepsEnds, VolumesKeepEnds};
+ghost use Rattle.run_laws.specs.Ends.{KeepsVolumeEnds, VolumesKeepEnds};
 ghost use Rattle.run_laws.specs.Images.{IsWrittenBack};
 
 /// No volume is lost and none appears, and each keeps its first sector and the bytes after its end:
@@ -43,7 +43,7 @@ pub fn images_are_in_the_first_drives()
 /// with which the machine started.
 pub fn images_keep_their_ends()
     ensures volume { (old new : List ℕ) (v w : DiskVolume) → Vol old v → Vol new w
-        → KeepsEnds v w → IsWrittenBack old new w }
+        → KeepsVolumeEnds v w → IsWrittenBack old new w }
     ensures run { (boot : Boot) (slices written : List ℕ) (s t : State) (states : List State)
         → Starts boot s → Run slices s states written t
         → (n : ℕ) (old new : List ℕ) (w : DiskVolume)

@@ -5,7 +5,7 @@ ghost use Rattle.os9_base.specs.declared.registers.TimePacket.{TimePacket};
 ghost use Rattle.rbf_model.specs.Volume.{DiskVolume, Vol};
 ghost use Rattle.rbf_change.specs.Calls.{cluster_size};
 ghost use Rattle.machine_model.specs.declared.ends.EventEnd.{EventEnd};
-ghost use Rattle.file_rules.specs.Change.{Change, Makes, MayLeave};
+ghost use Rattle.file_rules.specs.Change.{Change, AppliesChange, ChangeMayLeave};
 ghost use Rattle.machine_model.specs.Event.{Event};
 ghost use Rattle.machine_model.specs.Run.{Choose, Tick};
 ghost use Rattle.machine_model.specs.Start.{Boot, Starts};
@@ -20,10 +20,11 @@ ghost use Rattle.run_laws.specs.InOrder.{AreInOrder, DeletesNoDirectory, IsInOrd
 pub fn each_change_keeps_a_volume_in_order()
     ensures image { (image : List ℕ) (v : DiskVolume) → Vol image v → IsInOrder v }
     ensures made { (change : Change) (user : ℕ) (now : TimePacket) (v w : DiskVolume) (number : ℕ)
-        → 0 < cluster_size v → DeletesNoDirectory change v → Makes change user now v w number
-        → IsInOrder v → IsInOrder w }
+        → 0 < cluster_size v → DeletesNoDirectory change v
+        → AppliesChange change user now v w number → IsInOrder v → IsInOrder w }
     ensures left { (change : Change) (user : ℕ) (now : TimePacket) (v w : DiskVolume)
-        → DeletesNoDirectory change v → MayLeave change user now v w → IsInOrder v → IsInOrder w }
+        → DeletesNoDirectory change v → ChangeMayLeave change user now v w → IsInOrder v
+        → IsInOrder w }
 {}
 
 /// The volumes with which a machine starts are in order, and each event, each tick and each choice

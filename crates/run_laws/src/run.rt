@@ -8,10 +8,10 @@ ghost use Rattle.machine_model.specs.Event.{Event};
 ghost use Rattle.machine_model.specs.Run.{Choose, Tick};
 ghost use Rattle.machine_model.specs.Start.{Boot, Starts};
 ghost use Rattle.machine_model.specs.State.{State};
-ghost use Rattle.file_rules.specs.Files.{NoneFailed as NoDriveChanged};
+ghost use Rattle.file_rules.specs.Files.{KeepsDriveFaults as NoDriveChanged};
 ghost use Rattle.run_laws.specs.Faults.{CanRise, NoneFailed};
 ghost use Rattle.run_laws.specs.Mounted.{CanGo};
-ghost use Rattle.run_laws.specs.Runs.{HasEvent, HasRun, HasSlice, SameCounts};
+ghost use Rattle.run_laws.specs.Runs.{HasUnfailedEvent, HasRun, HasUnfailedSlice, SameCounts};
 
 /// Each mounted volume is in a drive, and its files have numbers of its sectors. That holds at the
 /// start of a machine with a drive for each image, and each event, each tick and each choice keeps
@@ -32,8 +32,8 @@ pub fn volumes_stay_in_their_drives()
 /// are unchanged, and could rise, no device has failed.
 pub fn some_run()
     ensures event { (s : State) (p : ℕ) → CanGo s → s.chosen ≡ Some p
-        → IsLiving s.processes.records p → HasEvent s }
-    ensures slice { (n : ℕ) (s : State) → CanGo s → HasSlice n s }
+        → IsLiving s.processes.records p → HasUnfailedEvent s }
+    ensures slice { (n : ℕ) (s : State) → CanGo s → HasUnfailedSlice n s }
     ensures run { (slices : List ℕ) (s : State) → CanGo s → HasRun slices s }
     ensures started { (boot : Boot) (slices : List ℕ) (s : State) → Starts boot s
         → 0 < length boot.terms → length boot.terms ≤ 4 → is_time_packet boot.time ≡ true

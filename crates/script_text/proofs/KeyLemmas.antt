@@ -8,7 +8,7 @@ use Rattle.text_values.specs.Number.{number_of}
 use Rattle.script_text.specs.declared.script.ScriptKey.{ScriptKey}
 use Rattle.script_text.specs.declared.script.Reached.{Reached}
 use Rattle.script_text.specs.Lines.{line_words, is_edged, text_lines}
-use Rattle.script_text.specs.Script.{is_skipped, tick_of, terminal_of, terminal_names, bytes_of, byte_of, key_at, keys_at, words_keys, keys_of, line_keys, are_few_keys, never_fall, IsKey, AreKeys}
+use Rattle.script_text.specs.Script.{is_skipped, tick_of, terminal_of, terminal_names, bytes_of, byte_of, key_at, keys_at, words_keys, keys_of, line_keys, are_few_keys, never_fall, IsScriptKey, AreKeys}
 use Rattle.script_text.specs.Reached.{reached_with, IsReachable}
 use Rattle.script_text.proofs.SliceLemmas.{range-as}
 use Rattle.script_text.proofs.TextLemmas.{ReadSoFar, ReadSoFar-start, ReadSoFar-next, refused-unread, refused-passed, all_read}
@@ -162,11 +162,11 @@ line-as terminals line added false false skips edges is =
     let words : line_keys terminals line ≡ words_keys terminals (line_words line) = simp (skips, edges) in
     inr (typed-words terminals (line_words line) added (sym words ∙ is))
 
-each-typed : (terminals tick term : ℕ) (bytes : List ℕ) → tick ≤ 1000000 → term < terminals → All (IsKey terminals) (map (key_at tick term) bytes)
+each-typed : (terminals tick term : ℕ) (bytes : List ℕ) → tick ≤ 1000000 → term < terminals → All (IsScriptKey terminals) (map (key_at tick term) bytes)
 each-typed terminals tick term [] early there = λ k d below. absurd (omega arith)
 each-typed terminals tick term (byte ∷ bytes) early there =
-    All-append (IsKey terminals) (key_at tick term byte ∷ []) (map (key_at tick term) bytes)
-    (All-replicate (IsKey terminals) 1 (key_at tick term byte) (record { there = there; early = early }))
+    All-append (IsScriptKey terminals) (key_at tick term byte ∷ []) (map (key_at tick term) bytes)
+    (All-replicate (IsScriptKey terminals) 1 (key_at tick term byte) (record { there = there; early = early }))
     (each-typed terminals tick term bytes early there)
 
 -- a choice that gives none, and one that gives some
@@ -189,7 +189,7 @@ pub record KeysSoFar (terminals : ℕ) (text : List ℕ) (place : ℕ) (keys : L
   pub many : reached.keys ≡ length keys
   pub last : reached.tick ≡ last_tick 0 keys
   pub rising : never_fall keys ≡ true
-  pub each : All (IsKey terminals) keys
+  pub each : All (IsScriptKey terminals) keys
   pub reachable : IsReachable reached
 
 pub KeysSoFar-start : (terminals : ℕ) (text : List ℕ) → KeysSoFar terminals text 0 [] (record { tick = 0; keys = 0 })
@@ -268,7 +268,7 @@ module _ (terminals : ℕ) (text : List ℕ) (place : ℕ) (keys : List ScriptKe
             (map (key_at typed.tick typed.term) (typed.byte ∷ typed.bytes)) ∙ last_tick-typed (last_tick 0 keys)
             typed.tick typed.term typed.byte typed.bytes);
         rising = (and_parts (never_fall (keys ++ added)) (nat_le (length (keys ++ added)) 1000000) whole).0;
-        each = All-append (IsKey terminals) keys added so_far.each (rw typed.is (each-typed terminals typed.tick typed.term (typed.byte ∷ typed.bytes) typed.early typed.there));
+        each = All-append (IsScriptKey terminals) keys added so_far.each (rw typed.is (each-typed terminals typed.tick typed.term (typed.byte ∷ typed.bytes) typed.early typed.there));
         reachable = reachable;
       }
 

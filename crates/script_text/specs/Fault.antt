@@ -4,7 +4,7 @@ use Rattle.script_text.specs.declared.fault.LineFault.{LineFault}
 use Rattle.script_text.specs.declared.fault.LineFault.TheVariants.{Line, OutOfMemory}
 
 -- the fact holds of the refused line, if there is one
-abbrev pub OnLine : {T : Type 0} → Result T LineFault → (ℕ → Type 0) → Type 0
-OnLine (Ok _) fact = ⊤
-OnLine (Err (Line line)) fact = fact line
-OnLine (Err OutOfMemory) fact = ⊤
+abbrev pub OnRefusedLine : {T : Type 0} → Result T LineFault → (ℕ → Type 0) → Type 0
+OnRefusedLine (Ok _) fact = ⊤
+OnRefusedLine (Err (Line line)) fact = fact line
+OnRefusedLine (Err OutOfMemory) fact = ⊤

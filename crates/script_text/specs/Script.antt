@@ -71,12 +71,12 @@ abbrev pub keys_of : ℕ → List ℕ → Result (List ScriptKey) ℕ
 keys_of terminals text = text_gives (line_keys terminals) are_few_keys text
 
 -- a key that a text can give a machine with this number of terminals
-pub record IsKey (terminals : ℕ) (key : ScriptKey) : Type 0 where
+pub record IsScriptKey (terminals : ℕ) (key : ScriptKey) : Type 0 where
   pub there : key.term < terminals
   pub early : key.tick ≤ 1000000
 
 -- keys that a text can give a machine with this number of terminals
 pub record AreKeys (terminals : ℕ) (keys : List ScriptKey) : Type 0 where
   pub few : length keys ≤ 1000000
-  pub each : All (IsKey terminals) keys
+  pub each : All (IsScriptKey terminals) keys
   pub rising : never_fall keys ≡ true

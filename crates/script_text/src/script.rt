@@ -1,5 +1,5 @@
 ghost use Rattle.std.specs.Prelude.{◌≡◌, ◌≤◌, ◌<◌, ◌++◌, Ok, Err, IfOk, IfSome, Option, false, map};
-ghost use Rattle.script_text.specs.Fault.{OnLine};
+ghost use Rattle.script_text.specs.Fault.{OnRefusedLine};
 ghost use Rattle.script_text.specs.Lines.{line_words};
 ghost use Rattle.script_text.specs.Script as model;
 ghost use Rattle.script_text.specs.Script.{terminal_of, byte_of, bytes_of, tick_of, key_at, keys_of, line_keys, AreKeys};
@@ -38,7 +38,7 @@ const MOST_TERMINALS: u8 = 4;
 pub fn read_script(alloc: Global, text: &[u8]) -> Result<Vec<ScriptKey>, LineFault>
     ensures keys { IfOk result (λ keys. keys_of 4 text.now ≡ Ok keys.items) }
     ensures limits { IfOk result (λ keys. AreKeys 4 keys.items) }
-    ensures line { OnLine result (λ line. keys_of 4 text.now ≡ Err line) }
+    ensures line { OnRefusedLine result (λ line. keys_of 4 text.now ≡ Err line) }
 {
     read_script_for(alloc, text, MOST_TERMINALS)
 }
@@ -63,7 +63,7 @@ pub fn read_script_for(
 ) -> Result<Vec<ScriptKey>, LineFault>
     ensures keys { IfOk result (λ keys. keys_of terminals text.now ≡ Ok keys.items) }
     ensures limits { IfOk result (λ keys. AreKeys terminals keys.items) }
-    ensures line { OnLine result (λ line. keys_of terminals text.now ≡ Err line) }
+    ensures line { OnRefusedLine result (λ line. keys_of terminals text.now ≡ Err line) }
 {
     let mut keys = Vec::new(alloc);
     let mut reached = Reached { tick: 0, keys: 0 };

@@ -1,6 +1,6 @@
 ghost use Rattle.std.specs.Prelude.{◌≡◌, ◌≤◌, ◌*◌, ◌++◌, Ok, Err, IfOk, IfSome, Option, [], length, is_none, option_map, replicate, unwrap_or};
 ghost use Rattle.std.specs.List.{flat_map, position_or_len};
-ghost use Rattle.script_text.specs.Fault.{OnLine};
+ghost use Rattle.script_text.specs.Fault.{OnRefusedLine};
 ghost use Rattle.script_text.specs.Lines.{line_words};
 ghost use Rattle.script_text.specs.Slices as model;
 ghost use Rattle.script_text.specs.Slices.{slices_of, word_slices, line_slices, is_asterisk, AreSlices};
@@ -48,7 +48,7 @@ struct Repeat {
 pub fn read_slices(alloc: Global, text: &[u8]) -> Result<Vec<u32>, LineFault>
     ensures slices { IfOk result (λ slices. slices_of text.now ≡ Ok slices.items) }
     ensures limits { IfOk result (λ slices. AreSlices slices.items) }
-    ensures line { OnLine result (λ line. slices_of text.now ≡ Err line) }
+    ensures line { OnRefusedLine result (λ line. slices_of text.now ≡ Err line) }
 {
     let mut slices = Vec::new(alloc);
     let mut total = Total {

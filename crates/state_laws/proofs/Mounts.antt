@@ -7,8 +7,8 @@ use Rattle.rbf_access.specs.declared.volume.Volume.{Volume}
 use Rattle.rbf_walk.proofs.Stepping.{same_content}
 use Rattle.file_rules.specs.Files.{Files}
 use Rattle.file_drives.specs.Drives.{DriveView, unused_drive}
-use Rattle.file_drives.specs.Mounted.{AgreesOnDrive, AreMounted, kept_at, mounted_at}
-use Rattle.file_state.specs.Tie.{StandsFor}
+use Rattle.file_drives.specs.Mounted.{AgreesOnDrive, AreMounted, disk_at, mounted_at}
+use Rattle.file_state.specs.Tie.{RepresentsFiles}
 use Rattle.file_state.specs.declared.state.FileState.{FileState}
 
 -- one volume at most is mounted on a drive
@@ -30,9 +30,9 @@ one-mounting disks views one other mounted mounted_too =
     each n there =
         let view : DriveView = get_or views n unused_drive in
         let is = slice_get-get_or views n unused_drive there in
-        on-a-drive (kept_at disks n) view (mounted_at one n) (mounted_at other n) (mounted.each n view is) (mounted_too.each n view is)
+        on-a-drive (disk_at disks n) view (mounted_at one n) (mounted_at other n) (mounted.each n view is) (mounted_too.each n view is)
 
-pub files-one : (state : FileState) (views : List DriveView) (one other : Files) → StandsFor state views one → StandsFor state views other → one ≡ other
+pub files-one : (state : FileState) (views : List DriveView) (one other : Files) → RepresentsFiles state views one → RepresentsFiles state views other → one ≡ other
 files-one state views one other stands stands_too = λ i. record {
   io = (stands.io ∙ sym stands_too.io) i;
   directories = (stands.directories ∙ sym stands_too.directories) i;

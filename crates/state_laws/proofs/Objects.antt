@@ -11,7 +11,7 @@ use Rattle.proc_model.specs.Slots.{Slots, blocks_in}
 use Rattle.guest_memory.specs.Memory.{memory_of, RepresentMemory}
 use Rattle.guest_memory.specs.References.{times, mapped_blocks, references}
 use Rattle.guest_memory.specs.Renaming.{RepresentObjects, renamed_map, renamed_modules}
-use Rattle.guest_memory.specs.Sound.{IsSound}
+use Rattle.guest_memory.specs.Sound.{IsSoundMemory}
 use Rattle.guest_memory.proofs.HeldGroups.{grouped_blocks}
 use Rattle.guest_memory.proofs.Keeping.{names_live, group_live}
 use Rattle.guest_memory.proofs.Lists.{map-map}
@@ -105,7 +105,7 @@ maps-named number [] = refl
 maps-named number (first ∷ maps) =
     (λ i. places-named number first.places i ++ maps-named number maps i) ∙ sym (map-append number (mapped_blocks first) (flat_map mapped_blocks maps))
 
-module _ (pool : Blocks) (maps : List (Slots BlockId)) (entries : List (Option ModuleEntry)) (sound : IsSound pool maps entries) where
+module _ (pool : Blocks) (maps : List (Slots BlockId)) (entries : List (Option ModuleEntry)) (sound : IsSoundMemory pool maps entries) where
   abbrev named : List ℕ
   named = references maps entries
 

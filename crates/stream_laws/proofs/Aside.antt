@@ -20,7 +20,7 @@ use Rattle.time_rules.specs.Attempts.{time_step, result_of as time_result}
 use Rattle.time_rules.specs.Step.{TimeStep, refused as time_refused, sets, tells}
 use Rattle.file_laws.specs.Attempt.{Attempt, OnDevice, TouchesNone, WaitsOnRecord, regs_in}
 use Rattle.file_laws.specs.Devices.{IsDevice, device_call, takes_number}
-use Rattle.file_laws.specs.Touch.{IsOver, KeepsIo}
+use Rattle.file_laws.specs.Touch.{IsFinalResult, KeepsIo}
 use Rattle.file_laws.proofs.Keeps.{io-kept}
 use Rattle.file_laws.proofs.Loads.{chain-leaves, fork-leaves, load-leaves}
 use Rattle.file_laws.proofs.TouchNamed.{device-no-file}
@@ -134,7 +134,7 @@ pub record IsAside (s : State) (p : ℕ) (result : CallResult) (rest : Rest) : T
   pub io : StaysOrEnds s p result rest.files.io
   pub moves : AttemptsNoMove s p
 
-over-goes : (processes : Processes) (p : ℕ) (result : CallResult) → IsOver processes p result → GoesOn result
+over-goes : (processes : Processes) (p : ℕ) (result : CallResult) → IsFinalResult processes p result → GoesOn result
 over-goes processes p result (inl it) = subst GoesOn (sym it.is) tt
 over-goes processes p result (inr (number, is)) = subst GoesOn (sym is) tt
 

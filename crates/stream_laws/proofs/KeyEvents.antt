@@ -32,7 +32,7 @@ use Rattle.machine_model.specs.declared.ends.EventEnd.{EventEnd}
 use Rattle.machine_model.specs.declared.ends.EventEnd.TheVariants.{Ended, Ran, Waits}
 use Rattle.machine_model.specs.ProcessEvent.{call_event_end, delivery_end, instruction_end, next_instruction}
 use Rattle.call_laws.proofs.StepWalk.{StepGives, step-gives}
-use Rattle.stream_laws.specs.Keys.{KeyMove, LineGoes, LineStays, UsesNone, reading_of, stay, use_up, DropsLine, EventKeys, HasAhead, ReadEnds, ReaderStops, ReadsFrom, StopsReading, WriteFails, ahead_at, keys_to_come}
+use Rattle.stream_laws.specs.Keys.{KeyMove, LineGoes, LineStays, UsesNone, reading_of, stay, use_up, DropsLine, EventKeys, HasAhead, ReadEnds, ReaderStops, AttemptsTerminalRead, StopsReading, AttemptedWriteFails, ahead_at, keys_to_come}
 use Rattle.stream_laws.proofs.CallCodes.{none-delivering, none-executing, same-code}
 use Rattle.stream_laws.proofs.KeyAttempts.{AheadLeft, Ends, Failed, IsReader, Moved, TermLeft, WriteRefused, closed-terminals, come_of, does-come, does-moves, ended-drops, ended-left, interrupted-drops, interrupted-left, left-for, left-same, term-for}
 use Rattle.stream_laws.proofs.KeyReads.{step-reads}
@@ -40,7 +40,7 @@ use Rattle.stream_laws.proofs.KeyWrites.{step-writes}
 use Rattle.machine_model.specs.Event.{Acts, Event, before_delivery, files_after_delivery, files_after_instruction}
 use Rattle.machine_model.specs.Services.{service_of}
 use Rattle.machine_model.specs.State.{Rest, State, with_rest}
-use Rattle.stream_laws.specs.Flow.{EndsIn}
+use Rattle.stream_laws.specs.Flow.{AttemptWithEnd}
 use Rattle.stream_laws.proofs.Aside.{AttemptsNoMove, IsAside, IsOnDevice, StaysOrEnds, none-moves, served}
 use Rattle.stream_laws.proofs.Asked.{device-asked}
 use Rattle.stream_laws.proofs.GoesOn.{GoesOn}
@@ -75,7 +75,7 @@ module _ (s : State) (p n : ℕ) (chosen : s.chosen ≡ Some p) (has : HasAhead 
       record { within = omega (arith, places, within); few = omega (arith, fewer, few) }
 
   abbrev Causes : EventEnd → State → Type 0
-  Causes end t = ReaderStops n p s end ⊎ WriteFails n p s t
+  Causes end t = ReaderStops n p s end ⊎ AttemptedWriteFails n p s t
 
   -- where the process stops reading, its read is dropped
   abbrev Drops : EventEnd → Io → Type 0
@@ -93,12 +93,13 @@ module _ (s : State) (p n : ℕ) (chosen : s.chosen ≡ Some p) (has : HasAhead 
   -- an attempt of a read that uses no key ends as it may
   abbrev Reads_none : State → Type 0
   Reads_none t =
-      (q : ℕ) (kind : ReadKind) → s.chosen ≡ Some q → ReadsFrom s q n kind → EndsIn s q (UsesNone n (caller_of s.processes q) s.files.io) t × (t.processes.memory ≡ s.processes.memory)
+      (q : ℕ) (kind : ReadKind) → s.chosen ≡ Some q → AttemptsTerminalRead s q n kind → AttemptWithEnd s q
+      (UsesNone n (caller_of s.processes q) s.files.io) t × (t.processes.memory ≡ s.processes.memory)
 
   attempts-none : (t : State) → AttemptsNoMove s p → Reads_none t
   attempts-none t none q kind chosen_is it =
       let same : q ≡ p = same_Some q p (sym chosen_is ∙ chosen) in
-      let here : ReadsFrom s p n kind = subst (λ (q : ℕ). ReadsFrom s q n kind) same it in
+      let here : AttemptsTerminalRead s p n kind = subst (λ (q : ℕ). AttemptsTerminalRead s q n kind) same it in
       absurd (none here.attempted.0 (read_call kind) here.attempted.1 here.attempted.2 (
         Way.Reading,
         read-way kind,
@@ -153,7 +154,7 @@ module _ (s : State) (p n : ℕ) (chosen : s.chosen ≡ Some p) (has : HasAhead 
     come-then =
         does-come call (caller_of s.processes p) s.files.io n has.within s.terms rest.terms (step_of call s.processes p s.files.io (length s.files.drives) s.terms) attempt.effect attempt.does
 
-    ends-in : (Counts : IoEnd → Type 0) → Counts attempt.effect.end → EndsIn s p Counts last
+    ends-in : (Counts : IoEnd → Type 0) → Counts attempt.effect.end → AttemptWithEnd s p Counts last
     ends-in Counts counts = record {
       effect = attempt.effect;
       processes = ap (after_attempt s.processes p) attempt.result_is;
@@ -204,7 +205,7 @@ module _ (s : State) (p n : ℕ) (chosen : s.chosen ≡ Some p) (has : HasAhead 
         memory-then (keeps kept) is none =
             ap (λ (result : CallResult). (after_attempt s.processes p result).memory) is ∙ ap (stored s.processes.memory p attempt.effect.at) none
 
-        here : (kind : ReadKind) → ReadsFrom s p n kind → EndsIn s p (UsesNone n (caller_of s.processes p) s.files.io) last × (last.processes.memory ≡ s.processes.memory)
+        here : (kind : ReadKind) → AttemptsTerminalRead s p n kind → AttemptWithEnd s p (UsesNone n (caller_of s.processes p) s.files.io) last × (last.processes.memory ≡ s.processes.memory)
         here kind on =
             let same_code : on.attempted.0 ≡ code = same-code on.attempted.0 code (sym on.attempted.1 ∙ next) in
             let same_call : call ≡ read_call kind = same_Some call (read_call kind) (sym coded ∙ ap io_call_of (sym same_code) ∙ on.attempted.2) in
@@ -214,9 +215,9 @@ module _ (s : State) (p n : ℕ) (chosen : s.chosen ≡ Some p) (has : HasAhead 
         reads_none : Reads_none last
         reads_none q kind chosen_is on =
             let same : q ≡ p = same_Some q p (sym chosen_is ∙ chosen) in
-            subst (λ (q : ℕ). EndsIn s q (UsesNone n (caller_of s.processes q) s.files.io) last ×
+            subst (λ (q : ℕ). AttemptWithEnd s q (UsesNone n (caller_of s.processes q) s.files.io) last ×
             (last.processes.memory ≡ s.processes.memory)) (sym same)
-            (here kind (subst (λ (q : ℕ). ReadsFrom s q n kind) same on))
+            (here kind (subst (λ (q : ℕ). AttemptsTerminalRead s q n kind) same on))
 
         goes-on-ended : (it : IoEnd) → result ≡ result_by it s.processes p attempt.effect → end ≡ Ended → ⊥
         goes-on-ended (answers regs) is ended_it = ran-ended (sym (over ∙ ap call_event_end is) ∙ ended_it)

@@ -20,7 +20,7 @@ use Rattle.io_model.specs.declared.io_call.IoCall.{IoCall}
 use Rattle.file_rules.specs.Files.{place_of_target}
 use Rattle.machine_model.specs.ProcessEvent.{next_instruction}
 use Rattle.machine_model.specs.declared.ends.EventEnd.{EventEnd}
-use Rattle.stream_laws.specs.Flow.{MovesNone, ReadCounts, WriteCounts, moved_before, stored_from, AttemptsOn, EndsIn, IsNew, Passes}
+use Rattle.stream_laws.specs.Flow.{MovesNone, ReadCounts, WriteCounts, moved_before, stored_from, AttemptsOn, AttemptWithEnd, IsNew, Passes}
 use Rattle.stream_laws.proofs.CallCodes.{none-delivering, none-executing, same-code}
 use Rattle.stream_laws.proofs.PipeAttempts.{does-fresh, does-moves, ended-left, interrupted-left, stores-none, stores-them}
 use Rattle.stream_laws.proofs.PipeSteps.{IsAbsent, IsStoring, Moved, PipeLeft, StaysEmpty, left-empty, left-held, no-pipe, step-moves}
@@ -51,7 +51,7 @@ module _ (s : State) (p n : ℕ) (chosen : s.chosen ≡ Some p) (lives : IsPipe 
   unmoved : (t : State) → AttemptsNoMove s p → pipe_bytes t.files.io n ≡ pipe_bytes s.files.io n → Passes n s t
   unmoved t none same = (None, record { held = same; attempt = attempts_none })
     where
-      attempts_none : (q : ℕ) (call : IoCall) (way : Direction) → s.chosen ≡ Some q → AttemptsOn s q n call way → EndsIn s q (MovesNone (caller_of s.processes q)) t
+      attempts_none : (q : ℕ) (call : IoCall) (way : Direction) → s.chosen ≡ Some q → AttemptsOn s q n call way → AttemptWithEnd s q (MovesNone (caller_of s.processes q)) t
           × (t.processes.memory ≡ s.processes.memory)
       attempts_none q call way chosen_is on =
           let same_process : q ≡ p = same_Some q p (sym chosen_is ∙ chosen) in
@@ -67,7 +67,7 @@ module _ (s : State) (p n : ℕ) (chosen : s.chosen ≡ Some p) (lives : IsPipe 
     held-then : pipe_bytes rest.files.io n ≡ pipe_bytes attempt.effect.io n
     held-then = ap (λ (io : Io). pipe_bytes io n) attempt.state
 
-    ends-in : (Counts : IoEnd → Type 0) → Counts attempt.effect.end → EndsIn s p Counts last
+    ends-in : (Counts : IoEnd → Type 0) → Counts attempt.effect.end → AttemptWithEnd s p Counts last
     ends-in Counts counts = record {
       effect = attempt.effect;
       processes = ap (after_attempt s.processes p) attempt.result_is;
@@ -86,7 +86,7 @@ module _ (s : State) (p n : ℕ) (chosen : s.chosen ≡ Some p) (lives : IsPipe 
     by_moved : Moved call (caller_of s.processes p) s.files.io n attempt.effect → Passes n s last
     by_moved (inl it) = (None, record { held = held-then ∙ it.held; attempt = attempted_on })
       where
-        here : (other : IoCall) (way : Direction) → AttemptsOn s p n other way → EndsIn s p (MovesNone (caller_of s.processes p)) last × (last.processes.memory ≡ s.processes.memory)
+        here : (other : IoCall) (way : Direction) → AttemptsOn s p n other way → AttemptWithEnd s p (MovesNone (caller_of s.processes p)) last × (last.processes.memory ≡ s.processes.memory)
         here other way on =
             let same_code : on.attempted.0 ≡ code = same-code on.attempted.0 code (sym on.attempted.1 ∙ next) in
             let same_call : other ≡ call = same_Some other call (sym on.attempted.2 ∙ ap io_call_of same_code ∙ coded) in
@@ -95,10 +95,10 @@ module _ (s : State) (p n : ℕ) (chosen : s.chosen ≡ Some p) (lives : IsPipe 
             (ends-in (MovesNone (caller_of s.processes p)) ends.0, memory-same ends.1)
 
         attempted_on : (q : ℕ) (other : IoCall) (way : Direction) → s.chosen ≡ Some q → AttemptsOn s q n other way
-            → EndsIn s q (MovesNone (caller_of s.processes q)) last × (last.processes.memory ≡ s.processes.memory)
+            → AttemptWithEnd s q (MovesNone (caller_of s.processes q)) last × (last.processes.memory ≡ s.processes.memory)
         attempted_on q other way chosen_is on =
             let same : q ≡ p = same_Some q p (sym chosen_is ∙ chosen) in
-            subst (λ (q : ℕ). EndsIn s q (MovesNone (caller_of s.processes q)) last ×
+            subst (λ (q : ℕ). AttemptWithEnd s q (MovesNone (caller_of s.processes q)) last ×
             (last.processes.memory ≡ s.processes.memory)) (sym same)
             (here other way (subst (λ (q : ℕ). AttemptsOn s q n other way) same on))
     by_moved (inr (inl it)) = (

@@ -12,17 +12,17 @@ use Rattle.machine_model.specs.Console.{terminals_emptied}
 use Rattle.stream_laws.proofs.PipeArrivals.{DeskRests, arrivals-rest}
 use Rattle.machine_model.proofs.Induction.{IsCarriedByMoves, IsCarriedByEvents, along-first, along-part, along-run, along-slice, along-steps}
 use Rattle.machine_model.specs.Event.{Event}
-use Rattle.machine_model.specs.Run.{BeginsSlice, Choose, FirstSteps, Run, Slice, Steps, Tick, desk_of}
+use Rattle.machine_model.specs.Run.{BeginsSlice, Choose, FirstSteps, Run, Slice, SliceEvents, Tick, desk_of}
 use Rattle.machine_model.specs.State.{State}
-use Rattle.stream_laws.specs.Flow.{AllLive, IsPassing, Linked, Passes, Passing, PassesThrough, Rests, moved_by}
+use Rattle.stream_laws.specs.Flow.{AllLive, IsPassing, Linked, Passes, Passing, PassesThrough, KeepsStreams, moved_by}
 use Rattle.stream_laws.proofs.PipeEvents.{event-passes}
 
 -- ---- what stays from one event to the next
 
-rests-same : (s : State) → Rests s s
+rests-same : (s : State) → KeepsStreams s s
 rests-same s = record { pipes = refl; paths = refl; calls = refl; memory = refl; regs = λ p. refl }
 
-rests-then : (s m t : State) → Rests s m → Rests m t → Rests s t
+rests-then : (s m t : State) → KeepsStreams s m → KeepsStreams m t → KeepsStreams s t
 rests-then s m t one two = record {
   pipes = two.pipes ∙ one.pipes;
   paths = two.paths ∙ one.paths;
@@ -31,7 +31,7 @@ rests-then s m t one two = record {
   regs = λ p. two.regs p ∙ one.regs p;
 }
 
-linked-from : (s m : State) (events : List Passing) (t : State) → Rests s m → Linked m events t → Linked s events t
+linked-from : (s m : State) (events : List Passing) (t : State) → KeepsStreams s m → Linked m events t → Linked s events t
 linked-from s m [] t rests linked = rests-then s m t rests linked
 linked-from s m (it ∷ events) t rests linked = (rests-then s m it.before rests linked.0, linked.1)
 
@@ -39,7 +39,7 @@ linked-then : (s : State) (first later : List Passing) (m t : State) → Linked 
 linked-then s [] later m t one two = linked-from s m later t one two
 linked-then s (it ∷ first) later m t one two = (one.0, linked-then it.after first later m t one.1 two)
 
-rests-tick : (s t : State) → Tick s t → Rests s t
+rests-tick : (s t : State) → Tick s t → KeepsStreams s t
 rests-tick s t (desk, arrives, is) =
     let it : DeskRests (desk_of s) desk = arrivals-rest (s.processes.tick + 1) 0 (length s.terms) (desk_of s) desk arrives in
     record {
@@ -50,7 +50,7 @@ rests-tick s t (desk, arrives, is) =
       regs = λ p. ap (λ (t : State). regs_at t.processes p) is ∙ it.regs p;
     }
 
-rests-choice : (s t : State) → Choose s t → Rests s t
+rests-choice : (s t : State) → Choose s t → KeepsStreams s t
 rests-choice s t is = record {
   pipes = ap (λ (t : State). t.files.io.pipes) is;
   paths = ap (λ (t : State). t.files.io.paths) is;
@@ -74,17 +74,17 @@ through n s states t events are linked each flow = record {
   in_order = flows-in_order (moved_by events) (pipe_bytes s.files.io n) (pipe_bytes t.files.io n) flow;
 }
 
-held-rests : (n : ℕ) (s m : State) → Rests s m → pipe_bytes m.files.io n ≡ pipe_bytes s.files.io n
+held-rests : (n : ℕ) (s m : State) → KeepsStreams s m → pipe_bytes m.files.io n ≡ pipe_bytes s.files.io n
 held-rests n s m rests = ap (λ (pipes : List (Option (List ℕ))). held_bytes pipes n) rests.pipes
 
-lives-rests : (n : ℕ) (s m : State) → Rests s m → IsPipe s.files.io.pipes n → IsPipe m.files.io.pipes n
+lives-rests : (n : ℕ) (s m : State) → KeepsStreams s m → IsPipe s.files.io.pipes n → IsPipe m.files.io.pipes n
 lives-rests n s m rests lives = subst (λ (pipes : List (Option (List ℕ))). IsPipe pipes n) (sym rests.pipes) lives
 
 -- the pipe is as it was
-pass-none : (n : ℕ) (s t : State) → Rests s t → PassesThrough n s [] t
+pass-none : (n : ℕ) (s t : State) → KeepsStreams s t → PassesThrough n s [] t
 pass-none n s t rests = through n s [] t [] refl rests tt (held-rests n s t rests)
 
-pass-from : (n : ℕ) (s m : State) (states : List State) (t : State) → Rests s m → PassesThrough n m states t → PassesThrough n s states t
+pass-from : (n : ℕ) (s m : State) (states : List State) (t : State) → KeepsStreams s m → PassesThrough n m states t → PassesThrough n s states t
 pass-from n s m states t rests it =
     through n s states t it.events it.through (linked-from s m it.events t rests it.linked) it.each
     (subst (λ (held : List ℕ). Flows (moved_by it.events) held (pipe_bytes t.files.io n)) (held-rests n s m rests)
@@ -134,7 +134,7 @@ module _ (n : ℕ) where
   Goes s states t = IsPipe s.files.io.pipes n → AllLive n states → PassesThrough n s states t
 
   -- a state with the same pipes
-  goes-on : (s m t : State) (states : List State) → Rests s m → Goes m states t → Goes s states t
+  goes-on : (s m t : State) (states : List State) → KeepsStreams s m → Goes m states t → Goes s states t
   goes-on s m t states rests rest lives all =
       pass-from n s m states t rests (rest (lives-rests n s m rests lives) all)
 
@@ -155,7 +155,7 @@ module _ (n : ℕ) where
   }
 
 -- the events of a slice from one of its states on
-pub steps-passes : (left : ℕ) (s t : State) (states : List State) (n : ℕ) → Steps left s states t → IsPipe s.files.io.pipes n → AllLive n states → PassesThrough n s states t
+pub steps-passes : (left : ℕ) (s t : State) (states : List State) (n : ℕ) → SliceEvents left s states t → IsPipe s.files.io.pipes n → AllLive n states → PassesThrough n s states t
 steps-passes left s t states n = along-steps (Goes n) (carried-events n) left s t states
 
 -- the first events of a slice that is not over

@@ -87,7 +87,7 @@ MovesNone caller (fails number) = ⊤
 MovesNone caller (keeps pending) = ⊥
 
 -- an attempt of a process with this kind of end leads to this state
-pub record EndsIn (s : State) (p : ℕ) (Counts : IoEnd → Type 0) (t : State) : Type 0 where
+pub record AttemptWithEnd (s : State) (p : ℕ) (Counts : IoEnd → Type 0) (t : State) : Type 0 where
   pub effect : IoEffect
   pub processes : t.processes ≡ after_attempt s.processes p (result_of s.processes p effect)
   pub io : t.files.io ≡ io_after p effect
@@ -106,7 +106,7 @@ pub record TakesOut (n : ℕ) (s : State) (bytes : List ℕ) (t : State) : Type 
   pub seen : t.processes.memory
       ≡ stored s.processes.memory process
       (stored_from call (regs_at s.processes process) (moved_before s.files.io process)) bytes
-  pub counts : EndsIn s process (ReadCounts call (caller_of s.processes process) s.files.io (length bytes)) t
+  pub counts : AttemptWithEnd s process (ReadCounts call (caller_of s.processes process) s.files.io (length bytes)) t
 
 -- a write puts bytes into a pipe, at its end: the next ones of those that its process sends
 pub record PutsIn (n : ℕ) (s : State) (bytes : List ℕ) (t : State) : Type 0 where
@@ -121,7 +121,8 @@ pub record PutsIn (n : ℕ) (s : State) (bytes : List ℕ) (t : State) : Type 0 
   -- a write with a byte left to move that puts none in finds no room
   pub none : bytes ≡ [] → moved_before s.files.io process < length sent → pipe_room (pipe_bytes s.files.io n) ≡ 0
   pub memory : t.processes.memory ≡ s.processes.memory
-  pub counts : EndsIn s process (WriteCounts call (caller_of s.processes process) s.files.io sent (length bytes)) t
+  pub counts : AttemptWithEnd s process (WriteCounts call (caller_of s.processes process) s.files.io sent
+      (length bytes)) t
 
 -- ---- events
 
@@ -129,7 +130,7 @@ pub record PutsIn (n : ℕ) (s : State) (bytes : List ℕ) (t : State) : Type 0 
 pub record LeavesPipe (n : ℕ) (s t : State) : Type 0 where
   pub held : pipe_bytes t.files.io n ≡ pipe_bytes s.files.io n
   pub attempt : (p : ℕ) (call : IoCall) (way : Direction) → s.chosen ≡ Some p → AttemptsOn s p n call way
-      → EndsIn s p (MovesNone (caller_of s.processes p)) t × (t.processes.memory ≡ s.processes.memory)
+      → AttemptWithEnd s p (MovesNone (caller_of s.processes p)) t × (t.processes.memory ≡ s.processes.memory)
 
 -- an event moves this through a pipe, or leaves it unchanged
 abbrev pub MovesThrough : ℕ → State → Option Movement → State → Type 0
@@ -185,7 +186,7 @@ pub record TellsMoved (before : Processes) (p signal moved : ℕ) (after : Proce
 
 -- What a run leaves unchanged from one event to the next: ticks, choices and the host, who takes the bytes that
 -- terminals were given, leave pipes, paths, pending calls, memory and registers unchanged.
-pub record Rests (m s : State) : Type 0 where
+pub record KeepsStreams (m s : State) : Type 0 where
   pub pipes : s.files.io.pipes ≡ m.files.io.pipes
   pub paths : s.files.io.paths ≡ m.files.io.paths
   pub calls : s.files.io.calls ≡ m.files.io.calls
@@ -195,8 +196,8 @@ pub record Rests (m s : State) : Type 0 where
 -- each of these events begins in the state after the one before it, the first one in s, and t is the state after the
 -- last one
 abbrev pub Linked : State → List Passing → State → Type 0
-Linked s [] t = Rests s t
-Linked s (it ∷ events) t = Rests s it.before × Linked it.after events t
+Linked s [] t = KeepsStreams s t
+Linked s (it ∷ events) t = KeepsStreams s it.before × Linked it.after events t
 
 -- the pipe lives in each of these states
 abbrev pub AllLive : ℕ → List State → Type 0

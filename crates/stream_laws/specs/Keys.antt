@@ -30,7 +30,7 @@ use Rattle.io_model.specs.declared.io_call.IoCall.{IoCall}
 use Rattle.io_model.specs.declared.io_call.IoCall.TheVariants as Call
 use Rattle.machine_model.specs.declared.ends.EventEnd.{EventEnd}
 use Rattle.machine_model.specs.declared.ends.EventEnd.TheVariants.{Ended}
-use Rattle.stream_laws.specs.Flow.{EndsIn}
+use Rattle.stream_laws.specs.Flow.{AttemptWithEnd}
 use Rattle.machine_model.specs.Event.{Event}
 use Rattle.machine_model.specs.Run.{Tick}
 use Rattle.machine_model.specs.State.{State}
@@ -75,20 +75,20 @@ pub record ReaderStops (n p : ℕ) (s : State) (end : EventEnd) : Type 0 where
 
 -- a process attempts a write on a path that was opened on this terminal, and the write is refused because the terminal
 -- failed
-pub record WriteFails (n p : ℕ) (s t : State) : Type 0 where
+pub record AttemptedWriteFails (n p : ℕ) (s t : State) : Type 0 where
   pub call : IoCall
   pub attempted : (code : ℕ) × (act_of s.processes p ≡ attempts code) × (io_call_of code ≡ Some call)
   pub way_is : direction_of_call call ≡ Some Writing
   pub path : (opened : OpenPath) × (open_path s.files.io p (path_number call (regs_at s.processes p)) ≡ Some opened)
       × (opened.desc.target ≡ Term n)
-  pub ends : EndsIn s p (λ end. end ≡ fails E_WRITE) t
+  pub ends : AttemptWithEnd s p (λ end. end ≡ fails E_WRITE) t
   pub faults : Rose (faults_at s n) (faults_at t n)
 
 -- an event of the chosen process drops it, and why
 pub record DropsLine (n : ℕ) (s : State) (end : EventEnd) (t : State) : Type 0 where
   pub process : ℕ
   pub chosen : s.chosen ≡ Some process
-  pub cause : ReaderStops n process s end ⊎ WriteFails n process s t
+  pub cause : ReaderStops n process s end ⊎ AttemptedWriteFails n process s t
   pub goes : LineGoes (terminal_at s.files.io n).line (terminal_at t.files.io n)
 
 -- ---- ticks
@@ -112,7 +112,7 @@ reading_of kind io p regs =
     record { process = pid p; kind = kind; most = min (asked_by io p regs) TYPE_AHEAD }
 
 -- a process attempts a read of this kind, whose path was opened on this terminal
-pub record ReadsFrom (s : State) (p n : ℕ) (kind : ReadKind) : Type 0 where
+pub record AttemptsTerminalRead (s : State) (p n : ℕ) (kind : ReadKind) : Type 0 where
   pub attempted : (code : ℕ) × (act_of s.processes p ≡ attempts code) × (io_call_of code ≡ Some (read_call kind))
   pub path : (opened : OpenPath) × (open_path s.files.io p (regs_at s.processes p).a ≡ Some opened)
       × (opened.desc.target ≡ Term n)
@@ -139,13 +139,14 @@ pub record UsesKeys (n : ℕ) (s : State) (keys : List ℕ) (t : State) : Type 0
   pub process : ℕ
   pub chosen : s.chosen ≡ Some process
   pub kind : ReadKind
-  pub attempt : ReadsFrom s process n kind
+  pub attempt : AttemptsTerminalRead s process n kind
   pub request : Reading
   pub request_is : request ≡ reading_of kind s.files.io process (regs_at s.processes process)
   pub alone : is_taken request.process (terminal_at s.files.io n) ≡ false
   pub front : ahead_at s n ≡ keys ++ ahead_at t n
   pub used : (typed request (terminal_at s.files.io n).line keys).left ≡ []
-  pub ends : EndsIn s process (ReadEnds n s process request (typed request (terminal_at s.files.io n).line keys) t) t
+  pub ends : AttemptWithEnd s process (ReadEnds n s process request (typed request (terminal_at s.files.io n).line keys)
+      t) t
   pub come : keys_to_come t n ≡ keys_to_come s n
 
 -- the process ends in this event, or a signal is delivered to it and its call waits on this terminal
@@ -169,8 +170,9 @@ pub record KeysStay (n : ℕ) (s : State) (end : EventEnd) (t : State) : Type 0 
   pub line : LineStays (terminal_at s.files.io n) (terminal_at t.files.io n) ⊎ DropsLine n s end t
   pub over : (p : ℕ) → s.chosen ≡ Some p → reader (terminal_at s.files.io n) ≡ Some (pid p) → StopsReading n p s end
       → (terminal_at t.files.io n).reading ≡ None
-  pub reads : (p : ℕ) (kind : ReadKind) → s.chosen ≡ Some p → ReadsFrom s p n kind
-      → EndsIn s p (UsesNone n (caller_of s.processes p) s.files.io) t × (t.processes.memory ≡ s.processes.memory)
+  pub reads : (p : ℕ) (kind : ReadKind) → s.chosen ≡ Some p → AttemptsTerminalRead s p n kind
+      → AttemptWithEnd s p (UsesNone n (caller_of s.processes p) s.files.io) t
+      × (t.processes.memory ≡ s.processes.memory)
 
 -- what happens to keys in a step of a run
 pub data KeyMove : Type 0 where
@@ -218,16 +220,16 @@ ahead_moves n steps = filter_map (λ it. through_ahead n it.before it.move) step
 -- What a run leaves unchanged from one step to the next: a choice, and the host, who takes the bytes that terminals
 -- were given, leave unchanged the kernel's input and output, the keys to come, and all of the processes except the
 -- order of choice.
-pub record Stands (m s : State) : Type 0 where
+pub record KeepsKeysToCome (m s : State) : Type 0 where
   pub io : s.files.io ≡ m.files.io
   pub come : (n : ℕ) → keys_to_come s n ≡ keys_to_come m n
   pub processes : s.processes ≡ record m.processes { order = s.processes.order }
 
 -- each of these steps begins in the state after the one before it, the first one in s, and t is the state after the
 -- last one
-abbrev pub FollowOn : State → List KeyStep → State → Type 0
-FollowOn s [] t = Stands s t
-FollowOn s (it ∷ steps) t = Stands s it.before × FollowOn it.after steps t
+abbrev pub KeyStepsFollow : State → List KeyStep → State → Type 0
+KeyStepsFollow s [] t = KeepsKeysToCome s t
+KeyStepsFollow s (it ∷ steps) t = KeepsKeysToCome s it.before × KeyStepsFollow it.after steps t
 
 -- the state after a step, if that is an event
 abbrev pub after_event : KeyMove → State → Option State
@@ -241,7 +243,7 @@ after_event stay after = Some after
 pub record KeysPass (n : ℕ) (s : State) (states : List State) (t : State) : Type 0 where
   pub steps : List KeyStep
   pub through : filter_map (λ it. after_event it.move it.after) steps ≡ states
-  pub linked : FollowOn s steps t
+  pub linked : KeyStepsFollow s steps t
   pub each : AllByRecursion (IsKeyStep n) steps
   pub come : keys_to_come s n ≡ flat_map (λ it. arrived_by it.move) steps ++ keys_to_come t n
   pub flow : Flows (ahead_moves n steps) (ahead_at s n) (ahead_at t n)

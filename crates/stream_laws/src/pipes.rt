@@ -8,7 +8,7 @@ ghost use Rattle.machine_model.specs.declared.ends.EventEnd.{EventEnd};
 ghost use Rattle.machine_model.specs.declared.ends.EventEnd.TheVariants.{Ended};
 ghost use Rattle.machine_model.specs.declared.ends.SliceEnd.{SliceEnd};
 ghost use Rattle.machine_model.specs.Event.{Event};
-ghost use Rattle.machine_model.specs.Run.{BeginsSlice, FirstSteps, Run, Slice, Steps};
+ghost use Rattle.machine_model.specs.Run.{BeginsSlice, FirstSteps, Run, Slice, SliceEvents};
 ghost use Rattle.machine_model.specs.State.{State};
 ghost use Rattle.stream_laws.specs.Flow.{TellsMoved, AllLive, IsBrokenOff, IsNew, Passes, PassesThrough};
 
@@ -46,7 +46,7 @@ pub fn a_new_pipe_is_empty()
 /// such a rest or of a slice, and over consecutive parts of a run.
 pub fn a_pipe_passes_bytes_as_long_as_it_lives()
     ensures rest { (left : ℕ) (s t : State) (states : List State) (n : ℕ)
-        → Steps left s states t → IsPipe s.files.io.pipes n → AllLive n states
+        → SliceEvents left s states t → IsPipe s.files.io.pipes n → AllLive n states
         → PassesThrough n s states t }
     ensures first { (left : ℕ) (s t : State) (states : List State) (n : ℕ)
         → FirstSteps left s states t → IsPipe s.files.io.pipes n → AllLive n states

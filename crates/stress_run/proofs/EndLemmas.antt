@@ -17,7 +17,7 @@ use Rattle.os9_outer.specs.declared.host.HostFault.TheVariants.{Failed, OutOfMem
 use Rattle.os9_words.specs.Streams.{WritesOut}
 use Rattle.lock_model.specs.declared.history.Entry.{Entry}
 use Rattle.guest_mods.specs.Stress.{IsLoad}
-use Rattle.machine_model.specs.ProcessStart.{Refuses}
+use Rattle.machine_model.specs.ProcessStart.{RefusesBoot}
 use Rattle.machine_model.specs.declared.ends.BootFault.{BootFault}
 use Rattle.os9_words.specs.Lines.{stress_line}
 use Rattle.rbf_model.specs.Volume.{DiskVolume}
@@ -26,7 +26,7 @@ use Rattle.guest_mods.proofs.AcceptedLemmas.{accepted}
 use Rattle.stress_run.specs.Counts.{counts_with}
 use Rattle.stress_run.specs.Disk.{seed_disk, seed_file}
 use Rattle.stress_run.specs.Stress.{LeavesStress, StressCall, StressComesTo, StressEnds, StressRuns, StressStops, StressUnprinted, stress_counts, stress_load, stress_setup}
-use Rattle.stress_run.specs.Told.{TellsCounts, TellsEnd, TellsNothing, WritesCounts, end_told}
+use Rattle.stress_run.specs.Told.{TellsCounts, ReportsRunEnd, TellsNothing, WritesCounts, end_told}
 use Rattle.stress_run.specs.declared.stress.StressEnd.{StressEnd}
 use Rattle.stress_run.specs.declared.stress.StressEnd.TheVariants.{Ended, Living, DriveFailed, OutputFailed, NoMemory}
 
@@ -75,7 +75,7 @@ is-load seed below = record {
   few_records = omega arith;
 }
 
-never-refused : (seed : ℕ) → seed < 2147483648 → (fault : BootFault) → Refuses (seed_file seed) 64 fault → ⊥
+never-refused : (seed : ℕ) → seed < 2147483648 → (fault : BootFault) → RefusesBoot (seed_file seed) 64 fault → ⊥
 never-refused seed below fault refuses =
     never-refused-accepted (seed_file seed) 64 (accepted (stress_load seed) (is-load seed below)) fault refuses
 
@@ -208,7 +208,7 @@ module _ {Host : Type 0} (members : Ghosts Host) (seed : ℕ) (below : seed < 21
       (subst (λ (now : Host). StressCall seed World-before (world_of members now after) stopped) (sym nothing.kept) call)
 
   pub called : (run_end : RunEnd) (end : StressEnd) (told : Host) → RunsImages (stress_setup seed) images history World-before
-      World-ran run_end → TellsEnd members run_end image end ran told → StressCall seed World-before
+      World-ran run_end → ReportsRunEnd members run_end image end ran told → StressCall seed World-before
       (world_of members told after) end
   called (Run.Ended begun) end told run tells =
       with-counts Ended false begun (Run.Ended begun) end told (λ same. cc) (λ same. cc) (λ ends. ends) tt run run.gives tells

@@ -4,11 +4,11 @@ use Rattle.proc_model.specs.Processes.{Processes}
 use Rattle.proc_model.specs.MemoryChanges.{started}
 use Rattle.proc_model.specs.Program.{area_pages, blocks_of_pages}
 use Rattle.machine_model.specs.declared.ends.BootFault.{BootFault}
-use Rattle.machine_model.specs.ProcessStart.{Refuses, StartsProcesses, boot_memory, first_process, first_start, only_process}
+use Rattle.machine_model.specs.ProcessStart.{RefusesBoot, StartsProcesses, boot_memory, first_process, first_start, only_process}
 use Rattle.machine_model.proofs.StartLaws.{never-both}
-use Rattle.guest_mods.specs.Accepted.{IsAccepted}
+use Rattle.guest_mods.specs.Accepted.{IsBootableFile}
 
-module _ (file : List ℕ) (blocks : ℕ) (accepted : IsAccepted file blocks) where
+module _ (file : List ℕ) (blocks : ℕ) (accepted : IsBootableFile file blocks) where
   -- the data area of the first process takes one block
   one-block : blocks_of_pages (area_pages accepted.entry 0 0) ≡ 1
   one-block = let few = accepted.storage in omega arith
@@ -27,6 +27,6 @@ module _ (file : List ℕ) (blocks : ℕ) (accepted : IsAccepted file blocks) wh
     },
   )
 
-  pub never-refused-accepted : (fault : BootFault) → Refuses file blocks fault → ⊥
+  pub never-refused-accepted : (fault : BootFault) → RefusesBoot file blocks fault → ⊥
   never-refused-accepted fault refusal =
       never-both file blocks starts-accepted.0 fault starts-accepted.1 refusal

@@ -40,11 +40,11 @@ pub record TellsNothing {Host : Type 0} (stopped end : StressEnd) (before now : 
   pub kept : now ≡ before
 
 -- what is printed after a run, by its end
-abbrev pub TellsEnd : {Host : Type 0} → Ghosts Host → RunEnd → List ℕ → StressEnd → Host → Host → Type 0
-TellsEnd members (Run.Ended begun) image end before now = TellsCounts members Ended begun image end before now
-TellsEnd members (Run.Living begun) image end before now = TellsCounts members Living begun image end before now
-TellsEnd members (Run.Refused fault) image end before now = TellsNothing NoMemory end before now
-TellsEnd members (Run.DriveFailed drive number) image end before now =
+abbrev pub ReportsRunEnd : {Host : Type 0} → Ghosts Host → RunEnd → List ℕ → StressEnd → Host → Host → Type 0
+ReportsRunEnd members (Run.Ended begun) image end before now = TellsCounts members Ended begun image end before now
+ReportsRunEnd members (Run.Living begun) image end before now = TellsCounts members Living begun image end before now
+ReportsRunEnd members (Run.Refused fault) image end before now = TellsNothing NoMemory end before now
+ReportsRunEnd members (Run.DriveFailed drive number) image end before now =
     TellsNothing (DriveFailed drive number) end before now
-TellsEnd members Run.OutputFailed image end before now = TellsNothing OutputFailed end before now
-TellsEnd members Run.NoMemory image end before now = TellsNothing NoMemory end before now
+ReportsRunEnd members Run.OutputFailed image end before now = TellsNothing OutputFailed end before now
+ReportsRunEnd members Run.NoMemory image end before now = TellsNothing NoMemory end before now

@@ -3,14 +3,14 @@
 ghost use Rattle.std.specs.Prelude.{◌≡◌, ◌<◌, IfOk};
 ghost use Rattle.file_drives.specs.Drives.{drives_seen};
 ghost use Rattle.boot_run.specs.Machine.{setup_of};
-ghost use Rattle.boot_run.specs.Ready.{AreEmptyAgain, AreFree, CanStart};
+ghost use Rattle.boot_run.specs.Ready.{AreEmptyAgain, DevicesAreFree, IsValidStart};
 ghost use Rattle.boot_run.specs.World.{world_of};
 ghost use Rattle.os9_kernel.specs.Outside.{outside};
 ghost use Rattle.os9_words.specs.Notes.{notes_of};
 ghost use Rattle.stress_run.specs.Disk.{IsDiskOf};
 ghost use Rattle.stress_run.specs.Stress.{StressCall, stress_setup};
 ghost use Rattle.stress_run.specs.Told as model;
-ghost use Rattle.stress_run.specs.Told.{TellsEnd, WritesCounts};
+ghost use Rattle.stress_run.specs.Told.{ReportsRunEnd, WritesCounts};
 
 use crate::counts::count_volume;
 use boot_run::RunEnd;
@@ -75,7 +75,7 @@ pub fn run_stress<H: Host>(
     host: &mut H,
     devices: &mut Devices,
 ) -> StressEnd
-    requires devices { AreFree 1 (outside BlockDriver-box CharDriver-box devices.old) }
+    requires devices { DevicesAreFree 1 (outside BlockDriver-box CharDriver-box devices.old) }
     requires seed { seed < 2147483648 }
     ensures call { StressCall seed
         (world_of H.Host host.old (outside BlockDriver-box CharDriver-box devices.old))
@@ -118,7 +118,7 @@ fn stress_start(alloc: Global, seed: u32, images: &Images) -> Result<Start, OutO
     requires seed { seed < 2147483648 }
     requires disk { IsDiskOf seed images.now }
     ensures setup { IfOk result (λ start. setup_of start images.now ≡ stress_setup seed) }
-    ensures can_start { IfOk result CanStart }
+    ensures can_start { IfOk result IsValidStart }
 {
     let file = match boot_file(alloc, images) {
         Ok(file) => file,
@@ -138,7 +138,7 @@ fn stress_start(alloc: Global, seed: u32, images: &Images) -> Result<Start, OutO
 /// The end of a stress, by the end of its run, which left this image of D0. The counts are passed
 /// to the output stream if the run went to its end.
 fn tell_end<H: Host>(alloc: Global, end: RunEnd, image: &[u8], host: &mut H) -> StressEnd
-    ensures told { TellsEnd H.Host end image.now result host.old host.new }
+    ensures told { ReportsRunEnd H.Host end image.now result host.old host.new }
     ensures notes_kept { notes_of H.Host host.new ≡ notes_of H.Host host.old }
 {
     match end {

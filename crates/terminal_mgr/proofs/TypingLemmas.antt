@@ -1,7 +1,7 @@
 -- Keys that are typed one after another.
 use Rattle.std.proofs.Common.{◌≡◌, ℕ, ◌<◌, Option, Some, None, List, [], ◌∷◌, ◌++◌, length, drop, slice_get, refl, sym, ap, subst, ◌∙◌, append_assoc, append-nil}
 use Rattle.os9_outer.specs.Stream.{stream_with}
-use Rattle.io_model.specs.Edit.{Editing, Edited, HasRoom, Typing, typing, after_key, after_echo, after_typing}
+use Rattle.io_model.specs.Edit.{Editing, Edited, HasLineRoom, Typing, typing, after_key, after_echo, after_typing}
 use Rattle.io_model.specs.declared.edit.LineEnd.{LineEnd}
 use Rattle.io_model.specs.Terminal.{key_effect, typed}
 use Rattle.io_model.specs.declared.terminal.Reading.{Reading}
@@ -122,6 +122,6 @@ module _ (request : Reading) (old now : Editing) (ahead here left : List ℕ) (b
       }
 
 -- a line that may still be typed has room for a byte
-pub room-left : (most : ℕ) (end : Option LineEnd) (line : Editing) → HasRoom most end line → end ≡ None → length line.bytes < most
+pub room-left : (most : ℕ) (end : Option LineEnd) (line : Editing) → HasLineRoom most end line → end ≡ None → length line.bytes < most
 room-left most None line room unended = room.more
 room-left most (Some end) line room unended = absurd cc

@@ -24,13 +24,13 @@ terminal_of ahead line reading user =
     record { ahead = ahead; line = line; reading = reading; user = user }
 
 -- the line has room for a byte that the read asks for
-pub record HasRead (line : Editing) (reading : Reading) : Type 0 where
+pub record HasRoomForRead (line : Editing) (reading : Reading) : Type 0 where
   pub most : reading.most ≤ 256
   pub room : length line.bytes < reading.most
 
 -- a line exists only for a read
 abbrev pub HasLine : Editing → Option Reading → Type 0
-HasLine line reading = MatchOption reading (line.bytes ≡ []) (HasRead line)
+HasLine line reading = MatchOption reading (line.bytes ≡ []) (HasRoomForRead line)
 
 -- the invariant of a terminal: the type-ahead is within its limit, and so is the line
 pub record IsTerminal (t : Terminal) : Type 0 where

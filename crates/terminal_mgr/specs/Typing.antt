@@ -5,7 +5,7 @@ use Rattle.os9_outer.specs.TerminalState.{TerminalState}
 use Rattle.os9_outer.specs.declared.terminal.PutFault.{PutFault}
 use Rattle.os9_outer.specs.declared.terminal.PutFault.TheVariants.{Fault, OutOfMemory}
 use Rattle.io_model.specs.Edit.{Editing}
-use Rattle.io_model.specs.Terminal.{Terminal, typed, last_effect, is_refused, BreaksOff, Attempted, typed_attempt, LeavesDriver, stored_over}
+use Rattle.io_model.specs.Terminal.{Terminal, typed, last_effect, is_refused, BreaksOffEcho, Attempted, typed_attempt, LeavesDriver, stored_over}
 use Rattle.io_model.specs.declared.edit.LineEnd.{LineEnd}
 use Rattle.io_model.specs.declared.terminal.Progress.{Progress}
 use Rattle.io_model.specs.declared.terminal.Progress.TheVariants.{NoMemory}
@@ -39,9 +39,9 @@ refusal_answer Fault = progress.Fault
 refusal_answer OutOfMemory = NoMemory
 
 -- a read that waits for no other read gave this answer, and filled the buffer in this way
-pub record Comes (request : Reading) (answer : Progress) (old new : Terminal) (before now : TerminalState)
+pub record ReturnsProgress (request : Reading) (answer : Progress) (old new : Terminal) (before now : TerminalState)
     (buffer filled : List ℕ) : Type 0 where
-  pub outcome : MatchBool (is_refused answer) (BreaksOff request old new before now)
+  pub outcome : MatchBool (is_refused answer) (BreaksOffEcho request old new before now)
       (Attempted (typed_attempt request old) answer new before now)
   pub driver : LeavesDriver answer before now
   pub stored : filled ≡ stored_over (if is_refused answer then [] else (typed_attempt request old).stored) buffer

@@ -1,11 +1,11 @@
 ghost use Rattle.std.specs.Prelude.{◌≡◌, ◌<◌, ◌≤◌, IfOk, OnErr, length};
 ghost use Rattle.os9_base.specs.Count.{Rose};
 ghost use Rattle.os9_outer.specs.Terminal.{OnFault, UnlessFault};
-ghost use Rattle.io_model.specs.Edit.{HasRoom};
+ghost use Rattle.io_model.specs.Edit.{HasLineRoom};
 ghost use Rattle.io_model.specs.Terminal.{key_effect, stored_over};
-ghost use Rattle.line_edit.specs.Echo.{Makes};
+ghost use Rattle.line_edit.specs.Echo.{IsEditResult};
 ghost use Rattle.terminal_mgr.specs.Term.{terminal_of, HasLine, lent_terminal_state};
-ghost use Rattle.terminal_mgr.specs.Typing.{IsTyped, TypingBreaksOff, Comes, refusal_answer};
+ghost use Rattle.terminal_mgr.specs.Typing.{IsTyped, TypingBreaksOff, ReturnsProgress, refusal_answer};
 
 use crate::driver::put_bytes;
 use crate::type_ahead::TypeAhead;
@@ -22,8 +22,8 @@ use os9_outer::terminal::{CharDriver, PutFault};
 fn press(line: &mut Line, request: Reading, key: u8) -> EditOut
     requires most { request.most ≤ 256 }
     requires room { length line.old.bytes < request.most }
-    ensures effect { Makes (key_effect request line.old key) line.new result }
-    ensures room { HasRoom request.most result.end line.new }
+    ensures effect { IsEditResult (key_effect request line.old key) line.new result }
+    ensures room { HasLineRoom request.most result.end line.new }
 {
     match request.kind {
         ReadKind::Bytes => copy(line, request.most, key),
@@ -45,7 +45,7 @@ pub(crate) fn type_keys(
         (bytes_put d.old) (bytes_put d.new)) }
     ensures broken { OnErr result (TypingBreaksOff request line.old line.new ahead.old ahead.new
         (bytes_put d.old) (bytes_put d.new)) }
-    ensures room { IfOk result (λ end. HasRoom request.most end line.new) }
+    ensures room { IfOk result (λ end. HasLineRoom request.most end line.new) }
     ensures within { length ahead.new ≤ 256 }
     ensures fault_counted { OnFault result (Rose (term_faults d.old) (term_faults d.new)) }
     ensures faults_kept { UnlessFault result (term_faults d.new ≡ term_faults d.old) }
@@ -78,7 +78,7 @@ pub(crate) fn read_keys(
     requires most { request.most ≤ 256 }
     requires room { length unfinished.old.line.bytes < request.most }
     requires buffer { request.most ≤ length into.old }
-    ensures outcome { Comes request result
+    ensures outcome { ReturnsProgress request result
         (terminal_of ahead.old unfinished.old.line unfinished.old.reading (Some request.process))
         (terminal_of ahead.new unfinished.new.line unfinished.new.reading (Some request.process))
         (lent_terminal_state CharDriver-dyn d.old)

@@ -2,7 +2,7 @@
 use Rattle.std.proofs.Common.{◌≡◌, ◌≤◌, ◌<◌, ℕ, zero, suc, ◌+◌, ◌-◌, ◌&&◌, Bool, true, false, nat_le, refl, ap, subst, sym, ◌∙◌, arith, inl, inr, if◌then◌else◌}
 use Rattle.std.proofs.lemmas.Bool.{and_parts, leb-true, cases_lt}
 use Rattle.os9_base.specs.declared.registers.TimePacket.{TimePacket}
-use Rattle.time_rules.specs.CivilTime.{is_leap, days_of_years, days_of_months, month_days, year_days, CivilTime, is_civil, day_number, second_number, time_packet, IsAfter}
+use Rattle.time_rules.specs.CivilTime.{is_leap, days_of_years, days_of_months, month_days, year_days, CivilTime, is_civil, day_number, second_number, time_packet, IsTimeAfter}
 
 -- a month has at most 31 days
 month-short : (year month : ℕ) → month_days year month ≤ 31
@@ -164,8 +164,8 @@ same-time s t one other same =
     }
 
 -- and so one packet of so many seconds after another
-pub same-packet : (base : TimePacket) (seconds : ℕ) (one other : TimePacket) → IsAfter base seconds one
-    → IsAfter base seconds other → one ≡ other
+pub same-packet : (base : TimePacket) (seconds : ℕ) (one other : TimePacket) → IsTimeAfter base seconds one
+    → IsTimeAfter base seconds other → one ≡ other
 same-packet base seconds one other is_one is_other =
     let same : is_one.time ≡ is_other.time =
     same-time is_one.time is_other.time (parts-of is_one.time is_one.civil) (parts-of is_other.time is_other.civil) (is_one.later ∙ sym is_other.later) in

@@ -2,7 +2,7 @@
 use Rattle.std.proofs.Common.{◌≡◌, ◌≤◌, ℕ, zero, suc, ◌+◌, ◌-◌, true, nat_le, refl, ap, sym, subst, arith, inl, inr}
 use Rattle.std.proofs.lemmas.Bool.{and_from, le-leb, cases_lt}
 use Rattle.os9_base.specs.declared.registers.TimePacket.{TimePacket}
-use Rattle.time_rules.specs.CivilTime.{days_of_years, days_of_months, month_days, CivilTime, is_civil, second_number, packet_time, time_packet, is_time_packet, IsAfter}
+use Rattle.time_rules.specs.CivilTime.{days_of_years, days_of_months, month_days, CivilTime, is_civil, second_number, packet_time, time_packet, is_time_packet, IsTimeAfter}
 use Rattle.time_rules.proofs.Days.{AreParts, parts-of, year-sum}
 
 -- a date and time so many seconds after another
@@ -123,7 +123,7 @@ later-time t (suc seconds) is =
     }
 
 pub later-packet : (base : TimePacket) (seconds : ℕ) → is_time_packet base ≡ true
-    → (packet : TimePacket) × IsAfter base seconds packet
+    → (packet : TimePacket) × IsTimeAfter base seconds packet
 later-packet base seconds is =
     let later = later-time (packet_time base) seconds is in
     (time_packet later.time, record { time = later.time; civil = later.civil; later = later.later; given = refl })

@@ -77,7 +77,7 @@ time_packet t = record {
 }
 
 -- the packet of the civil time this number of seconds after another packet's
-pub record IsAfter (base : TimePacket) (seconds : ℕ) (packet : TimePacket) : Type 0 where
+pub record IsTimeAfter (base : TimePacket) (seconds : ℕ) (packet : TimePacket) : Type 0 where
   pub time : CivilTime
   pub civil : is_civil time ≡ true
   pub later : second_number time ≡ second_number (packet_time base) + seconds

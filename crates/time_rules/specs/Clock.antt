@@ -2,7 +2,7 @@
 -- project's own).
 use Rattle.std.specs.Prelude.{◌≡◌, ℕ, ◌-◌, ◌/◌, ◌≤◌, true}
 use Rattle.os9_base.specs.declared.registers.TimePacket.{TimePacket}
-use Rattle.time_rules.specs.CivilTime.{is_time_packet, IsAfter}
+use Rattle.time_rules.specs.CivilTime.{is_time_packet, IsTimeAfter}
 use Rattle.time_rules.specs.declared.clock.Clock.{Clock}
 use Rattle.time_rules.specs.declared.clock.TheConstants.{TICKS_PER_SECOND}
 
@@ -16,7 +16,7 @@ seconds_since clock tick = (tick - clock.since) / TICKS_PER_SECOND
 
 -- the packet is that of the time in this tick
 abbrev pub IsNow : Clock → ℕ → TimePacket → Type 0
-IsNow clock tick packet = IsAfter clock.from (seconds_since clock tick) packet
+IsNow clock tick packet = IsTimeAfter clock.from (seconds_since clock tick) packet
 
 -- what always holds of a clock: it was set to a civil date and time, and not after this tick
 pub record IsClock (clock : Clock) (tick : ℕ) : Type 0 where

@@ -1,5 +1,5 @@
 ghost use Rattle.std.specs.Prelude.{Some};
-ghost use Rattle.rbf_access.specs.Mounted.{IsMounted, IsSound};
+ghost use Rattle.rbf_access.specs.Mounted.{IsMounted, IsSoundMedia};
 
 use crate::fields::{RowError, number};
 use crate::words::Words;
@@ -100,7 +100,7 @@ fn on_image(
     bytes: &[u8],
     image: &[u8],
 ) -> Result<Answer, RowError>
-    requires { IsSound (Some image.now) }
+    requires { IsSoundMedia (Some image.now) }
 {
     let mut drive = RamDrive::new(Vec::new(alloc));
     let answer = on_drive(alloc, words, bytes, image, &mut drive)?;
@@ -129,7 +129,7 @@ fn on_drive(
     image: &[u8],
     d: &mut dyn BlockDriver,
 ) -> Result<Done, RowError>
-    requires { IsSound (Some image.now) }
+    requires { IsSoundMedia (Some image.now) }
 {
     let copy = image.to_vec(alloc)?;
     let Ok(()) = d.insert(copy) else {

@@ -14,7 +14,7 @@ use Rattle.rbf_model.specs.File.{DiskFile, is_directory}
 use Rattle.rbf_model.specs.Volume.{DiskVolume}
 use Rattle.rbf_model.specs.Walk.{WalkEnd, arrives, not_allowed, directory_entries, entry_has_name, file_permits, look_up, may_search}
 use Rattle.rbf_change.specs.Names.{deletion_end, deletion_of, entry_place, is_dots, may_change, may_delete, new_entry, place_of}
-use Rattle.rbf_change.specs.NewFiles.{Deletes, Refusal, bad_path, exists}
+use Rattle.rbf_change.specs.NewFiles.{Deletes, NewEntryRefusal, bad_path, exists}
 use Rattle.rbf_change.specs.NewFiles as new
 use Rattle.rbf_entries.specs.Entering.{Entering, refusal_of}
 use Rattle.vol_tools.specs.Path.{Place, behind, is_name_text, last_place, parts, place_in, place_of as path_place}
@@ -45,7 +45,7 @@ nowhere contents name none = by (place_of contents name) refl
     by (Some i) is = absurd (false≢true (sym none ∙ ap is_some (looked-up contents name i is)))
 
 -- a name that may be entered is not there
-unnamed : (dots changes named : Bool) (rest : Option Refusal)
+unnamed : (dots changes named : Bool) (rest : Option NewEntryRefusal)
     → (if dots then Some bad_path else (if not changes then Some new.not_allowed else (if named then Some exists else rest))) ≡ None → named ≡ false
 unnamed dots changes false rest h = refl
 unnamed true changes true rest h = absurd (cc h)

@@ -9,7 +9,7 @@ use Rattle.rbf_change.specs.Calls.{shape, cluster_size}
 use Rattle.rbf_change.specs.NewFiles.{file_plan}
 use Rattle.rbf_access.specs.Drive.{DriveCounts, MovesCounts}
 use Rattle.rbf_access.specs.MapMarks.{marking_sectors}
-use Rattle.rbf_access.specs.Mounted.{Represents}
+use Rattle.rbf_access.specs.Mounted.{RepresentsVolume}
 use Rattle.rbf_access.specs.declared.faults.FileFault.{FileFault}
 use Rattle.rbf_access.specs.declared.faults.FileFault.TheVariants as file
 use Rattle.rbf_walk.proofs.Stepping.{file_in}
@@ -18,7 +18,7 @@ use Rattle.rbf_write.specs.Files.{HasDataFile}
 use Rattle.rbf_write.specs.Outcomes.{AnswersWrite, AreMarked, WriteIsEnded, unchanged, stopped, write_calls}
 use Rattle.vol_tools.specs.Names.{place}
 use Rattle.vol_tools.specs.Numbers.{create_number}
-use Rattle.vol_tools.specs.Refusals.{MakingStops, MayLeave, halfway, unchanged as as_before, full, long}
+use Rattle.vol_tools.specs.Refusals.{MakingStops, ToolMayLeave, halfway, unchanged as as_before, full, long}
 use Rattle.vol_tools.specs.Tool.{put, CreatesAt, file_attributes}
 use Rattle.vol_tools.specs.UsesInTurn.{Use}
 use Rattle.vol_tools.specs.Answers.{AnswersTool, GivesOn, LeavesOn}
@@ -40,15 +40,15 @@ module _ (path bytes : List ℕ) (now : TimePacket) (v : DiskVolume) where
   use_ = record { tool = put path bytes; now = now }
 
   -- the path names no place for a new file
-  pub no_place : (old : Option (List ℕ)) → Represents old v → create_number v path ≡ Some E_BPNAM → AnswersTool {A = Unit {0}} use_ (λ _. []) v old old (Err (Number E_BPNAM))
+  pub no_place : (old : Option (List ℕ)) → RepresentsVolume old v → create_number v path ≡ Some E_BPNAM → AnswersTool {A = Unit {0}} use_ (λ _. []) v old old (Err (Number E_BPNAM))
   no_place old on h = record { volume = v; on = on; refuses = inl (h, refl); kept = λ _. refl }
 
-  by_ends : (w : DiskVolume) → (w ≡ v) ⊎ ((create_number v path ≡ None) × MakingStops v w path (λ d k. file_plan file_attributes 0 now)) → MayLeave (put path bytes) now v w
+  by_ends : (w : DiskVolume) → (w ≡ v) ⊎ ((create_number v path ≡ None) × MakingStops v w path (λ d k. file_plan file_attributes 0 now)) → ToolMayLeave (put path bytes) now v w
   by_ends w (inl same) = as_before same
   by_ends w (inr half) = halfway half.0 (inl half.1)
 
   -- the file was not made
-  pub not_made : (old new : Option (List ℕ)) (fault : ToolFault) → Represents old v → AnswersMaking (new_file now) path v old new (Err fault)
+  pub not_made : (old new : Option (List ℕ)) (fault : ToolFault) → RepresentsVolume old v → AnswersMaking (new_file now) path v old new (Err fault)
       → AnswersTool {A = Unit {0}} use_ (λ _. []) v old new (Err fault)
   not_made old new (Number n) on h = record { volume = v; on = still old new v h.1 on; refuses = inl (h.0, refl); kept = λ _. h.1 }
   not_made old new (Device n) on h = record { volume = h.volume; on = h.on; may = by_ends h.volume h.ends }
@@ -97,7 +97,8 @@ module _ (path bytes : List ℕ) (now : TimePacket) (v : DiskVolume) where
       }
 
 -- a file of the media is one
-same_file : (media : Option (List ℕ)) (u w : DiskVolume) (n : ℕ) (one other : DiskFile) → Represents media u → u.files n ≡ Some one → Represents media w → w.files n ≡ Some other → one ≡ other
+same_file : (media : Option (List ℕ)) (u w : DiskVolume) (n : ℕ) (one other : DiskFile) → RepresentsVolume media u
+    → u.files n ≡ Some one → RepresentsVolume media w → w.files n ≡ Some other → one ≡ other
 same_file media u w n one other on is on_w is_w =
     let both : ◌≡◌ {A = Option DiskFile} (Some one) (Some other) = sym (file_in media n (record { content = u; on = on; file = one; is = is }) w on_w) ∙ is_w in
     cc

@@ -21,7 +21,7 @@ use Rattle.rbf_model.proofs.Owners.{cluster_positive}
 use Rattle.rbf_model.proofs.Unique.{vol_is_unique}
 use Rattle.rbf_check.specs.Lost.{IsLostOf}
 use Rattle.vol_tools.specs.Tool.{repaired}
-use Rattle.vol_tools.specs.Clearing.{bit_of, ClearsMark, ClearsBits, IsCleared}
+use Rattle.vol_tools.specs.Clearing.{bit_of, ClearsMark, ClearsBits, ClearsLostClusters}
 use Rattle.vol_tools.proofs.Bits.{bit_cleared, set_in_sector}
 use Rattle.vol_tools.proofs.Lists.{filter_has, has_filter, distinct_filter, distinct_from, within_count}
 use Rattle.vol_tools.proofs.OneFreed.{mark_in, in_image, one_freed}
@@ -178,7 +178,7 @@ module _ (old lost : List ℕ) (i : ℕ) (now : List ℕ) (under : IsUnderRepair
     }
 
 -- when all are free
-pub freed_all : (old lost : List ℕ) (i : ℕ) (now : List ℕ) → length lost ≤ i → IsUnderRepair old lost i now → IsCleared old lost now
+pub freed_all : (old lost : List ℕ) (i : ℕ) (now : List ℕ) → length lost ≤ i → IsUnderRepair old lost i now → ClearsLostClusters old lost now
 freed_all old lost i now end under = record {
   gives = λ w is.
       let same : under.volume ≡ w = vol_is_unique old under.volume w under.was is in

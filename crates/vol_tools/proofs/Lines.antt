@@ -15,19 +15,19 @@ use Rattle.rbf_model.specs.Walk.{directory_entries}
 use Rattle.rbf_model.proofs.Lists.{some_of}
 use Rattle.rbf_model.proofs.Walked.{entry_file}
 use Rattle.rbf_access.specs.Drive.{DriveCounts}
-use Rattle.rbf_access.specs.Mounted.{HasFile, IsMounted, Represents}
+use Rattle.rbf_access.specs.Mounted.{HasFile, IsMounted, RepresentsVolume}
 use Rattle.rbf_access.specs.Reading.{IsFdOf, OnFile}
 use Rattle.rbf_access.specs.declared.volume.Volume.{Volume}
 use Rattle.rbf_sector.specs.declared.fd.Fd.{Fd}
 use Rattle.rbf_walk.proofs.Stepping.{file_in}
 use Rattle.vol_tools.specs.Listing.{entry_line, file_line}
 use Rattle.vol_tools.specs.Faults.{MovesFaults}
-use Rattle.vol_tools.specs.Listed.{HasListing, NamesFile, lines_of}
+use Rattle.vol_tools.specs.Listed.{HasListing, EntryNamesFile, lines_of}
 use Rattle.vol_tools.proofs.Counts.{no_faults, faults_then}
 use Rattle.vol_tools.proofs.Ways.{still}
 
 -- a used entry of a directory, after the first two, names a file
-pub names_file : (media : Option (List ℕ)) (contents : List ℕ) (has : HasListing media contents) (i : ℕ) → 2 ≤ i → 32 * (i + 1) ≤ length contents → NamesFile media (directory_entry contents i)
+pub names_file : (media : Option (List ℕ)) (contents : List ℕ) (has : HasListing media contents) (i : ℕ) → 2 ≤ i → 32 * (i + 1) ≤ length contents → EntryNamesFile media (directory_entry contents i)
 names_file media contents has i after within used =
     let files = has.content.files in
     let entry : HasEntry has.directory.contents i =
@@ -60,7 +60,7 @@ pub record AreListedTo (contents : List ℕ) (media : Option (List ℕ)) (place 
   pub most : place ≤ max 2 (length contents / 32)
   pub same : now ≡ media
   pub mounted : IsMounted volume now
-  pub listed : (v : DiskVolume) → Represents media v → lines ≡ lines_of v (map (directory_entry contents) (range_with_len 2 (place - 2)))
+  pub listed : (v : DiskVolume) → RepresentsVolume media v → lines ≡ lines_of v (map (directory_entry contents) (range_with_len 2 (place - 2)))
   pub counted : MovesFaults None before counts
 
 pub none_listed : (contents : List ℕ) (media : Option (List ℕ)) (lines : List ℕ) (volume : Volume) (counts : DriveCounts) → lines ≡ [] → IsMounted volume media
@@ -73,14 +73,14 @@ module _ (contents : List ℕ) (media : Option (List ℕ)) (place : ℕ) (lines 
   pub entry_within : place < length contents / 32 → 32 * (place + 1) ≤ length contents
   entry_within low = omega arith
 
-  pub entry_names : HasListing media contents → place < length contents / 32 → (entry : List ℕ) → entry ≡ directory_entry contents place → NamesFile mid entry
+  pub entry_names : HasListing media contents → place < length contents / 32 → (entry : List ℕ) → entry ≡ directory_entry contents place → EntryNamesFile mid entry
   entry_names has low entry is used =
       let f = names_file media contents has place so_far.after (omega arith) (subst (λ e. is_used e ≡ true) is used) in
       let here : HasFile mid (descriptor_field (directory_entry contents place)) = record { content = f.content; on = still media mid f.content so_far.same f.on; file = f.file; is = f.is } in
       subst (λ e. HasFile mid (descriptor_field e)) (sym is) here
 
   pub one_more : place < length contents / 32 → (entry now_lines : List ℕ) (after : Volume) (now : Option (List ℕ)) (later : DriveCounts) → entry ≡ directory_entry contents place
-      → ((v : DiskVolume) → Represents mid v → now_lines ≡ lines ++ lines_of v (entry ∷ [])) → now ≡ mid → IsMounted after now → MovesFaults None counts later
+      → ((v : DiskVolume) → RepresentsVolume mid v → now_lines ≡ lines ++ lines_of v (entry ∷ [])) → now ≡ mid → IsMounted after now → MovesFaults None counts later
       → AreListedTo contents media (place + 1) now_lines after now before later
   one_more low entry now_lines after now later is line same mounted counted =
       let from = so_far.after in
@@ -97,7 +97,7 @@ module _ (contents : List ℕ) (media : Option (List ℕ)) (place : ℕ) (lines 
         counted = faults_then None before counts later so_far.counted counted;
       }
 
-  pub all_listed : (length contents / 32 ≤ place) → (v : DiskVolume) → Represents media v → lines ≡ lines_of v (drop 2 (directory_entries contents))
+  pub all_listed : (length contents / 32 ≤ place) → (v : DiskVolume) → RepresentsVolume media v → lines ≡ lines_of v (drop 2 (directory_entries contents))
   all_listed past v on =
       let from = so_far.after in
       let most = so_far.most in
@@ -112,7 +112,8 @@ unused_line v entry lines free =
     sym (append-nil lines) ∙ ap (λ xs. lines ++ flat_map (entry_line v) xs) (sym (cond-false (is_used entry) (entry ∷ []) [] free))
 
 -- the line of a used one
-pub used_line : (media : Option (List ℕ)) (v : DiskVolume) (on : Represents media v) (entry old now : List ℕ) (has : HasFile media (descriptor_field entry)) (fd : Fd) (n : ℕ) → is_used entry ≡ true
+pub used_line : (media : Option (List ℕ)) (v : DiskVolume) (on : RepresentsVolume media v) (entry old now : List ℕ)
+    (has : HasFile media (descriptor_field entry)) (fd : Fd) (n : ℕ) → is_used entry ≡ true
     → n ≡ descriptor_field entry → OnFile media n (λ f. IsFdOf f fd)
     → ((f : DiskFile) → IsFdOf f fd → now ≡ old ++ file_line (unwrap_or (entry_name_field entry) []) (Some f))
     → now ≡ old ++ lines_of v (entry ∷ [])
@@ -124,5 +125,5 @@ used_line media v on entry old now has fd n used same known line =
     ∙ ap (λ xs. old ++ flat_map (entry_line v) xs) (sym (cond-true (is_used entry) (entry ∷ []) [] used))
 
 -- the descriptor that a used entry names is that of a file
-pub named_file : (media : Option (List ℕ)) (entry : List ℕ) (n : ℕ) → NamesFile media entry → is_used entry ≡ true → n ≡ descriptor_field entry → HasFile media n
+pub named_file : (media : Option (List ℕ)) (entry : List ℕ) (n : ℕ) → EntryNamesFile media entry → is_used entry ≡ true → n ≡ descriptor_field entry → HasFile media n
 named_file media entry n names used same = subst (HasFile media) (sym same) (names used)

@@ -8,7 +8,7 @@ use Rattle.rbf_model.specs.Volume.{DiskVolume}
 use Rattle.rbf_model.specs.Walk.{arrives}
 use Rattle.rbf_change.specs.Names.{is_dots}
 use Rattle.rbf_change.specs.NewFiles.{Plan}
-use Rattle.rbf_access.specs.Mounted.{Represents}
+use Rattle.rbf_access.specs.Mounted.{RepresentsVolume}
 use Rattle.rbf_access.specs.declared.faults.FileFault.TheVariants as file
 use Rattle.rbf_walk.specs.declared.error.DirError.{DirError}
 use Rattle.rbf_walk.specs.declared.error.DirError.TheVariants.{NotAllowed, BadPath, NotFound, Exists, File}
@@ -22,7 +22,7 @@ use Rattle.vol_tools.specs.Path.{place_of}
 use Rattle.vol_tools.specs.Tool.{LeadsTo, file_attributes}
 use Rattle.vol_tools.specs.Answers.{AnswersWay}
 use Rattle.vol_tools.specs.Faults.{of_directory}
-use Rattle.vol_tools.specs.Making.{Making, MadeOn, MakingEnds, AnswersMaking, IsNewPlaceOf, new_file}
+use Rattle.vol_tools.specs.Making.{Making, MadeOn, ToolMakingEnds, AnswersMaking, IsNewPlaceOf, new_file}
 use Rattle.vol_tools.specs.declared.fault.ToolFault.{ToolFault}
 use Rattle.vol_tools.specs.declared.fault.ToolFault.TheVariants.{Number, Device, OutOfMemory}
 use Rattle.vol_tools.proofs.Ways.{stops_short, still}
@@ -37,7 +37,8 @@ module _ (making : Making) (path : List ℕ) (at : Place) (new_at : IsNewPlaceOf
       ∙ cond-false (is_dots at.name) (Some E_BPNAM) (on_arrival (way_end v at.way.items) (λ d. entering_number v at.name making.size (v.files d))) new_at.proper
 
   -- the way does not lead to a directory
-  pub way-refuses : (old mid : Option (List ℕ)) (fault : ToolFault) → mid ≡ old → Represents old v → AnswersWay (way_end v at.way.items) (Err fault) → AnswersMaking making path v old mid (Err fault)
+  pub way-refuses : (old mid : Option (List ℕ)) (fault : ToolFault) → mid ≡ old → RepresentsVolume old v
+      → AnswersWay (way_end v at.way.items) (Err fault) → AnswersMaking making path v old mid (Err fault)
   way-refuses old mid (Number n) same on h = (number-is ∙ stops_short (way_end v at.way.items) (λ d. entering_number v at.name making.size (v.files d)) n h, same)
   way-refuses old mid (Device n) same on h = record { volume = v; on = still old mid v same on; ends = inl refl }
   way-refuses old mid OutOfMemory same on h = absurd h
@@ -58,8 +59,8 @@ module _ (making : Making) (path : List ℕ) (at : Place) (new_at : IsNewPlaceOf
           ∙ ap (entering_number v at.name making.size) there
           ∙ ap (λ n. entering_number v at.name n (Some dir)) (sym sized)
 
-      module _ (old mid new : Option (List ℕ)) (same : mid ≡ old) (on : Represents old v) where
-        stopped : EnteringStops v dir entering mid new → MakingEnds making path v new
+      module _ (old mid new : Option (List ℕ)) (same : mid ≡ old) (on : RepresentsVolume old v) where
+        stopped : EnteringStops v dir entering mid new → ToolMakingEnds making path v new
         stopped (unchanged kept) = record { volume = v; on = still old new v (kept ∙ same) on; ends = inl refl }
         stopped (took it) = record {
           volume = it.left;

@@ -8,8 +8,8 @@ use Rattle.rbf_model.specs.File.{DiskFile, is_directory}
 use Rattle.rbf_model.specs.Volume.{DiskVolume}
 use Rattle.rbf_model.specs.Walk.{arrives, file_permits}
 use Rattle.rbf_access.specs.Faults.{file_fault}
-use Rattle.rbf_access.specs.Mounted.{HasFile, Represents}
-use Rattle.rbf_access.specs.Reading.{IsFdOf, IsRead, OnFile}
+use Rattle.rbf_access.specs.Mounted.{HasFile, RepresentsVolume}
+use Rattle.rbf_access.specs.Reading.{IsFdOf, IsReadInto, OnFile}
 use Rattle.rbf_access.specs.declared.faults.FileFault.{FileFault}
 use Rattle.rbf_access.specs.declared.faults.FileFault.TheVariants as file
 use Rattle.rbf_sector.specs.declared.fd.Fd.{Fd}
@@ -23,7 +23,7 @@ use Rattle.vol_tools.specs.UsesInTurn.{Use}
 use Rattle.vol_tools.specs.Answers.{AnswersTool, AnswersWay, GivesOn, RefusesOn}
 use Rattle.vol_tools.specs.Listed.{HasListing}
 use Rattle.vol_tools.specs.Faults.{of_file}
-use Rattle.vol_tools.specs.Opening.{AnswersBytes, AnswersOpening, HasOpened, IsOpened, is_of_kind}
+use Rattle.vol_tools.specs.Opening.{AnswersBytes, AnswersOpening, HasOpened, IsOpenedFile, is_of_kind}
 use Rattle.vol_tools.specs.declared.fault.ToolFault.{ToolFault}
 use Rattle.vol_tools.specs.declared.fault.ToolFault.TheVariants.{Number, Device, OutOfMemory}
 use Rattle.vol_tools.specs.declared.opening.Kind.{Kind}
@@ -45,7 +45,7 @@ module _ (v : DiskVolume) (names : List (List ℕ)) (kind : Kind) where
       pub closed : test ≡ false → reading_number v (is_of_kind kind) (Some names) ≡ Some E_FNA
       closed fails = number-is ∙ cond-false (is_of_kind kind f && file_permits f 0 1) None (Some E_FNA) (sym (tested f fields) ∙ fails)
 
-      pub opened : test ≡ true → (o : Opened) → o.number ≡ n → o.size ≡ fd.size → IsOpened v names kind o
+      pub opened : test ≡ true → (o : Opened) → o.number ≡ n → o.size ≡ fd.size → IsOpenedFile v names kind o
       opened passes o same sized = record {
         file = f;
         there = ap v.files same ∙ there;
@@ -78,14 +78,14 @@ pub file_opened : (media mid : Option (List ℕ)) (o : Opened) → mid ≡ media
 file_opened media mid o same has = record { content = has.content; on = still media mid has.content same has.on; file = has.file; is = has.is }
 
 -- a read into as many bytes as the file has fills them
-pub all_read : (f : DiskFile) (before now : List ℕ) (count : ℕ) → IsRead f 0 before now count → length before ≡ length f.contents → now ≡ f.contents
+pub all_read : (f : DiskFile) (before now : List ℕ) (count : ℕ) → IsReadInto f 0 before now count → length before ≡ length f.contents → now ≡ f.contents
 all_read f before now count it long =
     let all : take (length before) f.contents ≡ f.contents = take_all (length before) f.contents (omega arith) in
     let rest : drop (length (take (length before) f.contents)) before ≡ [] = drop_all _ before (let whole = ap length all in omega arith) in
     it.buffer_is ∙ ap (λ xs. take (length before) f.contents ++ xs) rest ∙ ap (λ xs. xs ++ []) all ∙ append-nil f.contents
 
 -- the file of a number is one
-pub same_contents : (media : Option (List ℕ)) (o : Opened) (has : HasOpened media o) (v : DiskVolume) (f : DiskFile) → Represents media v → v.files o.number ≡ Some f → o.size ≡ length f.contents
+pub same_contents : (media : Option (List ℕ)) (o : Opened) (has : HasOpened media o) (v : DiskVolume) (f : DiskFile) → RepresentsVolume media v → v.files o.number ≡ Some f → o.size ≡ length f.contents
 same_contents media o has v f on is =
     let both : ◌≡◌ {A = Option DiskFile} (Some has.file) (Some f) = sym (file_in media o.number (record { content = has.content; on = has.on; file = has.file; is = has.is }) v on) ∙ is in
     let one : has.file ≡ f = same_file both in
@@ -101,7 +101,7 @@ error_bytes A B are other (Device n) h = tt
 error_bytes A B are other OutOfMemory h = tt
 
 -- a tool that only reads is refused
-pub refused_reading : (use_ : Use) (v : DiskVolume) (old : Option (List ℕ)) → Represents old v
+pub refused_reading : (use_ : Use) (v : DiskVolume) (old : Option (List ℕ)) → RepresentsVolume old v
     → (new : Option (List ℕ)) (n : ℕ) → new ≡ old → refused_number v use_.tool ≡ Some n → RefusesOn use_ v n old new
 refused_reading use_ v old on new n same h = record { volume = v; on = still old new v same on; refuses = inl (h, refl); kept = λ _. same }
 
@@ -110,7 +110,7 @@ pub opening_as : (v : DiskVolume) (names way : List (List ℕ)) (kind : Kind) (r
 opening_as v names way kind r same h = subst (λ x. AnswersOpening v x kind r) same h
 
 -- a read into all bytes of a list gives it the file's
-pub whole_read : (f : DiskFile) (items before now : List ℕ) (len count : ℕ) → IsRead f 0 before now count → before ≡ items → length items ≡ length f.contents → len ≡ length items
+pub whole_read : (f : DiskFile) (items before now : List ℕ) (len count : ℕ) → IsReadInto f 0 before now count → before ≡ items → length items ≡ length f.contents → len ≡ length items
     → take len (now ++ drop (length now) items) ≡ f.contents
 whole_read f items before now len count it same long most =
     let is : now ≡ f.contents = all_read f before now count it (ap length same ∙ long) in
@@ -119,7 +119,7 @@ whole_read f items before now len count it same long most =
     ap (λ xs. take len (now ++ xs)) rest ∙ ap (take len) (append-nil now) ∙ take_all len now (omega arith) ∙ is
 
 -- answers of a tool that only reads
-module _ (A : Type 0) (bytes : A → List ℕ) (use_ : Use) (v : DiskVolume) (old : Option (List ℕ)) (on : Represents old v) where
+module _ (A : Type 0) (bytes : A → List ℕ) (use_ : Use) (v : DiskVolume) (old : Option (List ℕ)) (on : RepresentsVolume old v) where
   pub reading_ended : (new : Option (List ℕ)) (B : Type 0) (are : B → Type 0) (fault : ToolFault) → new ≡ old → AnswersBytes are (Err fault) → AnswersTool {A = A} use_ bytes v old new (Err fault)
   reading_ended new B are (Number n) same h = absurd h
   reading_ended new B are (Device n) same h = record { volume = v; on = still old new v same on; may = unchanged refl }
@@ -132,15 +132,15 @@ module _ (A : Type 0) (bytes : A → List ℕ) (use_ : Use) (v : DiskVolume) (ol
   opening_ended new names kind OutOfMemory same is h = absurd h
 
 -- what is opened is not refused
-allowed_opened : (v : DiskVolume) (names : List (List ℕ)) (kind : Kind) (o : Opened) → IsOpened v names kind o → reading_number v (is_of_kind kind) (Some names) ≡ None
+allowed_opened : (v : DiskVolume) (names : List (List ℕ)) (kind : Kind) (o : Opened) → IsOpenedFile v names kind o → reading_number v (is_of_kind kind) (Some names) ≡ None
 allowed_opened v names kind o it =
     ap (λ end. on_arrival end (λ m. opening_number (is_of_kind kind) (v.files m))) it.leads
     ∙ ap (opening_number (is_of_kind kind)) it.there
     ∙ cond-true (is_of_kind kind it.file && file_permits it.file 0 1) None (Some E_FNA) it.readable
 
 -- the bytes of a file that is got
-pub got : (v : DiskVolume) (path : List ℕ) (now : TimePacket) (names : List (List ℕ)) (old new : Option (List ℕ)) → new ≡ old → Represents old v
-    → path_names path ≡ Some names → (o : Opened) → (it : IsOpened v names File o)
+pub got : (v : DiskVolume) (path : List ℕ) (now : TimePacket) (names : List (List ℕ)) (old new : Option (List ℕ)) → new ≡ old → RepresentsVolume old v
+    → path_names path ≡ Some names → (o : Opened) → (it : IsOpenedFile v names File o)
     → (bytes : List ℕ) → bytes ≡ it.file.contents → GivesOn (record { tool = get path; now = now }) v bytes new
 got v path now names old new same on are o it bytes is = record {
   volume = v;
@@ -157,8 +157,8 @@ got v path now names old new same on are o it bytes is = record {
 }
 
 -- the lines of a directory that is listed
-pub listed : (v : DiskVolume) (path : List ℕ) (now : TimePacket) (names : List (List ℕ)) (old new : Option (List ℕ)) → new ≡ old → Represents old v
-    → directory_names path ≡ Some names → (o : Opened) → (it : IsOpened v names Directory o)
+pub listed : (v : DiskVolume) (path : List ℕ) (now : TimePacket) (names : List (List ℕ)) (old new : Option (List ℕ)) → new ≡ old → RepresentsVolume old v
+    → directory_names path ≡ Some names → (o : Opened) → (it : IsOpenedFile v names Directory o)
     → (lines : List ℕ) → lines ≡ directory_lines v it.file → GivesOn (record { tool = list path; now = now }) v lines new
 listed v path now names old new same on are o it lines is = record {
   volume = v;
@@ -174,8 +174,8 @@ listed v path now names old new same on are o it lines is = record {
   );
 }
 
-pub has_listing : (media mid : Option (List ℕ)) (v : DiskVolume) → Represents media v → mid ≡ media
-    → (names : List (List ℕ)) (o : Opened) (it : IsOpened v names Directory o) (contents : List ℕ) → contents ≡ it.file.contents → HasListing mid contents
+pub has_listing : (media mid : Option (List ℕ)) (v : DiskVolume) → RepresentsVolume media v → mid ≡ media
+    → (names : List (List ℕ)) (o : Opened) (it : IsOpenedFile v names Directory o) (contents : List ℕ) → contents ≡ it.file.contents → HasListing mid contents
 has_listing media mid v on same names o it contents is = record {
   content = v;
   on = still media mid v same on;
@@ -187,7 +187,7 @@ has_listing media mid v on same names o it contents is = record {
 }
 
 -- the last call of a tool that only reads gives its bytes, or ends it
-pub last_reads : (A : Type 0) (bytes : A → List ℕ) (use_ : Use) (v : DiskVolume) (old new : Option (List ℕ)) (are : A → Type 0) → Represents old v → new ≡ old → ((a : A)
+pub last_reads : (A : Type 0) (bytes : A → List ℕ) (use_ : Use) (v : DiskVolume) (old new : Option (List ℕ)) (are : A → Type 0) → RepresentsVolume old v → new ≡ old → ((a : A)
     → are a → GivesOn use_ v (bytes a) new)
     → (r : Result A ToolFault) → AnswersBytes are r → AnswersTool use_ bytes v old new r
 last_reads A bytes use_ v old new are on same gives (Ok a) h = gives a h

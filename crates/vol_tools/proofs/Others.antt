@@ -23,16 +23,16 @@ use Rattle.rbf_change.specs.Calls.{cluster_size, is_free_in, shape}
 use Rattle.rbf_change.specs.Contents.{sector_count}
 use Rattle.rbf_change.specs.Growth.{with_clusters}
 use Rattle.rbf_change.specs.Names.{entry_place, freed_entry, new_entry}
-use Rattle.rbf_change.specs.NewFiles.{IsEntered, IsNewFile, Plan}
+use Rattle.rbf_change.specs.NewFiles.{IsFileEntered, IsNewFile, Plan}
 use Rattle.rbf_change.specs.Tidy.{KeepsListEnd}
 use Rattle.rbf_change.proofs.LawfulWrites.{shape-image}
-use Rattle.rbf_access.specs.Mounted.{Represents}
+use Rattle.rbf_access.specs.Mounted.{RepresentsVolume}
 use Rattle.rbf_entries.specs.Entering.{Entering, IsEnteredOn}
 use Rattle.rbf_entries.specs.NewEntry.{sector_of_place}
 use Rattle.rbf_entries.specs.Deleted.{IsDeleted, IsDeletedBy}
 use Rattle.rbf_write.proofs.Gained.{cluster_sectors, sectors_with}
 use Rattle.rbf_write.specs.Laying.{IsTidyChange, Laying}
-use Rattle.rbf_write.specs.Outcomes.{IsWritten}
+use Rattle.rbf_write.specs.Outcomes.{AreBytesWritten}
 use Rattle.vol_tools.specs.Names.{place}
 use Rattle.vol_tools.specs.declared.place.Place.{Place}
 use Rattle.vol_tools.specs.Numbers.{way_end}
@@ -117,10 +117,10 @@ module _ (v w : DiskVolume) (s : ℕ) (none : IsOfNewFile v w s → ⊥) where
 list-same : (one other : List ℕ) → other ≡ one → KeepsListEnd one other
 list-same one other same = subst (KeepsListEnd one) (sym same) (record { same = λ is i past. refl; ended = inl refl; behind = λ i past. refl })
 
-module _ (path : List ℕ) (v : DiskVolume) (old new : Option (List ℕ)) (on : Represents old v) where
+module _ (path : List ℕ) (v : DiskVolume) (old new : Option (List ℕ)) (on : RepresentsVolume old v) where
   -- a new file
   module _ (dir : DiskFile) (e : Entering) (dir-there : v.files e.directory ≡ Some dir) (n : ℕ) (it : IsEnteredOn v dir e old new n) (leads : LeadsTo v path e.directory e.name) where
-    abbrev both : IsEntered v e.directory n e.name (e.plan n)
+    abbrev both : IsFileEntered v e.directory n e.name (e.plan n)
     both = it.enters.both
 
     vol : Vol it.image v
@@ -250,7 +250,7 @@ module _ (path : List ℕ) (v : DiskVolume) (old new : Option (List ℕ)) (on : 
 module _ (path : List ℕ) (write : Laying) (mid new : Option (List ℕ)) (image inner now : List ℕ)
     (between : mid ≡ Some inner) (is : new ≡ Some now) (first : KeepsOthers path image inner)
     (kept : sector inner 0 ≡ sector image 0) (gone : first.before.files write.number ≡ None) (file : DiskFile)
-    (it : IsWritten first.after file write mid new) where
+    (it : AreBytesWritten first.after file write mid new) where
   abbrev n : ℕ
   n = write.number
 

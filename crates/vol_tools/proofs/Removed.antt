@@ -6,7 +6,7 @@ use Rattle.rbf_model.specs.File.{DiskFile}
 use Rattle.rbf_model.specs.Volume.{DiskVolume}
 use Rattle.rbf_model.specs.Walk.{arrives}
 use Rattle.rbf_change.specs.Names.{deletion_end}
-use Rattle.rbf_access.specs.Mounted.{Represents}
+use Rattle.rbf_access.specs.Mounted.{RepresentsVolume}
 use Rattle.rbf_access.specs.declared.faults.FileFault.TheVariants as file
 use Rattle.rbf_walk.specs.Walk.{directory_fault}
 use Rattle.rbf_walk.specs.declared.error.DirError.{DirError}
@@ -16,7 +16,7 @@ use Rattle.vol_tools.specs.Names.{place}
 use Rattle.vol_tools.specs.declared.place.Place.{Place}
 use Rattle.vol_tools.specs.Numbers.{way_end, on_arrival, deleting_number, removing_number, remove_number}
 use Rattle.vol_tools.specs.Path.{place_of}
-use Rattle.vol_tools.specs.Refusals.{MayLeave, halfway, unchanged}
+use Rattle.vol_tools.specs.Refusals.{ToolMayLeave, halfway, unchanged}
 use Rattle.vol_tools.specs.Tool.{remove, LeadsTo}
 use Rattle.vol_tools.specs.UsesInTurn.{Use}
 use Rattle.vol_tools.specs.Answers.{AnswersTool, AnswersWay, LeavesOn}
@@ -29,7 +29,7 @@ module _ (path : List ℕ) (now : TimePacket) (v : DiskVolume) where
   abbrev use_ : Use
   use_ = record { tool = remove path; now = now }
 
-  pub no_place : (old : Option (List ℕ)) → Represents old v → remove_number v path ≡ Some E_BPNAM → AnswersTool {A = Unit {0}} use_ (λ _. []) v old old (Err (Number E_BPNAM))
+  pub no_place : (old : Option (List ℕ)) → RepresentsVolume old v → remove_number v path ≡ Some E_BPNAM → AnswersTool {A = Unit {0}} use_ (λ _. []) v old old (Err (Number E_BPNAM))
   no_place old on h = record { volume = v; on = on; refuses = inl (h, refl); kept = λ _. refl }
 
   module _ (at : Place) (is : place_of path ≡ Some (place at)) where
@@ -37,7 +37,7 @@ module _ (path : List ℕ) (now : TimePacket) (v : DiskVolume) where
     number-is = ap (removing_number v) is
 
     -- the way does not lead to a directory
-    pub way-refuses : (old mid : Option (List ℕ)) (fault : ToolFault) → mid ≡ old → Represents old v → AnswersWay (way_end v at.way.items) (Err fault)
+    pub way-refuses : (old mid : Option (List ℕ)) (fault : ToolFault) → mid ≡ old → RepresentsVolume old v → AnswersWay (way_end v at.way.items) (Err fault)
         → AnswersTool {A = Unit {0}} use_ (λ _. []) v old mid (Err fault)
     way-refuses old mid (Number n) same on h = record {
       volume = v;
@@ -56,7 +56,7 @@ module _ (path : List ℕ) (now : TimePacket) (v : DiskVolume) where
       number-here : (f : DiskFile) → v.files d ≡ Some f → remove_number v path ≡ on_arrival (deletion_end v.files f at.name 0 false) (λ n. None)
       number-here f here = number-is ∙ ap (λ end. on_arrival end (λ n. deleting_number v at.name (v.files n))) way ∙ ap (deleting_number v at.name) here
 
-      module _ (old mid new : Option (List ℕ)) (same : mid ≡ old) (on : Represents old v) where
+      module _ (old mid new : Option (List ℕ)) (same : mid ≡ old) (on : RepresentsVolume old v) where
         refused : (n : ℕ) → remove_number v path ≡ Some n → new ≡ mid → AnswersTool {A = Unit {0}} use_ (λ _. []) v old new (Err (Number n))
         refused n h kept = record { volume = v; on = still old new v (kept ∙ same) on; refuses = inl (h, refl); kept = λ _. kept ∙ same }
 

@@ -10,7 +10,7 @@ use Rattle.rbf_model.specs.Disk.{disk_of, IsDisk}
 use Rattle.rbf_model.specs.Segments.{AreDistinct, has}
 use Rattle.rbf_model.specs.File.{DiskFile, file_at, is_directory, is_directory_size, has_room}
 use Rattle.rbf_model.specs.Space.{is_marked, is_whole, owned, owns, has_cluster, system_sectors, IsMapped, IsLost}
-use Rattle.rbf_model.specs.Tree.{dot, dot_dot, EntryNames, Reached, root, named, IsEntry, of_root, HasDots, parent_first}
+use Rattle.rbf_model.specs.Tree.{dot, dot_dot, EntryNames, ReachedFile, root, named, IsEntry, of_root, HasDots, parent_first}
 use Rattle.rbf_model.specs.Volume.{Shows, IsTree, Sound, listing, directories}
 use Rattle.rbf_model.proofs.Segments.{range_has, has_range}
 use Rattle.rbf_model.proofs.Space.{cluster_from_owns, owns_from_cluster}
@@ -109,7 +109,7 @@ module _ (disk : ℕ → List ℕ) (s k : ℕ) (now : TimePacket) (blank : HasBl
       (subst (λ bytes. IsEntry (directory_entry bytes 1) dot r) (sym root-bytes) self)
       (of_root refl refl)
 
-  only-reached : {n : ℕ} → Reached g (directories files) n → n ≡ r
+  only-reached : {n : ℕ} → ReachedFile g (directories files) n → n ≡ r
   only-reached root = refl
   only-reached (named {d = d} {i = i} {n = n} from names number) = absurd (no-entry d i n names)
 
@@ -126,7 +126,7 @@ module _ (disk : ℕ → List ℕ) (s k : ℕ) (now : TimePacket) (blank : HasBl
   tree : IsTree g files
   tree = record {
     reached = λ n. (
-      λ some. subst (Reached g (directories files)) (sym (some-is n some)) root,
+      λ some. subst (ReachedFile g (directories files)) (sym (some-is n some)) root,
       λ is. is-some n (only-reached is),
     );
     root = λ file is. ap is_directory (only r file is).1;

@@ -13,7 +13,7 @@ use Rattle.rbf_change.specs.Names.{freed_entry}
 use Rattle.rbf_change.specs.NewFiles.{Deletes}
 use Rattle.rbf_change.specs.Tidy.{IsMapEnd, KeepsMapEnd, MayKeepMapEnd}
 use Rattle.rbf_change.proofs.LawfulWrites.{shape-image}
-use Rattle.rbf_access.specs.Mounted.{Represents}
+use Rattle.rbf_access.specs.Mounted.{RepresentsVolume}
 use Rattle.rbf_access.specs.declared.faults.FileFault.{FileFault}
 use Rattle.rbf_access.specs.declared.faults.FileFault.TheVariants as file
 use Rattle.rbf_walk.specs.declared.error.DirError.{DirError}
@@ -149,10 +149,10 @@ module _ (image now : List ℕ) (v w : DiskVolume) (vol : Vol image v) (left : V
     }
 
 -- the image of a volume is the one that a change names
-pub vol_of : (old : Option (List ℕ)) (v : DiskVolume) (on : Represents old v) (image : List ℕ) → old ≡ Some image → Vol image v
+pub vol_of : (old : Option (List ℕ)) (v : DiskVolume) (on : RepresentsVolume old v) (image : List ℕ) → old ≡ Some image → Vol image v
 vol_of old v on image was = let one : on.image ≡ image = some_is (sym on.is ∙ was) in subst (λ x. Vol x v) one on.vol
 
-module _ (v : DiskVolume) (old new : Option (List ℕ)) (on : Represents old v) where
+module _ (v : DiskVolume) (old new : Option (List ℕ)) (on : RepresentsVolume old v) where
   -- a new file
   pub entering-tail : (dir : DiskFile) (e : Entering) (r : Result ℕ DirError) → AnswersEntering v dir e old new r → OnMedia KeepsTail old new
   entering-tail dir e (Ok n) it =

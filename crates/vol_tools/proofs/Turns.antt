@@ -1,13 +1,13 @@
 -- Tools in turn.
 use Rattle.std.proofs.Common.{◌≡◌, ℕ, Option, List, [], ◌∷◌, ◌++◌, sym, subst}
 use Rattle.rbf_model.specs.Volume.{DiskVolume}
-use Rattle.rbf_access.specs.Mounted.{Represents}
+use Rattle.rbf_access.specs.Mounted.{RepresentsVolume}
 use Rattle.rbf_walk.proofs.Stepping.{same_content}
 use Rattle.vol_tools.specs.UsesInTurn.{Use, GivesInTurn, none, next}
 use Rattle.vol_tools.specs.Answers.{GivesOn}
 use Rattle.vol_tools.specs.InTurn.{LeavesInTurn}
 
-pub one_use : (use_ : Use) (v : DiskVolume) (answer : List ℕ) (old new : Option (List ℕ)) → Represents old v → GivesOn use_ v answer new → LeavesInTurn (use_ ∷ []) old new (answer ∷ [])
+pub one_use : (use_ : Use) (v : DiskVolume) (answer : List ℕ) (old new : Option (List ℕ)) → RepresentsVolume old v → GivesOn use_ v answer new → LeavesInTurn (use_ ∷ []) old new (answer ∷ [])
 one_use use_ v answer old new on it = record { before = v; was = on; after = it.volume; is = it.on; gives = next it.gives none }
 
 -- one list behind another

@@ -8,7 +8,7 @@ use Rattle.rbf_model.specs.Walk.{walk, WalkEnd, arrives, not_allowed, not_found}
 use Rattle.rbf_model.proofs.Lists.{some_of}
 use Rattle.rbf_change.specs.Agrees.{Agrees}
 use Rattle.rbf_change.specs.Calls.{shape}
-use Rattle.rbf_access.specs.Mounted.{kept, HasFile, IsMounted, Represents}
+use Rattle.rbf_access.specs.Mounted.{mounted_part, HasFile, IsMounted, RepresentsVolume}
 use Rattle.rbf_access.specs.declared.faults.FileFault.TheVariants as file
 use Rattle.rbf_access.specs.declared.volume.Volume.{Volume}
 use Rattle.rbf_walk.specs.Walk.{AnswersWalk}
@@ -21,9 +21,9 @@ use Rattle.vol_tools.specs.declared.fault.ToolFault.{ToolFault}
 
 -- what a volume is called by that says so of the root
 abbrev pub IsRootOf : Volume → ℕ → Type 0
-IsRootOf volume n = (image : List ℕ) (v : DiskVolume) → Agrees (kept volume) image → Vol image v → n ≡ (shape v).root
+IsRootOf volume n = (image : List ℕ) (v : DiskVolume) → Agrees (mounted_part volume) image → Vol image v → n ≡ (shape v).root
 
-root_some : (media : Option (List ℕ)) (v : DiskVolume) → Represents media v → (file : DiskFile) × (v.files (shape v).root ≡ Some file)
+root_some : (media : Option (List ℕ)) (v : DiskVolume) → RepresentsVolume media v → (file : DiskFile) × (v.files (shape v).root ≡ Some file)
 root_some media v on =
     let g = image_geometry on.image in
     let same : (shape v).root ≡ g.root = ap (λ ident. (geometry ident).root) on.vol.sound.shows.ident in
@@ -35,10 +35,10 @@ root_there volume media m n is =
     let f = root_some media m.content m.on in
     record { content = m.content; on = m.on; file = f.0; is = ap m.content.files at ∙ f.1 }
 
-pub root_is : (volume : Volume) (media : Option (List ℕ)) → IsMounted volume media → (n : ℕ) → IsRootOf volume n → (v : DiskVolume) → Represents media v → n ≡ (shape v).root
+pub root_is : (volume : Volume) (media : Option (List ℕ)) → IsMounted volume media → (n : ℕ) → IsRootOf volume n → (v : DiskVolume) → RepresentsVolume media v → n ≡ (shape v).root
 root_is volume media m n is v on =
     let one : m.on.image ≡ on.image = some_is (sym m.on.is ∙ on.is) in
-    is on.image v (subst (Agrees (kept volume)) one m.agrees) on.vol
+    is on.image v (subst (Agrees (mounted_part volume)) one m.agrees) on.vol
   where
     some_is : {a b : List ℕ} → ◌≡◌ {A = Option (List ℕ)} (Some a) (Some b) → a ≡ b
     some_is h = cc
@@ -74,5 +74,5 @@ stops_short not_allowed next n h = h
 stops_short not_found next n h = h
 
 -- the media is as it was
-pub still : (media mid : Option (List ℕ)) (v : DiskVolume) → mid ≡ media → Represents media v → Represents mid v
+pub still : (media mid : Option (List ℕ)) (v : DiskVolume) → mid ≡ media → RepresentsVolume media v → RepresentsVolume mid v
 still media mid v same on = record { image = on.image; is = same ∙ on.is; vol = on.vol }

@@ -2,9 +2,9 @@
 use Rattle.std.specs.Prelude.{◌≡◌, ℕ, Option, Some, None, List, Result, Ok, Err}
 use Rattle.rbf_model.specs.Volume.{DiskVolume}
 use Rattle.rbf_model.specs.Walk.{WalkEnd, arrives}
-use Rattle.rbf_access.specs.Mounted.{Represents}
+use Rattle.rbf_access.specs.Mounted.{RepresentsVolume}
 use Rattle.vol_tools.specs.Numbers.{on_arrival}
-use Rattle.vol_tools.specs.Refusals.{MayLeave, Refuses, refused_number}
+use Rattle.vol_tools.specs.Refusals.{ToolMayLeave, RefusesTool, refused_number}
 use Rattle.vol_tools.specs.Tool.{Gives}
 use Rattle.vol_tools.specs.UsesInTurn.{Use}
 use Rattle.vol_tools.specs.declared.fault.ToolFault.{ToolFault}
@@ -13,21 +13,21 @@ use Rattle.vol_tools.specs.declared.fault.ToolFault.TheVariants.{Number, Device,
 -- the media represents the volume that the tool gives, and this is its answer
 pub record GivesOn (use_ : Use) (v : DiskVolume) (answer : List ℕ) (new : Option (List ℕ)) : Type 0 where
   pub volume : DiskVolume
-  pub on : Represents new volume
+  pub on : RepresentsVolume new volume
   pub gives : Gives use_.tool use_.now v volume answer
 
 -- the tool is refused with this number; if at once, the media is unchanged
 pub record RefusesOn (use_ : Use) (v : DiskVolume) (number : ℕ) (old new : Option (List ℕ)) : Type 0 where
   pub volume : DiskVolume
-  pub on : Represents new volume
-  pub refuses : Refuses use_.tool use_.now v volume number
+  pub on : RepresentsVolume new volume
+  pub refuses : RefusesTool use_.tool use_.now v volume number
   pub kept : refused_number v use_.tool ≡ Some number → new ≡ old
 
 -- a fault of the drive has ended the tool
 pub record LeavesOn (use_ : Use) (v : DiskVolume) (new : Option (List ℕ)) : Type 0 where
   pub volume : DiskVolume
-  pub on : Represents new volume
-  pub may : MayLeave use_.tool use_.now v volume
+  pub on : RepresentsVolume new volume
+  pub may : ToolMayLeave use_.tool use_.now v volume
 
 -- each answer of a tool with its cause and what it leaves; `bytes` are the bytes of an answer
 abbrev pub AnswersTool : {A : Type 0} → Use → (A → List ℕ) → DiskVolume → Option (List ℕ) → Option (List ℕ)
@@ -41,7 +41,7 @@ AnswersTool use_ bytes v old new (Err OutOfMemory) = new ≡ old
 abbrev pub OnVolumeBefore : {A : Type 0} → Use → (A → List ℕ) → Option (List ℕ) → Option (List ℕ)
     → Result A ToolFault → Type 0
 OnVolumeBefore use_ bytes old new result =
-    (v : DiskVolume) → Represents old v → AnswersTool use_ bytes v old new result
+    (v : DiskVolume) → RepresentsVolume old v → AnswersTool use_ bytes v old new result
 
 -- the answer of a walk from the root with this end, if no fault of the drive ended it before
 abbrev pub AnswersWay : WalkEnd → Result ℕ ToolFault → Type 0

@@ -24,6 +24,6 @@ pub record ClearsBits (old new lost : List ℕ) : Type 0 where
   pub front : take 256 new ≡ take 256 old
 
 -- the same, so the image represents the volume without these lost clusters
-pub record IsCleared (old lost new : List ℕ) : Type 0 where
+pub record ClearsLostClusters (old lost new : List ℕ) : Type 0 where
   pub gives : (v : DiskVolume) → Vol old v → Vol new (repaired v)
   pub bits : ClearsBits old new lost

@@ -3,13 +3,13 @@ use Rattle.std.specs.Prelude.{◌≡◌, ℕ, true, Option, Some, List, [], ◌�
 use Rattle.rbf_model.specs.Fields.{is_used, descriptor_field}
 use Rattle.rbf_model.specs.File.{DiskFile, is_directory}
 use Rattle.rbf_model.specs.Volume.{DiskVolume}
-use Rattle.rbf_access.specs.Mounted.{HasFile, Represents}
+use Rattle.rbf_access.specs.Mounted.{HasFile, RepresentsVolume}
 use Rattle.vol_tools.specs.Listing.{entry_line}
 
 -- the bytes are those of a directory of the volume that the media represents
 pub record HasListing (media : Option (List ℕ)) (contents : List ℕ) : Type 0 where
   pub content : DiskVolume
-  pub on : Represents media content
+  pub on : RepresentsVolume media content
   pub number : ℕ
   pub directory : DiskFile
   pub is : content.files number ≡ Some directory
@@ -17,8 +17,8 @@ pub record HasListing (media : Option (List ℕ)) (contents : List ℕ) : Type 0
   pub bytes : directory.contents ≡ contents
 
 -- a used entry names a file
-abbrev pub NamesFile : Option (List ℕ) → List ℕ → Type 0
-NamesFile media entry = is_used entry ≡ true → HasFile media (descriptor_field entry)
+abbrev pub EntryNamesFile : Option (List ℕ) → List ℕ → Type 0
+EntryNamesFile media entry = is_used entry ≡ true → HasFile media (descriptor_field entry)
 
 -- the lines of these entries: one for each used entry
 abbrev pub lines_of : DiskVolume → List (List ℕ) → List ℕ

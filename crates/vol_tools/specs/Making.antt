@@ -3,8 +3,8 @@ use Rattle.std.specs.Prelude.{◌≡◌, ◌⊎◌, ℕ, false, Option, Some, No
 use Rattle.os9_base.specs.declared.registers.TimePacket.{TimePacket}
 use Rattle.rbf_model.specs.Volume.{DiskVolume}
 use Rattle.rbf_change.specs.Names.{is_dots}
-use Rattle.rbf_change.specs.NewFiles.{Enters, Plan, file_plan, directory_plan}
-use Rattle.rbf_access.specs.Mounted.{Represents}
+use Rattle.rbf_change.specs.NewFiles.{EntersNewFile, Plan, file_plan, directory_plan}
+use Rattle.rbf_access.specs.Mounted.{RepresentsVolume}
 use Rattle.vol_tools.specs.Names.{place}
 use Rattle.vol_tools.specs.declared.place.Place.{Place}
 use Rattle.vol_tools.specs.Numbers.{making_number}
@@ -34,16 +34,16 @@ new_directory now = record { size = 64; plan = directory_plan directory_attribut
 pub record MadeOn (making : Making) (path : List ℕ) (v : DiskVolume) (n : ℕ) (new : Option (List ℕ)) : Type 0 where
   pub allowed : making_number v making.size (place_of path) ≡ None
   pub volume : DiskVolume
-  pub on : Represents new volume
+  pub on : RepresentsVolume new volume
   pub directory : ℕ
   pub name : List ℕ
   pub leads : LeadsTo v path directory name
-  pub enters : Enters v volume directory n name (making.plan directory n)
+  pub enters : EntersNewFile v volume directory n name (making.plan directory n)
 
 -- a fault of the drive has ended it: nothing has changed, or it would not have been refused, and clusters may be lost
-pub record MakingEnds (making : Making) (path : List ℕ) (v : DiskVolume) (new : Option (List ℕ)) : Type 0 where
+pub record ToolMakingEnds (making : Making) (path : List ℕ) (v : DiskVolume) (new : Option (List ℕ)) : Type 0 where
   pub volume : DiskVolume
-  pub on : Represents new volume
+  pub on : RepresentsVolume new volume
   pub ends : (volume ≡ v)
       ⊎ ((making_number v making.size (place_of path) ≡ None) × MakingStops v volume path making.plan)
 
@@ -53,11 +53,11 @@ abbrev pub AnswersMaking : Making → List ℕ → DiskVolume → Option (List �
 AnswersMaking making path v old new (Ok n) = MadeOn making path v n new
 AnswersMaking making path v old new (Err (Number n)) =
     (making_number v making.size (place_of path) ≡ Some n) × (new ≡ old)
-AnswersMaking making path v old new (Err (Device n)) = MakingEnds making path v new
+AnswersMaking making path v old new (Err (Device n)) = ToolMakingEnds making path v new
 AnswersMaking making path v old new (Err OutOfMemory) = ⊥
 
 -- the same on the volume that the media represented before
 abbrev pub MakesOn : Making → Place → Option (List ℕ) → Option (List ℕ) → Result ℕ ToolFault → Type 0
 MakesOn making at old new result =
-    (path : List ℕ) (v : DiskVolume) → IsNewPlaceOf path at → Represents old v
+    (path : List ℕ) (v : DiskVolume) → IsNewPlaceOf path at → RepresentsVolume old v
     → AnswersMaking making path v old new result

@@ -6,7 +6,7 @@ use Rattle.rbf_model.specs.Volume.{DiskVolume}
 use Rattle.rbf_model.specs.Walk.{WalkEnd, arrives, not_allowed, not_found, walk, file_permits}
 use Rattle.rbf_change.specs.Calls.{shape, cluster_size, free_total}
 use Rattle.rbf_change.specs.Names.{is_dots, deletion_end}
-use Rattle.rbf_change.specs.NewFiles.{Refusal, bad_path, not_allowed as new_not_allowed, exists, no_cluster, too_many_runs, entry_refusal}
+use Rattle.rbf_change.specs.NewFiles.{NewEntryRefusal, bad_path, not_allowed as new_not_allowed, exists, no_cluster, too_many_runs, entry_refusal}
 use Rattle.vol_tools.specs.Path.{Place, place_of, path_names, directory_names}
 
 -- the end of a walk from the root along names
@@ -19,7 +19,7 @@ on_arrival (arrives n) next = next n
 on_arrival not_allowed next = Some E_FNA
 on_arrival not_found next = Some E_PNNF
 
-abbrev pub refusal_number : Refusal → ℕ
+abbrev pub refusal_number : NewEntryRefusal → ℕ
 refusal_number bad_path = E_BPNAM
 refusal_number new_not_allowed = E_FNA
 refusal_number exists = E_CEF

@@ -3,7 +3,7 @@ use Rattle.std.specs.Prelude.{◌≡◌, ℕ, ◌&&◌, not, true, Bool, Option,
 use Rattle.rbf_model.specs.File.{DiskFile, is_directory}
 use Rattle.rbf_model.specs.Volume.{DiskVolume}
 use Rattle.rbf_model.specs.Walk.{arrives, file_permits}
-use Rattle.rbf_access.specs.Mounted.{Represents}
+use Rattle.rbf_access.specs.Mounted.{RepresentsVolume}
 use Rattle.vol_tools.specs.Numbers.{way_end, reading_number}
 use Rattle.vol_tools.specs.declared.fault.ToolFault.{ToolFault}
 use Rattle.vol_tools.specs.declared.fault.ToolFault.TheVariants.{Number, Device, OutOfMemory}
@@ -16,7 +16,7 @@ is_of_kind File file = not (is_directory file)
 is_of_kind Directory file = is_directory file
 
 -- names lead to a file of this kind, which user 0 may read
-pub record IsOpened (v : DiskVolume) (way : List (List ℕ)) (kind : Kind) (opened : Opened) : Type 0 where
+pub record IsOpenedFile (v : DiskVolume) (way : List (List ℕ)) (kind : Kind) (opened : Opened) : Type 0 where
   pub file : DiskFile
   pub there : v.files opened.number ≡ Some file
   pub leads : way_end v way ≡ arrives opened.number
@@ -26,14 +26,14 @@ pub record IsOpened (v : DiskVolume) (way : List (List ℕ)) (kind : Kind) (open
 -- the opened file is one of the volume that the media represents
 pub record HasOpened (media : Option (List ℕ)) (opened : Opened) : Type 0 where
   pub content : DiskVolume
-  pub on : Represents media content
+  pub on : RepresentsVolume media content
   pub file : DiskFile
   pub is : content.files opened.number ≡ Some file
   pub size_is : opened.size ≡ length file.contents
 
 -- each answer of a call that opens a file
 abbrev pub AnswersOpening : DiskVolume → List (List ℕ) → Kind → Result Opened ToolFault → Type 0
-AnswersOpening v way kind (Ok opened) = IsOpened v way kind opened
+AnswersOpening v way kind (Ok opened) = IsOpenedFile v way kind opened
 AnswersOpening v way kind (Err (Number n)) = reading_number v (is_of_kind kind) (Some way) ≡ Some n
 AnswersOpening v way kind (Err (Device n)) = Unit {0}
 AnswersOpening v way kind (Err OutOfMemory) = ⊥

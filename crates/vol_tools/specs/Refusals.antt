@@ -55,8 +55,8 @@ RefusesLate (list path) now v w number = ⊥
 RefusesLate repair now v w number = ⊥
 
 -- a tool is refused with a number, and gives the volume w
-abbrev pub Refuses : Tool → TimePacket → (v w : DiskVolume) → (number : ℕ) → Type 0
-Refuses tool now v w number = RefusesAtOnce tool v w number ⊎ RefusesLate tool now v w number
+abbrev pub RefusesTool : Tool → TimePacket → (v w : DiskVolume) → (number : ℕ) → Type 0
+RefusesTool tool now v w number = RefusesAtOnce tool v w number ⊎ RefusesLate tool now v w number
 
 -- a fault occurred before the new file of a path had its entry: the tree is unchanged, and clusters may be lost
 pub record MakingStops (v w : DiskVolume) (path : List ℕ) (plan : ℕ → ℕ → Plan) : Type 0 where
@@ -92,6 +92,6 @@ StopsHalfway (list path) now v w = ⊥
 StopsHalfway repair now v w = ⊥
 
 -- what a fault of the drive may leave of a tool: the unchanged volume, or what the tool had made of it so far
-pub data MayLeave (tool : Tool) (now : TimePacket) (v w : DiskVolume) : Type 0 where
-  unchanged : w ≡ v → MayLeave tool now v w
-  halfway : refused_number v tool ≡ None → StopsHalfway tool now v w → MayLeave tool now v w
+pub data ToolMayLeave (tool : Tool) (now : TimePacket) (v w : DiskVolume) : Type 0 where
+  unchanged : w ≡ v → ToolMayLeave tool now v w
+  halfway : refused_number v tool ≡ None → StopsHalfway tool now v w → ToolMayLeave tool now v w

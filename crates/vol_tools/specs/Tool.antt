@@ -6,7 +6,7 @@ use Rattle.rbf_model.specs.File.{DiskFile}
 use Rattle.rbf_model.specs.Volume.{DiskVolume, lost_clusters}
 use Rattle.rbf_model.specs.Walk.{arrives}
 use Rattle.rbf_model.specs.Writes.{with_lost}
-use Rattle.rbf_change.specs.Calls.{shape, Writes}
+use Rattle.rbf_change.specs.Calls.{shape, WritesFileAt}
 use Rattle.rbf_change.specs.NewFiles.{Creates, MakesDirectory, Deletes}
 use Rattle.vol_tools.specs.Listing.{directory_lines}
 use Rattle.vol_tools.specs.Numbers.{way_end, create_number, make_dir_number, remove_number, get_number, list_number}
@@ -29,7 +29,7 @@ pub record LeadsTo (v : DiskVolume) (path : List ℕ) (d : ℕ) (name : List ℕ
   pub named : name ≡ place.name
 
 -- a file at the end of these names
-pub record Reaches (v : DiskVolume) (names : Option (List (List ℕ))) (file : DiskFile) : Type 0 where
+pub record ReachesFile (v : DiskVolume) (names : Option (List (List ℕ))) (file : DiskFile) : Type 0 where
   pub way : List (List ℕ)
   pub are : names ≡ Some way
   pub number : ℕ
@@ -52,11 +52,11 @@ pub record CreatesAt (v w : DiskVolume) (path : List ℕ) (number : ℕ) (now : 
   pub creates : Creates v w directory number name file_attributes 0 now
 
 -- and its bytes are written by one write
-pub record Puts (v w : DiskVolume) (path bytes : List ℕ) (now : TimePacket) : Type 0 where
+pub record PutsFileAt (v w : DiskVolume) (path bytes : List ℕ) (now : TimePacket) : Type 0 where
   pub number : ℕ
   pub created : DiskVolume
   pub creates : CreatesAt v created path number now
-  pub writes : Writes created w number 0 bytes now
+  pub writes : WritesFileAt created w number 0 bytes now
 
 -- a directory is made
 pub record MakesDirectoryAt (v w : DiskVolume) (path : List ℕ) (now : TimePacket) : Type 0 where
@@ -76,16 +76,16 @@ pub record RemovesAt (v w : DiskVolume) (path : List ℕ) : Type 0 where
   pub deletes : Deletes v w directory number name
 
 -- the bytes of a file, and the lines of a directory
-pub record IsRead (v : DiskVolume) (path answer : List ℕ) : Type 0 where
+pub record IsFileRead (v : DiskVolume) (path answer : List ℕ) : Type 0 where
   pub allowed : get_number v path ≡ None
   pub file : DiskFile
-  pub reaches : Reaches v (path_names path) file
+  pub reaches : ReachesFile v (path_names path) file
   pub bytes : answer ≡ file.contents
 
 pub record IsListed (v : DiskVolume) (path answer : List ℕ) : Type 0 where
   pub allowed : list_number v path ≡ None
   pub file : DiskFile
-  pub reaches : Reaches v (directory_names path) file
+  pub reaches : ReachesFile v (directory_names path) file
   pub lines : answer ≡ directory_lines v file
 
 -- no cluster is lost any longer
@@ -101,8 +101,8 @@ lost_total v = length (lost_clusters (shape v) v)
 
 -- a tool gives the volume w, and this is its answer
 abbrev pub Gives : Tool → TimePacket → (v w : DiskVolume) → (answer : List ℕ) → Type 0
-Gives (put path bytes) now v w answer = Puts v w path bytes now × (answer ≡ [])
-Gives (get path) now v w answer = IsRead v path answer × (w ≡ v)
+Gives (put path bytes) now v w answer = PutsFileAt v w path bytes now × (answer ≡ [])
+Gives (get path) now v w answer = IsFileRead v path answer × (w ≡ v)
 Gives (mkdir path) now v w answer = MakesDirectoryAt v w path now × (answer ≡ [])
 Gives (remove path) now v w answer = RemovesAt v w path × (answer ≡ [])
 Gives (list path) now v w answer = IsListed v path answer × (w ≡ v)

@@ -1,11 +1,11 @@
 ghost use Rattle.std.specs.Prelude.{◌+◌, ◌/◌, ◌<◌, length};
 ghost use Rattle.rbf_check.specs.Lost.{IsLostOf};
-ghost use Rattle.vol_tools.specs.Clearing.{ClearsMark, IsCleared};
+ghost use Rattle.vol_tools.specs.Clearing.{ClearsMark, ClearsLostClusters};
 
 /// Clears the marks of lost clusters in an image.
 pub fn clear_marks(image: &mut Vec<u8>, lost: &[u32])
     requires { IsLostOf image.old.items lost.now }
-    ensures { IsCleared image.old.items lost.now image.new.items }
+    ensures { ClearsLostClusters image.old.items lost.now image.new.items }
 {
     for c in lost {
         clear_mark(image, *c);

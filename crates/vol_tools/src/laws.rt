@@ -2,7 +2,7 @@
 
 ghost use Rattle.std.specs.Prelude.{◌∷◌, ◌++◌, [], ℕ, List, Option, Ok};
 ghost use Rattle.rbf_model.specs.Volume.{DiskVolume};
-ghost use Rattle.rbf_access.specs.Mounted.{Represents};
+ghost use Rattle.rbf_access.specs.Mounted.{RepresentsVolume};
 ghost use Rattle.vol_tools.specs.UsesInTurn.{Use};
 ghost use Rattle.vol_tools.specs.Answers.{GivesOn, OnVolumeBefore};
 ghost use Rattle.vol_tools.specs.InTurn.{LeavesInTurn};
@@ -11,7 +11,7 @@ ghost use Rattle.vol_tools.specs.InTurn.{LeavesInTurn};
 /// result.
 pub fn a_tool_that_is_done_leaves_what_it_gives()
     ensures { (use_ : Use) (v : DiskVolume) (answer : List ℕ) (old new : Option (List ℕ))
-        → Represents old v → GivesOn use_ v answer new
+        → RepresentsVolume old v → GivesOn use_ v answer new
         → LeavesInTurn (use_ ∷ []) old new (answer ∷ []) }
 {}
 

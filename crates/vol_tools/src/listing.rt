@@ -7,7 +7,7 @@ ghost use Rattle.rbf_access.specs.Mounted.{IsMounted, OnVolume};
 ghost use Rattle.vol_tools.specs.Tool.{list as list_tool};
 ghost use Rattle.vol_tools.specs.Answers.{OnVolumeBefore};
 ghost use Rattle.vol_tools.specs.Faults.{Faults, tool_fault};
-ghost use Rattle.vol_tools.specs.Listed.{HasListing, NamesFile, lines_of};
+ghost use Rattle.vol_tools.specs.Listed.{HasListing, EntryNamesFile, lines_of};
 ghost use Rattle.vol_tools.specs.Opening.{AnswersBytes};
 
 use crate::directory_names;
@@ -99,7 +99,7 @@ fn push_entry(
     entry: &[u8; 32],
 ) -> Result<(), ToolFault>
     requires mounted { IsMounted v.old (media d.old) }
-    requires file { NamesFile (media d.old) entry.now }
+    requires file { EntryNamesFile (media d.old) entry.now }
     ensures line { OnVolume (media d.old) (λ on. AnswersBytes
         (λ _. lines.new.items ≡ lines.old.items ++ lines_of on (entry.now ∷ [])) result) }
     ensures mounted { IsMounted v.new (media d.new) }

@@ -1,5 +1,5 @@
 ghost use Rattle.std.specs.Prelude.{OnOk};
-ghost use Rattle.rbf_access.specs.Mounted.{IsSound};
+ghost use Rattle.rbf_access.specs.Mounted.{IsSoundMedia};
 ghost use Rattle.vol_tools.specs.Answers.{OnVolumeBefore};
 ghost use Rattle.vol_tools.specs.Faults.{Faults, tool_fault};
 ghost use Rattle.vol_tools.specs.Others.{KeepsOthersBy};
@@ -26,7 +26,7 @@ pub fn use_tool(
     tool: &ToolUse,
     now: TimePacket,
 ) -> Result<Vec<u8>, ToolFault>
-    requires { IsSound (media d.old) }
+    requires { IsSoundMedia (media d.old) }
     ensures answer { OnVolumeBefore (at_time now tool.now) (λ bytes. bytes.items)
         (media d.old) (media d.new) result }
     ensures tail { OnMedia (KeepsTailBy (tool_of tool.now)) (media d.old) (media d.new) }

@@ -2,7 +2,7 @@
 
 ghost use Rattle.std.specs.Prelude.{◌≡◌};
 ghost use Rattle.record_locks.specs.Places.{IsPath};
-ghost use Rattle.proc_model.specs.Records.{IsLiving, IsProcess, is_living};
+ghost use Rattle.proc_model.specs.Records.{IsLiving, IsProcessNumber, is_living};
 
 use file_state::state::FileState;
 use lock_model::lock::{Grant, Held, Range, Request};
@@ -84,7 +84,7 @@ fn request(owner: Pid, path: u8) -> Request
 
 /// The answer to a process that asks for the record on a system path; a granted lock is held.
 fn ask(records: &mut Records, owner: Pid, path: u8) -> Result<Grant, Fail>
-    requires process { IsProcess owner.0 }
+    requires process { IsProcessNumber owner.0 }
     requires path { IsPath path }
 {
     if records.locks().request_of(owner).is_some() {

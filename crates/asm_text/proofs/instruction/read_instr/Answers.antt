@@ -1,13 +1,13 @@
 use Rattle.std.proofs.Common.{◌≡◌, ℕ, Option, Some, None, List, sym, ap, ◌∙◌}
 use Rattle.std.specs.Prelude.{IfSome}
 use Rattle.cpu_model.specs.declared.instruction.Instr.{Instr}
-use Rattle.cpu_table.specs.Spelling.{IsPlain}
+use Rattle.cpu_table.specs.Spelling.{IsPlainInstr}
 use Rattle.asm_model.specs.Instructions.{instr_of}
 use Rattle.asm_model.proofs.Printed.{printed_back}
 use Rattle.asm_model.proofs.ReadPlain.{instr_plain}
 use Rattle.asm_text.proofs.instruction.read_instr.Goals as goal
 
-plain-if-read : (line : List ℕ) (at : ℕ) (o : Option Instr) → o ≡ instr_of line at → IfSome o IsPlain
+plain-if-read : (line : List ℕ) (at : ℕ) (o : Option Instr) → o ≡ instr_of line at → IfSome o IsPlainInstr
 plain-if-read line at None is = tt
 plain-if-read line at (Some i) is = instr_plain line at i (sym is)
 

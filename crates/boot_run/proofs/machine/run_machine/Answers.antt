@@ -5,7 +5,7 @@ use Rattle.os9_outer.specs.TerminalState.{TerminalState}
 use Rattle.device_table.specs.Seen.{terminal_states}
 use Rattle.boot_run.specs.Loaded.{HasNoKeys, loaded}
 use Rattle.lock_model.specs.Records.{Records}
-use Rattle.file_rules.specs.Files.{NoneFailed}
+use Rattle.file_rules.specs.Files.{KeepsDriveFaults}
 use Rattle.file_drives.specs.Drives.{drive_states, drive_views, media_of}
 use Rattle.os9_kernel.specs.Outside.{outside}
 use Rattle.boot_run.specs.Machine.{MachineCall, config_of, setup_of}
@@ -63,7 +63,7 @@ returns-in-Err-load_keys-clause-call g c = λ images have.
     ∙ media-kept before.devices.drives started (drives-started c.args.images _ before.devices.drives started
     c.requires.volumes c.in-Ok.ensures.starts.drives) c.in-Ok.ensures.starts.drives.media in
     called-nothing setup before (outside (λ box. (g.dyn-1.0.entry box.vtable).1) (λ box. (g.dyn-2.0.entry box.vtable).1) c.load_keys.new.devices)
-    (subst (NoneFailed (drive_states before.devices.drives)) (sym drives) c.in-Ok.ensures.starts.drives.moves)
+    (subst (KeepsDriveFaults (drive_states before.devices.drives)) (sym drives) c.in-Ok.ensures.starts.drives.moves)
     media terms
 
 pub returns-in-Ok-run_slices-clause-call : goal.returns-in-Ok-run_slices-clause-call

@@ -1,6 +1,6 @@
 use Rattle.std.proofs.Common.{◌≡◌, length, arith}
 use Rattle.std.proofs.lemmas.List.Elements.{All-nil}
-use Rattle.boot_run.specs.Drives.{IsEmpty}
+use Rattle.boot_run.specs.Drives.{IsEmptyDrive}
 use Rattle.os9_boot.proofs.RoomLemmas.{four-drives}
 use Rattle.boot_vectors.proofs.shown.run.OwnLists.{own-1}
 use Rattle.boot_vectors.proofs.shown.run.Goals as goal
@@ -18,4 +18,4 @@ run_with-requires c =
     ) in
     four-drives (λ box. (own-1.entry box.vtable).1) c.add_drive-4.new.drives.items four (c.in_ok-add_drive-4.ensures.empty
     (c.in_ok-add_drive-3.ensures.empty (c.in_ok-add_drive-2.ensures.empty (c.in_ok-add_drive.ensures.empty
-    (rw c.new-drives.ensures.items (All-nil IsEmpty))))))
+    (rw c.new-drives.ensures.items (All-nil IsEmptyDrive))))))

@@ -1,6 +1,6 @@
 use Rattle.std.proofs.Common.{Option, List, sym, ap, ◌∙◌, subst}
 use Rattle.std.proofs.lemmas.Result.{err_from_is_err_and}
-use Rattle.guest_memory.specs.Tie.{Represents}
+use Rattle.guest_memory.specs.Tie.{RepresentsMemory}
 use Rattle.proc_model.specs.Loading.{entry_refusal}
 use Rattle.proc_model.specs.Memory.{MemoryState}
 use Rattle.proc_model.specs.ModuleList.{ModuleEntry}
@@ -24,6 +24,6 @@ enter_beside-requires-clause-inside c =
 pub returns-clause-entered : goal.returns-clause-entered
 returns-clause-entered c = λ m tied has. record {
   accepted = refusal-seen c.args.memory.now m tied c.args.info ∙ ap (λ (modules : List (Option ModuleEntry)). entry_refusal modules c.args.info) (sym c.modules.ensures) ∙ c.in_ok-takes.ensures.taken;
-  represents = subst (λ (t : MemoryState). Represents c.enter_beside.new.self t) (beside-is c.args.boot.now c.args.id.0 m c.args.info has) (c.enter_beside.ensures.enters m tied);
+  represents = subst (λ (t : MemoryState). RepresentsMemory c.enter_beside.new.self t) (beside-is c.args.boot.now c.args.id.0 m c.args.info has) (c.enter_beside.ensures.enters m tied);
   has = group-kept c.args.boot.now c.args.id.0 m c.args.info has;
 }

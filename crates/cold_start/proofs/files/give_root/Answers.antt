@@ -1,7 +1,7 @@
 use Rattle.std.proofs.Common.{Err, Ok, Option, rules, subst}
 use Rattle.lock_model.specs.declared.place.FilePlace.{FilePlace}
 use Rattle.cold_start.proofs.StartLemmas.{fails-as, moves-as, root-moves, root-reads}
-use Rattle.cold_start.specs.Start.{FailsOn}
+use Rattle.cold_start.specs.Start.{IsFaultOfDrive}
 use Rattle.cold_start.proofs.files.give_root.Goals as goal
 
 pub returns-in-Err-clause-gives : goal.returns-in-Err-clause-gives
@@ -14,7 +14,7 @@ returns-in-Err-clause-gives g c = record {
       c.requires.root c.find_commands.new.disks _ {A = Option FilePlace} (Err c.in-Err.fault)
       c.in-Err.ensures.failed c.in-Err.ensures.drive);
   fails =
-      fails-as (Option FilePlace) (Unit {0}) c.in-Err.fault 0 (subst (λ d. FailsOn {A = Option FilePlace} d (Err c.in-Err.fault)) c.requires.first c.in-Err.ensures.failed);
+      fails-as (Option FilePlace) (Unit {0}) c.in-Err.fault 0 (subst (λ d. IsFaultOfDrive {A = Option FilePlace} d (Err c.in-Err.fault)) c.requires.first c.in-Err.ensures.failed);
 }
 
 pub returns-in-Ok-clause-gives : goal.returns-in-Ok-clause-gives

@@ -1,7 +1,7 @@
 use Rattle.std.proofs.Common.{◌≡◌, ◌<◌, All}
 use Rattle.std.specs.Vec.{vec_len}
 use Rattle.os9_kernel.specs.Outside.{outside}
-use Rattle.os9_kernel.specs.Tie.{Stands, ticks}
+use Rattle.os9_kernel.specs.Tie.{RepresentsSomeState, ticks}
 use Rattle.os9_words.specs.Notes.{notes_of}
 use Rattle.boot_run.specs.World.{HasNoFault, world_of}
 use Rattle.boot_run.proofs.ConsoleLemmas.{nowhere}
@@ -21,7 +21,7 @@ invariant-loop g l =
       begun : ticks l.kernel ≡ l.counter;
       within : l.counter < 4294000000;
       slices : l.console.typed.slices ≡ l.counter;
-      stands : Stands l.kernel now;
+      stands : RepresentsSomeState l.kernel now;
       of_term : All IsOfTerm (kept_keys l.console.typed);
       gave : GaveLines (kept_bytes l.console.typed) (rest_of l.console)
           (keyboard_state g.K.Keyboard l.initial.console.keyboard) (keyboard_state g.K.Keyboard l.console.keyboard);

@@ -13,7 +13,7 @@ use Rattle.io_model.specs.Pipes.{count_regs, line_end}
 use Rattle.io_model.specs.Step.{answers, keeps, stores}
 use Rattle.io_state.specs.Sound.{MayWait}
 use Rattle.proc_state.proofs.Living.{IsProcess-living}
-use Rattle.device_io.specs.Leaving.{Leaves}
+use Rattle.device_io.specs.Leaving.{LeavesIoState}
 use Rattle.device_io.proofs.LeavingLemmas.{fits-behind, leaves-answer, leaves-refusal, leaves-wait, line-leaves, may-wait-on}
 use Rattle.device_io.proofs.MovingLemmas.{called-regs}
 use Rattle.device_io.proofs.pipe_reads.read_pipe_line.Goals as goal
@@ -50,9 +50,9 @@ returns-then-is_over-clause-call c m tied =
     line-leaves m c.args.by.p.0 c.args.pipe c.args.by.regs c.args.call c.is_alone-alone.result c.args.io.now
     moved.new.self moved.result moved.new.into end.result end.new.s end.new.io (Done c.in-Done.count) c.in-Done.is same c.is_alone-alone.ensures
     moved.ensures.answer moved.ensures.moved moved.ensures.io
-    (subst (λ (k : PendingCall). Leaves (stores at taken (line_end (caller_of m c.args.by.p.0) c.is_alone-alone.result k
+    (subst (λ (k : PendingCall). LeavesIoState (stores at taken (line_end (caller_of m c.args.by.p.0) c.is_alone-alone.result k
     taken) moved.new.self) m c.args.by.p.0 end.result end.new.s end.new.io) c.moved_on-call.ensures
-    (subst (λ (over : Bool). Leaves (stores at taken (if over then answers (count_regs (caller_of m c.args.by.p.0)
+    (subst (λ (over : Bool). LeavesIoState (stores at taken (if over then answers (count_regs (caller_of m c.args.by.p.0)
     call.moved) else keeps call) moved.new.self) m c.args.by.p.0 end.result end.new.s end.new.io)
     (sym c.if-is_over.true ∙ c.is_over.ensures.over)
     (leaves-answer m c.args.by.p.0 at taken moved.new.self end.result end.new.s end.new.io call.moved c.args.by.regs same
@@ -69,9 +69,9 @@ returns-else-is_over-clause-call c m tied =
     line-leaves m c.args.by.p.0 c.args.pipe c.args.by.regs c.args.call c.is_alone-alone.result c.args.io.now
     moved.new.self moved.result moved.new.into end.result c.store.new.self end.new.io (Done c.in-Done.count) c.in-Done.is same c.is_alone-alone.ensures
     moved.ensures.answer moved.ensures.moved moved.ensures.io
-    (subst (λ (k : PendingCall). Leaves (stores at taken (line_end (caller_of m c.args.by.p.0) c.is_alone-alone.result k
+    (subst (λ (k : PendingCall). LeavesIoState (stores at taken (line_end (caller_of m c.args.by.p.0) c.is_alone-alone.result k
     taken) moved.new.self) m c.args.by.p.0 end.result c.store.new.self end.new.io) c.moved_on-call.ensures
-    (subst (λ (over : Bool). Leaves (stores at taken (if over then answers (count_regs (caller_of m c.args.by.p.0)
+    (subst (λ (over : Bool). LeavesIoState (stores at taken (if over then answers (count_regs (caller_of m c.args.by.p.0)
     call.moved) else keeps call) moved.new.self) m c.args.by.p.0 end.result c.store.new.self end.new.io)
     (sym c.if-is_over.false ∙ c.is_over.ensures.over)
     (leaves-wait m c.args.by.p.0 at taken moved.new.self end.result c.store.new.self end.new.io call end.ensures.end

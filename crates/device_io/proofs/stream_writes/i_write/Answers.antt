@@ -16,7 +16,7 @@ use Rattle.device_io.proofs.MovingLemmas.{called-regs}
 use Rattle.device_io.proofs.ReadingLemmas.{read-none, read-some, sends-read}
 use Rattle.device_io.proofs.SendingLemmas.{bytes-tries}
 use Rattle.device_io.proofs.TryingLemmas.{attempts-of, tries-needs-none, tries-refused, wants-of}
-use Rattle.device_io.specs.Reading.{IsRead}
+use Rattle.device_io.specs.Reading.{AreWriteBytesRead}
 use Rattle.device_io.specs.declared.sending.WriteKind.TheVariants.{Bytes}
 use Rattle.device_io.proofs.stream_writes.i_write.Goals as goal
 
@@ -46,8 +46,8 @@ returns-in-Some-clause-call g c drives m tied differ =
     let regs_are : regs ≡ regs_at m p = called-regs c.args.by c.args.s.now m c.requires.calls tied in
     let cells = cells_at m p in
     let all : List ℕ = c.deref.result.now in
-    let read : IsRead io p regs.a (user_bytes cells regs.x regs.y) (Some c.in-Some.y) all = subst
-    (λ (it : List ℕ). IsRead io p regs.a (user_bytes cells regs.x regs.y) (Some c.in-Some.y) it)
+    let read : AreWriteBytesRead io p regs.a (user_bytes cells regs.x regs.y) (Some c.in-Some.y) all = subst
+    (λ (it : List ℕ). AreWriteBytesRead io p regs.a (user_bytes cells regs.x regs.y) (Some c.in-Some.y) it)
     (sym c.deref.ensures.value) (c.in-Some.ensures.read m tied) in
     let it = read-some io p regs.a (user_bytes cells regs.x regs.y) c.in-Some.y all read in
     attempts-of Call.Write m io drives p c.tell.new.s c.send-end.new.io _ _ c.send-end.result differ
@@ -64,8 +64,8 @@ returns-in-Some-clause-memory g c drives m tied wants =
     let regs_are : regs ≡ regs_at m p = called-regs c.args.by c.args.s.now m c.requires.calls tied in
     let cells = cells_at m p in
     let all : List ℕ = c.deref.result.now in
-    let read : IsRead io p regs.a (user_bytes cells regs.x regs.y) (Some c.in-Some.y) all = subst
-    (λ (it : List ℕ). IsRead io p regs.a (user_bytes cells regs.x regs.y) (Some c.in-Some.y) it)
+    let read : AreWriteBytesRead io p regs.a (user_bytes cells regs.x regs.y) (Some c.in-Some.y) all = subst
+    (λ (it : List ℕ). AreWriteBytesRead io p regs.a (user_bytes cells regs.x regs.y) (Some c.in-Some.y) it)
     (sym c.deref.ensures.value) (c.in-Some.ensures.read m tied) in
     let it = read-some io p regs.a (user_bytes cells regs.x regs.y) c.in-Some.y all read in
     wants-of m io p c.send-end.result c.tell.new.s c.send-end.new.io _ _ (model.i_write (caller_of m p) io) wants

@@ -19,7 +19,7 @@ use Rattle.device_io.proofs.SendingLemmas.{kept-same, line-tries}
 use Rattle.device_io.proofs.TryingLemmas.{attempts-of, tries-needs-none, tries-refused, wants-of}
 use Rattle.io_model.specs.Line.{line_length}
 use Rattle.io_model.specs.declared.pending.PendingCall.{PendingCall}
-use Rattle.device_io.specs.Reading.{IsRead}
+use Rattle.device_io.specs.Reading.{AreWriteBytesRead}
 use Rattle.device_io.specs.declared.sending.WriteKind.TheVariants.{Line}
 use Rattle.device_io.proofs.stream_writes.i_writln.Goals as goal
 
@@ -57,7 +57,7 @@ returns-in-Some-clause-call g c drives m tied differ =
     let caller = caller_of m p in
     let room : length all ≡ length c.read_line_now.new.s.buffer.items = ap (λ (it : List ℕ). length it) c.deref.ensures.value in
     let regs_are : regs ≡ regs_at m p = called-regs c.args.by c.args.s.now m c.requires.calls tied in
-    let read : IsRead io p regs.a (line_bytes caller (pending_at io p)) (Some y) all = subst (λ (it : List ℕ). IsRead io
+    let read : AreWriteBytesRead io p regs.a (line_bytes caller (pending_at io p)) (Some y) all = subst (λ (it : List ℕ). AreWriteBytesRead io
     p regs.a (line_bytes caller (pending_at io p)) (Some y) it) (sym c.deref.ensures.value)
     (c.in-Some.ensures.line m tied) in
     let it = read-some io p regs.a (line_bytes caller (pending_at io p)) y all read in
@@ -84,7 +84,7 @@ returns-in-Some-clause-memory g c drives m tied wants =
     let caller = caller_of m p in
     let room : length all ≡ length c.read_line_now.new.s.buffer.items = ap (λ (it : List ℕ). length it) c.deref.ensures.value in
     let regs_are : regs ≡ regs_at m p = called-regs c.args.by c.args.s.now m c.requires.calls tied in
-    let read : IsRead io p regs.a (line_bytes caller (pending_at io p)) (Some y) all = subst (λ (it : List ℕ). IsRead io
+    let read : AreWriteBytesRead io p regs.a (line_bytes caller (pending_at io p)) (Some y) all = subst (λ (it : List ℕ). AreWriteBytesRead io
     p regs.a (line_bytes caller (pending_at io p)) (Some y) it) (sym c.deref.ensures.value)
     (c.in-Some.ensures.line m tied) in
     let it = read-some io p regs.a (line_bytes caller (pending_at io p)) y all read in

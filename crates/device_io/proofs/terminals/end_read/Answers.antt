@@ -7,7 +7,7 @@ use Rattle.io_model.specs.declared.terminal.Progress.{Progress}
 use Rattle.io_model.specs.Attempts.{caller_of}
 use Rattle.io_model.specs.Terminals.{read_ends}
 use Rattle.io_state.specs.Terminals.{count_of}
-use Rattle.proc_state.specs.Tie.{Represents}
+use Rattle.proc_state.specs.Tie.{RepresentsProcesses}
 use Rattle.device_io.specs.Trying.{EndsBy}
 use Rattle.device_io.proofs.MovingLemmas.{called-regs}
 use Rattle.device_io.proofs.terminals.end_read.Goals as goal
@@ -19,7 +19,7 @@ returns-in-Done-clause-ends c m read tied =
     subst (λ (a : Progress). EndsBy (read_ends (caller_of m p) read a) c.args.by.regs.x (take (count_of a) c.args.bytes.now) m p CallEnd.Done c.set_regs.new.self) (sym c.in-Done.is)
     (λ io. (
       refl,
-      subst (λ (r : Regs). Represents c.set_regs.new.self
+      subst (λ (r : Regs). RepresentsProcesses c.set_regs.new.self
           (with_regs_of (with_memory m (stored m.memory p c.args.by.regs.x bytes)) p (record r { y = c.in-Done.count })))
           (called-regs c.args.by c.args.s.now m c.requires.calls tied) (c.set_regs.ensures.tied _ (c.store.ensures.tied m tied)),
     ))

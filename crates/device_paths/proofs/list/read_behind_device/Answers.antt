@@ -2,7 +2,7 @@ use Rattle.std.proofs.Common.{◌≡◌, ◌∙◌, Some, Result, Ok, sym, ap, s
 use Rattle.guest_memory.specs.Tie.{cells_of}
 use Rattle.os9_base.specs.Cells.{Cells}
 use Rattle.device_paths.specs.Listed.{listed_by, listed_with, tails}
-use Rattle.device_paths.specs.Tail.{GoesUp}
+use Rattle.device_paths.specs.Tail.{HasLaterName}
 use Rattle.device_paths.specs.declared.names.Step.{Step}
 use Rattle.device_paths.specs.declared.names.Step.TheVariants.{Another}
 use Rattle.os9_base.specs.declared.name_fault.NameFault.{NameFault}
@@ -14,7 +14,7 @@ returns-in-Another-clause-list c =
     let is : c.step_over.result ≡ Ok (Another c.in-Another.next) =
     c.in_ok-next.was ∙ ap (λ (step : Step). let found : Result Step NameFault = Ok step in found) c.in-Another.is
     in
-    let up = subst (λ (result : Result Step NameFault). GoesUp c.args.at result) is c.step_over.ensures.up in
+    let up = subst (λ (result : Result Step NameFault). HasLaterName c.args.at result) is c.step_over.ensures.up in
     c.with_names.ensures
     ∙ ap (listed_with (Some c.args.device)) (c.read_tail.ensures.tail 65535 (omega (arith, up.0)))
     ∙ sym (ap (listed_by c.args.device (tails cells)) (sym c.step_over.ensures.exact ∙ is))

@@ -2,7 +2,7 @@ use Rattle.std.proofs.Common.{◌≡◌, ◌∙◌, Result, Ok, Err, ap, subst, 
 use Rattle.guest_memory.specs.Tie.{cells_of}
 use Rattle.io_model.specs.PathList.{names_at}
 use Rattle.os9_base.specs.Cells.{Cells}
-use Rattle.device_paths.specs.Tail.{tail_of, GoesUp}
+use Rattle.device_paths.specs.Tail.{tail_of, HasLaterName}
 use Rattle.device_paths.specs.declared.names.Step.{Step}
 use Rattle.device_paths.specs.declared.names.Step.TheVariants.{Another, Last}
 use Rattle.os9_base.specs.declared.name_fault.NameFault.{NameFault}
@@ -43,7 +43,7 @@ names-preserved c =
     let is : c.read_step.result ≡ Ok (Another c.in-Ok-Another.next) =
     c.in-Ok-Another.is ∙ ap (λ (step : Step). let found : Result Step NameFault = Ok step in found) c.in-Ok-Another.field-0-is
     in
-    let up = subst (λ (result : Result Step NameFault). GoesUp c.names.at result) is c.read_step.ensures.up in
+    let up = subst (λ (result : Result Step NameFault). HasLaterName c.names.at result) is c.read_step.ensures.up in
     record {
       names =
           λ left enough. next-name cells (tail_of (names_at cells c.args.start left)) c.names.at c.in-Ok-Another.next (c.names.invariant.names left enough) c.names.invariant.within

@@ -5,7 +5,7 @@ use Rattle.io_model.specs.Lead.{what_is_there}
 use Rattle.io_model.specs.Modes.{is_mode}
 use Rattle.io_model.specs.Open.{opens}
 use Rattle.io_model.specs.declared.io_call.IoCall.TheVariants as Call
-use Rattle.device_paths.specs.Quiet.{Ends}
+use Rattle.device_paths.specs.Quiet.{EndsIoAttempt}
 use Rattle.device_paths.proofs.QuietLemmas.{attempts}
 use Rattle.device_paths.proofs.OpenLemmas.{open-quiet}
 use Rattle.device_paths.proofs.open.i_open.Goals as goal
@@ -15,5 +15,5 @@ returns-clause-call g c m terms tied many =
     let p = c.args.p.0 in
     let drives = vec_len c.args.devices.now.drives in
     attempts Call.Open m c.args.io.now c.open.new.io drives p c.open.result c.open.new.s terms (open-quiet what_is_there (is_mode (regs_at m p).a) (caller_of m p) c.args.io.now drives (length terms))
-    (subst (λ (count : ℕ). Ends (opens what_is_there (is_mode (regs_at m p).a) (caller_of m p) c.args.io.now drives
+    (subst (λ (count : ℕ). EndsIoAttempt (opens what_is_there (is_mode (regs_at m p).a) (caller_of m p) c.args.io.now drives
     count) m c.args.io.now p c.open.result c.open.new.s c.open.new.io) (sym many) (c.open.ensures.call m tied))

@@ -3,7 +3,7 @@ use Rattle.os9_base.specs.declared.registers.Regs.{Regs}
 use Rattle.proc_model.specs.Processes.{cells_at, with_memory, with_regs_of}
 use Rattle.proc_model.specs.UserBytes.{user_bytes}
 use Rattle.proc_model.specs.MemoryChanges.{stored}
-use Rattle.proc_state.specs.Tie.{Represents, bytes_read}
+use Rattle.proc_state.specs.Tie.{RepresentsProcesses, bytes_read}
 use Rattle.device_paths.proofs.QuietLemmas.{options-refused, options-stored}
 use Rattle.device_paths.proofs.status.get_options.Goals as goal
 
@@ -20,6 +20,8 @@ returns-clause-call c m tied =
     (take 32 c.read_bytes.new.self.buffer.items) c.regs-regs.result (c.regs-regs.ensures.tied m tied)
     (c.read_bytes.ensures.read m tied ∙ ap (λ (b : Bool). bytes_read b 32 c.read_bytes.new.self.buffer.items) c.if-not-read_bytes.false)
     c.answer.ensures.end
-    (subst (λ (bytes : List ℕ). Represents c.answer.new.s (with_regs_of (with_memory m (stored m.memory c.args.p.0 c.regs-regs.result.x bytes)) c.args.p.0 c.regs-regs.result)) c.options.ensures
+    (subst (λ (bytes : List ℕ). RepresentsProcesses c.answer.new.s
+    (with_regs_of (with_memory m (stored m.memory c.args.p.0 c.regs-regs.result.x bytes)) c.args.p.0
+    c.regs-regs.result)) c.options.ensures
     (c.answer.ensures.tied (with_memory m (stored m.memory c.args.p.0 c.regs-regs.result.x c.options.result)) (c.store.ensures.tied m (c.read_bytes.ensures.same.represents m tied))))
     c.answer.ensures.io

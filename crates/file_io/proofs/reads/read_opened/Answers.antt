@@ -6,7 +6,7 @@ use Rattle.os9_base.specs.declared.registers.Regs.{Regs}
 use Rattle.proc_model.specs.Processes.{regs_at, with_regs_of}
 use Rattle.io_model.specs.Io.{Io}
 use Rattle.io_model.specs.Modes.{can_read}
-use Rattle.proc_state.specs.Tie.{Represents}
+use Rattle.proc_state.specs.Tie.{RepresentsProcesses}
 use Rattle.file_rules.specs.Attempts.{asker_of}
 use Rattle.file_rules.specs.Step.{done}
 use Rattle.file_state.specs.declared.state.FileState.{FileState}
@@ -56,7 +56,7 @@ returns-then-regs-eq0-clause-call g c now m was v file terms tied stands is ther
     (read_file c.args.kind (asker_of m p now) was (found_on c.args.opened.now v file)) (eq-eqb (regs_at m p).y 0 none)
     (tries-done m was now p end c.answer.new.s old.files new.io _ terms stands (λ (io : Io). io) (regs_at m p) (record {
       end_is = c.answer.ensures.end;
-      tied = subst (λ (r : Regs). Represents c.answer.new.s (with_regs_of m p r)) same (c.answer.ensures.tied m tied);
+      tied = subst (λ (r : Regs). RepresentsProcesses c.answer.new.s (with_regs_of m p r)) same (c.answer.ensures.tied m tied);
       io_is = c.answer.ensures.io;
     })))
 

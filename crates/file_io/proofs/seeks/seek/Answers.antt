@@ -3,13 +3,13 @@ use Rattle.file_state.specs.Context.{beside}
 use Rattle.os9_base.specs.declared.registers.Regs.{Regs}
 use Rattle.proc_model.specs.Processes.{regs_at, with_regs_of}
 use Rattle.io_model.specs.Io.{Io, with_call}
-use Rattle.proc_state.specs.Tie.{Represents}
+use Rattle.proc_state.specs.Tie.{RepresentsProcesses}
 use Rattle.file_rules.specs.Attempts.{asker_of}
 use Rattle.file_rules.specs.Files.{with_io}
 use Rattle.file_rules.specs.Seek.{long_of}
 use Rattle.file_rules.specs.Step.{done}
 use Rattle.file_rules.specs.declared.path_call.PathCall.TheVariants as Call
-use Rattle.file_state.specs.Ends.{Ends}
+use Rattle.file_state.specs.Ends.{EndsFileAttempt}
 use Rattle.file_state.specs.declared.state.FileState.{FileState}
 use Rattle.file_io.proofs.CallLemmas.{known-a, seek-step}
 use Rattle.file_io.proofs.TryingLemmas.{attempts-in, ends-done, regs-tied}
@@ -30,10 +30,10 @@ returns-clause-call c now views terms m was tied stands kinds =
     attempts-in m was now p c.answer_at.result (beside old views) (beside new views) terms Call.Seek
     (done (regs_at m p) (with_io was (moved_to was.io opened (long_of (regs_at m p)))))
     (seek-step asker was found it.found) 0 0 refl
-    (subst (λ (files : FileState). Ends (done (regs_at m p) (with_io was (moved_to was.io opened (long_of (regs_at m p))))) 0 m was now p c.answer_at.result
+    (subst (λ (files : FileState). EndsFileAttempt (done (regs_at m p) (with_io was (moved_to was.io opened (long_of (regs_at m p))))) 0 m was now p c.answer_at.result
     new.processes files views views terms) (sym c.answer_at.ensures.rest)
     (ends-done m was now p c.answer_at.result new.processes old.files new.files.io views terms stands (λ (io : Io). moved_to io opened (long_of (regs_at m p))) (regs_at m p) (record {
       end_is = c.answer_at.ensures.end;
-      tied = subst (λ (r : Regs). Represents new.processes (with_regs_of m p r)) same (c.answer_at.ensures.tied m tied);
+      tied = subst (λ (r : Regs). RepresentsProcesses new.processes (with_regs_of m p r)) same (c.answer_at.ensures.tied m tied);
       io_is = c.answer_at.ensures.io ∙ ap (λ (n : ℕ). with_call (moved_to old.files.io opened n) p None) at;
     })))

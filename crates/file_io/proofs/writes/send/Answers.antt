@@ -6,7 +6,7 @@ use Rattle.os9_base.specs.declared.registers.Regs.{Regs}
 use Rattle.proc_model.specs.Processes.{regs_at, with_regs_of}
 use Rattle.io_model.specs.Io.{Io}
 use Rattle.io_model.specs.Modes.{can_write}
-use Rattle.proc_state.specs.Tie.{Represents}
+use Rattle.proc_state.specs.Tie.{RepresentsProcesses}
 use Rattle.file_rules.specs.Attempts.{asker_of}
 use Rattle.file_rules.specs.Step.{done}
 use Rattle.file_state.specs.declared.state.FileState.{FileState}
@@ -47,7 +47,7 @@ returns-then-regs-eq0-clause-call g c m was v file terms tied stands is there =
     (λ (io : Io). io) (regs_at m p)
     (record {
       end_is = c.answer.ensures.end;
-      tied = subst (λ (r : Regs). Represents c.answer.new.s
+      tied = subst (λ (r : Regs). RepresentsProcesses c.answer.new.s
           (with_regs_of m p r)) same (c.answer.ensures.tied m tied);
       io_is = c.answer.ensures.io;
     })))

@@ -3,7 +3,7 @@ use Rattle.guest_memory.specs.Tie.{cells_of}
 use Rattle.os9_base.specs.Cells.{Cells}
 use Rattle.io_model.specs.PathList.{path_list}
 use Rattle.file_rules.specs.Route.{list_of}
-use Rattle.file_routes.specs.Routes.{HasNames, RouteIs, StartsOn, leads, route_for}
+use Rattle.file_routes.specs.Routes.{HasCourseNames, RouteIs, StartsAtFile, leads, route_for}
 use Rattle.file_routes.specs.declared.route.Route.{Route}
 use Rattle.file_routes.proofs.RouteLemmas.{unless-refused, read-list, route-read}
 use Rattle.file_routes.proofs.route.find_route.Goals as goal
@@ -24,11 +24,11 @@ returns-in-Ok-clause-names g c =
     let cells : Cells = cells_of c.args.memory.now c.args.query.process.0 in
     let read = read-list (path_list cells c.args.query.at) c.in-Ok.list (sym c.in-Ok.ensures.list) in
     unless-refused c.args.query.refusal c.route_of.result c.unless_refused-in-Ok.result
-    (λ route. HasNames cells route.course) c.unless_refused-in-Ok.ensures (c.route_of.ensures.names cells read.0
+    (λ route. HasCourseNames cells route.course) c.unless_refused-in-Ok.ensures (c.route_of.ensures.names cells read.0
     read.1 read.2)
 
 pub returns-in-Ok-clause-start : goal.returns-in-Ok-clause-start
 returns-in-Ok-clause-start g c views volumes mounted there =
     unless-refused c.args.query.refusal c.route_of.result c.unless_refused-in-Ok.result
-    (λ route. StartsOn c.args.disks.now views route.course) c.unless_refused-in-Ok.ensures
+    (λ route. StartsAtFile c.args.disks.now views route.course) c.unless_refused-in-Ok.ensures
     (c.route_of.ensures.start views volumes mounted there)

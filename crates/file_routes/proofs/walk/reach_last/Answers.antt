@@ -4,7 +4,7 @@ use Rattle.os9_base.specs.Cells.{Cells}
 use Rattle.device_paths.specs.Standing.{NamesStand}
 use Rattle.device_paths.proofs.NamesLemmas.{same-memory, same-still}
 use Rattle.rbf_walk.specs.declared.error.DirError.{DirError}
-use Rattle.file_routes.specs.Walks.{GoesUp}
+use Rattle.file_routes.specs.Walks.{StepsToLaterName}
 use Rattle.file_routes.specs.declared.walk.Stepped.{Stepped}
 use Rattle.file_routes.specs.declared.walk.Stepped.TheVariants.{Last, Onward}
 use Rattle.file_routes.proofs.WalkLemmas.{steps-of, there-first, there-onward, walk-ended, walk-onward, walk-stopped, walked-first}
@@ -66,7 +66,7 @@ names-preserved g c =
     let is : c.step.result ≡ Ok (Onward c.in-Ok-Onward.next) =
     c.in-Ok-Onward.is ∙ ap (λ (stepped : Stepped). let found : Result Stepped DirError = Ok stepped in found) c.in-Ok-Onward.field-0-is
     in
-    let up = subst (λ (result : Result Stepped DirError). IfOk result (GoesUp c.names.place.at)) is c.step.ensures.up in
+    let up = subst (λ (result : Result Stepped DirError). IfOk result (StepsToLaterName c.names.place.at)) is c.step.ensures.up in
     let first = c.names.invariant.walked c.requires.names.names c.requires.names.stand in
     let steps = steps-of (cells_of c.names.memory c.args.walker.process.0) cells c.args.walker c.names.place.directory
     c.names.place.at c.step.result (Ok (Onward c.in-Ok-Onward.next)) c.names.disks _

@@ -1,6 +1,6 @@
 -- So far the walk has come to a directory, from where it goes on along the names that stand from an address on.
 use Rattle.std.proofs.Common.{◌≡◌, ◌-◌, ◌<◌, ℕ, List}
-use Rattle.guest_memory.specs.Tie.{IsSame, cells_of}
+use Rattle.guest_memory.specs.Tie.{IsMemorySame, cells_of}
 use Rattle.file_drives.specs.Drives.{drive_views}
 use Rattle.device_paths.specs.Standing.{NamesStand}
 use Rattle.file_routes.proofs.WalkLemmas.{IsThere, IsWalkedTo}
@@ -16,7 +16,7 @@ invariant-names g l = record {
       l.initial.devices.drives.items) l.disks (drive_views (λ box. (g.dyn-1.0.entry box.vtable).1)
       l.devices.drives.items);
   within : l.place.at < 65536;
-  same : IsSame l.initial.memory l.memory;
+  same : IsMemorySame l.initial.memory l.memory;
   terms : l.devices.terms ≡ l.initial.devices.terms;
 }
 

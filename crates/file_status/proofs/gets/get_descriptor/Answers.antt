@@ -2,7 +2,7 @@ use Rattle.os9_base.specs.declared.call.CallEnd.{CallEnd}
 use Rattle.std.proofs.Common.{◌≡◌, ◌∙◌, true, false, is_some, take, subst, sym, ap}
 use Rattle.proc_model.specs.Processes.{cells_at, with_memory, with_regs_of}
 use Rattle.proc_model.specs.UserBytes.{user_bytes}
-use Rattle.proc_state.specs.Tie.{Represents}
+use Rattle.proc_state.specs.Tie.{RepresentsProcesses}
 use Rattle.proc_model.specs.MemoryChanges.{stored}
 use Rattle.file_status.proofs.AttemptLemmas.{regs-tied}
 use Rattle.file_status.proofs.GetLemmas.{descriptor-failed, descriptor-stopped, descriptor-told}
@@ -24,7 +24,7 @@ returns-in-Ok-clause-call g c now m was it terms tied stands open_is =
     (subst (λ n. true ≡ is_some (user_bytes (cells_at m c.args.by.p.0) c.args.by.regs.x n))
     c.asked_count-count.ensures (sym c.if-not-is_named.false ∙ c.is_named.ensures.there m tied))
     c.in-Ok.ensures.drive c.answer.ensures.end
-    (subst (λ n. Represents c.answer.new.machine.processes
+    (subst (λ n. RepresentsProcesses c.answer.new.machine.processes
     (with_regs_of (with_memory m (stored m.memory c.args.by.p.0 c.args.by.regs.x
     (take n c.descriptor_front.result))) c.args.by.p.0 c.args.by.regs)) c.asked_count-count.ensures
     (c.answer.ensures.tied (with_memory m (stored m.memory c.args.by.p.0 c.args.by.regs.x (take c.asked_count-count.result c.descriptor_front.result))) (c.store.ensures.tied m tied)))

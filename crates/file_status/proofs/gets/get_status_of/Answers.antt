@@ -1,7 +1,7 @@
 use Rattle.std.proofs.Common.{◌∙◌, ◌≡◌, ap, subst, arith}
 use Rattle.os9_base.specs.declared.registers.Regs.{Regs}
 use Rattle.proc_model.specs.Processes.{regs_at, with_regs_of}
-use Rattle.proc_state.specs.Tie.{Represents}
+use Rattle.proc_state.specs.Tie.{RepresentsProcesses}
 use Rattle.file_status.proofs.AttemptLemmas.{regs-tied}
 use Rattle.file_status.proofs.CodeLemmas.{by-code, getting-unknown, position-told, ready-told}
 use Rattle.file_status.proofs.gets.get_status_of.Goals as goal
@@ -41,7 +41,7 @@ returns-in-5-clause-call g c now m was it terms tied stands open_is =
     (position-told m was now c.args.by.p.0 c.answer-in-5.result c.answer-in-5.new.machine.processes c.args.machine.now.files
     c.answer-in-5.new.machine.files _ terms it c.args.by.regs (c.requires.calls.calls.regs ∙ regs-tied c.args.machine.now.processes m c.args.by.p.0 tied) stands
     c.answer-in-5.ensures.files c.args.opened.now open_is c.answer-in-5.ensures.end
-    (subst (λ (r : Regs). Represents c.answer-in-5.new.machine.processes (with_regs_of m c.args.by.p.0 r)) c.long_regs.ensures (c.answer-in-5.ensures.tied m tied)))
+    (subst (λ (r : Regs). RepresentsProcesses c.answer-in-5.new.machine.processes (with_regs_of m c.args.by.p.0 r)) c.long_regs.ensures (c.answer-in-5.ensures.tied m tied)))
 
 pub returns-in-6-clause-call : goal.returns-in-6-clause-call
 returns-in-6-clause-call g c now m was it terms tied stands open_is =

@@ -6,7 +6,7 @@ use Rattle.proc_model.specs.Processes.{Processes, regs_at, with_regs_of}
 use Rattle.io_model.specs.Io.{with_call}
 use Rattle.lock_model.specs.Records.{Records, holding}
 use Rattle.lock_model.specs.declared.lock.Grant.TheVariants.{Granted}
-use Rattle.proc_state.specs.Tie.{Represents}
+use Rattle.proc_state.specs.Tie.{RepresentsProcesses}
 use Rattle.rbf_access.specs.Reading.{IsFdOf}
 use Rattle.file_rules.specs.Attempts.{asker_of}
 use Rattle.file_rules.specs.Locking.{answer_in, answer_to, request_now}
@@ -37,7 +37,7 @@ returns-then-count-eq0-clause-call g c now m was it terms tied stands open_is =
     lock-ended 1 m was now p c.end_lock.result c.end_lock.new.machine.processes c.args.machine.now.files c.end_lock.new.machine.files _ terms c.args.opened.now it stands open_is
     (sym c.is_for_update.ensures ∙ c.if-not-is_for_update.false) (eq-eqb (long_of (regs_at m p)) 0 none)
     c.end_lock.ensures.files c.end_lock.ensures.end
-    (subst (λ (r : Regs). Represents c.end_lock.new.machine.processes (with_regs_of m p r)) same (c.end_lock.ensures.tied m tied))
+    (subst (λ (r : Regs). RepresentsProcesses c.end_lock.new.machine.processes (with_regs_of m p r)) same (c.end_lock.ensures.tied m tied))
 
 pub returns-in-Err-clause-call : goal.returns-in-Err-clause-call
 returns-in-Err-clause-call g c now m was it terms tied stands open_is =
@@ -125,7 +125,7 @@ returns-clause-call g c now m was it terms tied stands open_is =
     c.args.opened.now it stands open_is
     (sym c.is_for_update.ensures ∙ c.if-not-is_for_update.false) (ne_eqb (long_of (regs_at m p)) 0 some) request same
     c.in-Ok.ensures.drive (answer ∙ granted-by _ c.in_default.ensures.end) c.answer.ensures.end
-    (subst (λ (r : Regs). Represents c.answer.new.machine.processes (with_regs_of m p r))
+    (subst (λ (r : Regs). RepresentsProcesses c.answer.new.machine.processes (with_regs_of m p r))
     (c.requires.calls.calls.regs ∙ regs-tied c.args.machine.now.processes m c.args.by.p.0 tied) (c.answer.ensures.tied m tied))
     (c.answer.ensures.files
     ∙ ap (λ (records : Records). let left : FileState = record c.ask.new.self { io = with_call c.ask.new.self.io p None; records = records } in left) held

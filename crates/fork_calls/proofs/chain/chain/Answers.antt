@@ -3,7 +3,7 @@ use Rattle.std.proofs.lemmas.Result.{err_from_is_err_and}
 use Rattle.proc_model.specs.CallResult.{CallResult}
 use Rattle.proc_model.specs.Chain.{f_chain}
 use Rattle.proc_calls.proofs.Steps.{refused-answers}
-use Rattle.proc_state.specs.Tie.{Answers}
+use Rattle.proc_state.specs.Tie.{ReturnsDoneOrRefused}
 use Rattle.fork_calls.specs.Starting.{starts_anew}
 use Rattle.fork_calls.proofs.chain.chain.Goals as goal
 
@@ -17,5 +17,5 @@ returns-in_err-program-clause-call c m tied =
 pub returns-clause-call : goal.returns-clause-call
 returns-clause-call c m tied =
     let read = c.in_ok-program.ensures.read m tied in
-    subst (λ (call : CallResult). Answers m call c.start_anew.result c.start_anew.new.s) (sym (read.goes (starts_anew m c.args.p.0)))
+    subst (λ (call : CallResult). ReturnsDoneOrRefused m call c.start_anew.result c.start_anew.new.s) (sym (read.goes (starts_anew m c.args.p.0)))
     (c.start_anew.ensures.call m read.entry (c.read_program.ensures.same.represents m tied) read.is)

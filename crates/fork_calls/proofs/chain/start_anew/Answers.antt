@@ -5,7 +5,7 @@ use Rattle.proc_model.specs.Processes.{Processes, own_at}
 use Rattle.proc_model.specs.ModuleLinks.{without_primary_link}
 use Rattle.proc_model.specs.Program.{Program}
 use Rattle.proc_calls.proofs.Steps.{refused-answers, done-answers}
-use Rattle.proc_state.specs.Tie.{Represents}
+use Rattle.proc_state.specs.Tie.{RepresentsProcesses}
 use Rattle.fork_calls.specs.Naming.{meant}
 use Rattle.fork_calls.specs.Starting.{starts_anew}
 use Rattle.fork_calls.proofs.Chaining.{anew_next, begun_so-anew}
@@ -28,5 +28,5 @@ returns-clause-call c m entry tied is =
     let held : Processes = with_program m p program loaded.memory in
     done-answers m (starts_anew m p program) (without_primary_link (begun_anew held p program) (own_at m p)) c.begin_anew.new.s
     (loaded.goes (anew_next m p program))
-    (subst (λ (t : Processes). Represents c.begin_anew.new.s (without_primary_link t (own_at m p))) (begun_so-anew held p program c.in_ok-start.start loaded.regs loaded.own)
+    (subst (λ (t : Processes). RepresentsProcesses c.begin_anew.new.s (without_primary_link t (own_at m p))) (begun_so-anew held p program c.in_ok-start.start loaded.regs loaded.own)
     (c.begin_anew.ensures.tied held loaded.stands))

@@ -8,7 +8,7 @@ use Rattle.proc_model.specs.Chain.{with_program}
 use Rattle.proc_model.specs.Processes.{Processes, regs_at, with_regs_of}
 use Rattle.proc_model.specs.Program.{Program}
 use Rattle.proc_calls.proofs.Steps.{refused-answers, done-answers, refused-alone}
-use Rattle.proc_state.specs.Tie.{Represents}
+use Rattle.proc_state.specs.Tie.{RepresentsProcesses}
 use Rattle.fork_calls.specs.Loading.{with_new_child}
 use Rattle.fork_calls.specs.Naming.{meant}
 use Rattle.fork_calls.specs.Starting.{starts_child}
@@ -45,5 +45,5 @@ returns-clause-call c m entry tied is =
     c.forked_regs.ensures program refl ∙ ap (λ (r : Regs). forked_regs r child program) (c.regs-regs.ensures.tied m tied) in
     done-answers m (starts_child m p program) (with_regs_of (with_child m p child program loaded.memory) p (forked_regs (regs_at m p) child program)) c.set_regs.new.self
     (fork-child m p program child some ∙ loaded.goes (child_next m p program child))
-    (subst (Represents c.set_regs.new.self) (λ i. with_regs_of (with_new_child t p child (record { regs = loaded.regs i; own = loaded.own i })) p (forked_is i))
+    (subst (RepresentsProcesses c.set_regs.new.self) (λ i. with_regs_of (with_new_child t p child (record { regs = loaded.regs i; own = loaded.own i })) p (forked_is i))
     (c.set_regs.ensures.tied _ (c.add_child.ensures.tied t loaded.stands)))

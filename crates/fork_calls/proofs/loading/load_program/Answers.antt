@@ -1,7 +1,7 @@
 use Rattle.std.proofs.Common.{◌≡◌, ℕ, Ok, Err, List, length, take, ap, sym, subst, arith}
 use Rattle.std.proofs.lemmas.Bool.{le-ltb}
 use Rattle.std.proofs.lemmas.List.{length-take-le}
-use Rattle.guest_memory.specs.Tie.{Answers as AnswersMemory}
+use Rattle.guest_memory.specs.Tie.{ReturnsMemoryResult as AnswersMemory}
 use Rattle.proc_model.specs.Processes.{Processes, with_memory}
 use Rattle.proc_model.specs.Program.{Program, most_pages}
 use Rattle.fork_calls.specs.Loading.{begun, IsNotLoaded}

@@ -7,7 +7,7 @@ use Rattle.proc_model.specs.declared.module.ModuleInfo.{ModuleInfo}
 use Rattle.proc_model.specs.ModuleList.{ModuleEntry, module_entry_at, found_module}
 use Rattle.proc_model.proofs.ModuleListLaws.{found_entry}
 use Rattle.proc_model.specs.Program.{program_kind, asks_for_program}
-use Rattle.fork_calls.specs.Naming.{IsFound, IsUnfound}
+use Rattle.fork_calls.specs.Naming.{IsProgramFound, IsUnfound}
 use Rattle.fork_calls.proofs.Programs.{found-nothing, found-other, found-program}
 use Rattle.fork_calls.proofs.naming.find_program.Goals as goal
 
@@ -46,6 +46,6 @@ returns-clause-found c m tied =
     found-seen c.args.memory.now m tied name kind ∙ ap (λ (modules : List (Option ModuleEntry)). found_module modules name kind) (sym c.modules.ensures) ∙ sym c.in-Some-find.ensures.found in
     let kind_is : (entry : ModuleEntry) → module_entry_at m.modules c.in-Some-find.id.0 ≡ Some entry → entry.info.kind ≡ c.info.result.kind =
     λ entry is. ap (λ (i : ModuleInfo). i.kind) (same_Some _ _ (sym (ap (option_map (λ (e : ModuleEntry). e.info)) is) ∙ c.info.ensures.tied m tied)) in
-    subst (λ (read : Option (List ℕ)). IsFound m.modules kind read c.in-Some-find.id.0 c.len.result) (sym c.in-Some.is)
-    (subst (IsFound m.modules kind (Some name) c.in-Some-find.id.0) (sym c.len.ensures.length)
+    subst (λ (read : Option (List ℕ)). IsProgramFound m.modules kind read c.in-Some-find.id.0 c.len.result) (sym c.in-Some.is)
+    (subst (IsProgramFound m.modules kind (Some name) c.in-Some-find.id.0) (sym c.len.ensures.length)
     (found-program m.modules kind asked name c.in-Some-find.id.0 found (λ entry is. eq-eqb entry.info.kind program_kind (kind_is entry is ∙ c.if-info-ne-PROGRAM.false))))

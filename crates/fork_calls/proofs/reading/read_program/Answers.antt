@@ -9,7 +9,7 @@ use Rattle.proc_model.specs.Processes.{Processes, regs_at, cells_at}
 use Rattle.proc_model.specs.declared.program_name.ProgramName.{ProgramName}
 use Rattle.proc_model.specs.Program.{area_pages, module_name, name_at_x, program_name}
 use Rattle.proc_model.specs.UserBytes.{user_bytes}
-use Rattle.fork_calls.specs.Naming.{IsFound, IsUnfound}
+use Rattle.fork_calls.specs.Naming.{IsProgramFound, IsUnfound}
 use Rattle.fork_calls.proofs.Programs.{read-no_name, read-no_bytes, read-unfound, read-found, read-stands, read-same}
 use Rattle.fork_calls.proofs.reading.read_program.Goals as goal
 
@@ -74,14 +74,14 @@ returns-clause-read c m tied =
     let bytes : List ℕ = take regs.y buffer in
     let passed : user_bytes (cells_at m p) (regs_at m p).u (regs_at m p).y ≡ Some bytes = ap
     (λ (r : Regs). user_bytes (cells_at m p) r.u r.y) (sym regs_are) ∙ c.if-not-read_bytes.ensures.read m stood in
-    let found : IsFound m.memory.modules (regs_at m p).a (module_name c.read_name-name.result) c.in_ok-id.id.0
-    c.in_ok-id.count = subst (λ (r : Regs). IsFound m.memory.modules r.a (module_name c.read_name-name.result)
-    c.in_ok-id.id.0 c.in_ok-id.count) regs_are (subst (λ (read : Option (List ℕ)). IsFound m.memory.modules regs.a
+    let found : IsProgramFound m.memory.modules (regs_at m p).a (module_name c.read_name-name.result) c.in_ok-id.id.0
+    c.in_ok-id.count = subst (λ (r : Regs). IsProgramFound m.memory.modules r.a (module_name c.read_name-name.result)
+    c.in_ok-id.id.0 c.in_ok-id.count) regs_are (subst (λ (read : Option (List ℕ)). IsProgramFound m.memory.modules regs.a
     read c.in_ok-id.id.0 c.in_ok-id.count) c.module_name.ensures (c.in_ok-id.ensures.found m.memory after.memory))
     in
     let long : length bytes ≡ regs.y = length-take-le regs.y buffer (omega arith) in
     read-found m p c.read_name-name.result name there bytes passed _ buffer
-    (subst (IsFound m.memory.modules (regs_at m p).a (module_name c.read_name-name.result) c.in_ok-id.id.0)
+    (subst (IsProgramFound m.memory.modules (regs_at m p).a (module_name c.read_name-name.result) c.in_ok-id.id.0)
     (sym c.from.ensures) found)
     (λ entry is.
     let info_is : entry.info ≡ c.info-info.result = same_Some _ _ (sym (ap (option_map (λ (e : ModuleEntry). e.info)) is) ∙ c.info-info.ensures.tied m.memory after.memory) in

@@ -11,7 +11,7 @@ use Rattle.file_rules.specs.Program.{chains, loaded_program, starts_first}
 use Rattle.file_rules.specs.ProgramFile.{ProgramFile}
 use Rattle.load_calls.proofs.OutcomeLemmas.{first-there}
 use Rattle.fork_calls.specs.Starting.{starts_anew}
-use Rattle.proc_state.specs.Tie.{Answers, Represents}
+use Rattle.proc_state.specs.Tie.{ReturnsDoneOrRefused, RepresentsProcesses}
 use Rattle.load_calls.specs.Reading.{IsInBuffer}
 use Rattle.load_calls.specs.Starting.{start_refusal}
 use Rattle.load_calls.proofs.GoingOnLemmas.{goes-done, goes-refused}
@@ -21,7 +21,9 @@ use Rattle.load_calls.proofs.chain.chain_tried.Goals as goal
 use Rattle.load_calls.proofs.chain.chain_tried.Goals.{Start}
 
 -- the file can be loaded
-it : (c : Start) (m : Processes) (file : ProgramFile) → Represents c.args.s.now m → IsInBuffer c.args.s.now.buffer.items file c.args.read → IsReady m.memory file.bytes c.args.read.size c.args.first
+it : (c : Start) (m : Processes) (file : ProgramFile) → RepresentsProcesses c.args.s.now m
+    → IsInBuffer c.args.s.now.buffer.items file c.args.read → IsReady m.memory file.bytes c.args.read.size
+    c.args.first
 it c m file tied front =
     ready m.memory file.bytes (take c.args.read.size c.args.s.now.buffer.items) c.args.read.size c.args.first front.size_is front.bytes_are (c.requires.tried m.memory tied.memory) c.requires.first
 
@@ -78,4 +80,4 @@ returns-in-None-clause-call c m file tied front params =
     let answers = c.start_anew.ensures.call later loaded.first.entry entered.stands (ap (module_entry_at loaded.memory.modules) entered.number_is ∙ first-there m.memory file.bytes loaded at.it) in
     goes-done m file (starts_first chains m p) c.start_anew.new.s loaded at.loads c.start_anew.result later _ (starts_anew later p program) (is-program start m file at c.if-first-ne-PROGRAM.false)
     (start-goes m p file.bytes loaded at.it c.args.first at.first_is program refl goes (anew-next later p program))
-    (subst (λ (given : Program). Answers later (starts_anew later p given) c.start_anew.result c.start_anew.new.s) entered.is answers)
+    (subst (λ (given : Program). ReturnsDoneOrRefused later (starts_anew later p given) c.start_anew.result c.start_anew.new.s) entered.is answers)

@@ -1,6 +1,6 @@
 use Rattle.std.proofs.Common.{◌≡◌, ◌∙◌, ◌+◌, false, ℕ, Some, Ok, Err, List, refl, subst, sym, arith}
 use Rattle.std.proofs.lemmas.Option.{same_Some}
-use Rattle.guest_memory.specs.Tie.{Represents}
+use Rattle.guest_memory.specs.Tie.{RepresentsMemory}
 use Rattle.proc_model.proofs.LoadingLemmas.{LiesIn-step}
 use Rattle.proc_model.specs.Loading.{EntersModules}
 use Rattle.proc_model.specs.Memory.{MemoryState}
@@ -59,19 +59,20 @@ enter_others-requires-clause-can c =
     (can-enter file it.0 c.args.first loaded.after c.requires.first loaded.enters c.in-Ok.id.0 c.enter.new.self (free-seen c.args.memory.now it.0 it.1 ∙ c.in-Ok.ensures.number) first)
 
 -- the first module has the number that was free
-number-is : (c : After-enter_others) (m : MemoryState) (loaded : Loaded) → Represents c.args.memory.now m → IsLoaded m c.args.file.now loaded → c.in-Ok.id.0 ≡ loaded.first.number
+number-is : (c : After-enter_others) (m : MemoryState) (loaded : Loaded) → RepresentsMemory c.args.memory.now m → IsLoaded m c.args.file.now loaded → c.in-Ok.id.0 ≡ loaded.first.number
 number-is c m loaded tied it =
     same_Some c.in-Ok.id.0 loaded.first.number (sym (free-seen c.args.memory.now m tied ∙ c.in-Ok.ensures.number) ∙ (first-found m it.after loaded.first it.first_is).number_is)
 
 -- memory has the file
-stands : (c : After-enter_others) (m : MemoryState) (loaded : Loaded) → Represents c.args.memory.now m → IsLoaded m c.args.file.now loaded → Represents c.enter_others.new.memory loaded.memory
+stands : (c : After-enter_others) (m : MemoryState) (loaded : Loaded) → RepresentsMemory c.args.memory.now m
+    → IsLoaded m c.args.file.now loaded → RepresentsMemory c.enter_others.new.memory loaded.memory
 stands c m loaded tied it =
     let file : List ℕ = c.args.file.now in
     let group : List ℕ = new_numbers m (file_blocks file) in
     let free : free_number m.modules ≡ Some c.in-Ok.id.0 = free-seen c.args.memory.now m tied ∙ c.in-Ok.ensures.number in
     let first = entered-first file m c.args.first it.after c.requires.first it.enters (Ok c.in-Ok.id) c.in-Ok.id c.enter.new.self it.room refl (c.in-Ok.ensures.enters m tied) in
     let rest = rest-enters file m c.args.first it.after c.requires.first it.enters in
-    subst (Represents c.enter_others.new.memory) (sym it.memory_is)
+    subst (RepresentsMemory c.enter_others.new.memory) (sym it.memory_is)
     (c.enter_others.ensures.entered (with_first file m c.args.first) group it.after first (first-group file m c.args.first it.after c.requires.first it.enters c.in-Ok.id.0 free)
     (subst (λ (size : ℕ). EntersModules file group false (c.args.first.at + size) (with_first file m c.args.first).modules (Ok it.after)) (sym c.from.ensures) rest))
 

@@ -11,7 +11,7 @@ use Rattle.proc_calls.specs.Linked.{links_entered}
 use Rattle.proc_model.proofs.LoadingLemmas.{LiesIn-step}
 use Rattle.proc_model.specs.ModuleList.{module_entry_at}
 use Rattle.proc_model.specs.Objects.{file_blocks}
-use Rattle.proc_state.specs.Tie.{Answers, Represents}
+use Rattle.proc_state.specs.Tie.{ReturnsDoneOrRefused, RepresentsProcesses}
 use Rattle.load_calls.specs.Reading.{IsInBuffer}
 use Rattle.load_calls.specs.Loading.{has_place}
 use Rattle.load_calls.proofs.GoingOnLemmas.{goes-done, goes-refused}
@@ -21,7 +21,9 @@ use Rattle.load_calls.proofs.load.load_tried.Goals as goal
 use Rattle.load_calls.proofs.load.load_tried.Goals.{Start}
 
 -- the file can be loaded
-it : (c : Start) (m : Processes) (file : ProgramFile) → Represents c.args.s.now m → IsInBuffer c.args.s.now.buffer.items file c.args.read → IsReady m.memory file.bytes c.args.read.size c.args.first
+it : (c : Start) (m : Processes) (file : ProgramFile) → RepresentsProcesses c.args.s.now m
+    → IsInBuffer c.args.s.now.buffer.items file c.args.read → IsReady m.memory file.bytes c.args.read.size
+    c.args.first
 it c m file tied front =
     ready m.memory file.bytes (take c.args.read.size c.args.s.now.buffer.items) c.args.read.size c.args.first front.size_is front.bytes_are (c.requires.tried m.memory tied.memory) c.requires.first
 
@@ -55,6 +57,6 @@ returns-clause-call c m file tied front =
     let count_is : c.saturating_sub.result ≡ count = omega (arith, c.saturating_sub.ensures, c.from.ensures, front.next_is, x_is) in
     let answers = c.link_module.ensures.call later loaded.first.entry entered.stands (ap (module_entry_at loaded.memory.modules) entered.number_is ∙ first-there m.memory file.bytes loaded at.it) in
     goes-done m file (links_first m p) c.link_module.new.s loaded at.loads c.link_module.result later placed.0 (links_entered later p loaded.first count) (sym first) (first ∙ placed.1)
-    (subst (λ (call : CallResult). Answers later call c.link_module.result c.link_module.new.s)
+    (subst (λ (call : CallResult). ReturnsDoneOrRefused later call c.link_module.result c.link_module.new.s)
     (λ i. links_entered later p (record { number = entered.number_is i; entry = loaded.first.entry })
     (count_is i)) answers)

@@ -5,7 +5,7 @@ use Rattle.file_routes.specs.Routes.{next_step, refuses_by}
 use Rattle.file_routes.specs.declared.route.Purpose.TheVariants.{Existing}
 use Rattle.name_calls.specs.ListCalls.{deletes_by_calls, deleting_calls, named_calls}
 use Rattle.name_calls.specs.Delete.{deletes_it, deletes_it_calls}
-use Rattle.name_calls.specs.Naming.{IsNamed, names_last}
+use Rattle.name_calls.specs.Naming.{IsNameLocated, names_last}
 use Rattle.name_calls.proofs.DeleteLemmas.{deletes-parts}
 use Rattle.name_calls.proofs.DeletingLemmas.{deletes-quiet}
 use Rattle.name_calls.proofs.ListCallLemmas.{named-seen, named-within}
@@ -26,7 +26,7 @@ returns-in-Err-clause-tries g c now m was tied stands =
     (sym (deletes-parts asker was c.args.lookup.execute terms c.args.lookup.refusal)) refl
     (tries-more (next_step look (deletes_it asker was c.args.lookup.execute)) seen most asker was _ _ _ _ (named-seen Existing asker was terms c.args.lookup.execute
     (deleting_calls asker.user c.args.lookup.execute))
-    (tries-unfound (IsNamed Existing look was) look (deletes_it asker was c.args.lookup.execute) seen asker was
+    (tries-unfound (IsNameLocated Existing look was) look (deletes_it asker was c.args.lookup.execute) seen asker was
     c.in-Err.number c.locate_last.new.machine.files _ _ (deletes-quiet asker was c.args.lookup.execute)
     (c.in-Err.ensures.locates m was now tied stands)))
 
@@ -37,7 +37,7 @@ returns-in-Ok-clause-tries g c now m was tied stands =
     let look = names_last Existing c.args.lookup.execute c.args.lookup.refusal asker was terms in
     let seen = named_calls Existing c.args.lookup.execute (λ name v dir. 0) asker was terms in
     let most = deletes_by_calls c.args.lookup.execute asker was terms in
-    let loc = found (IsNamed Existing look was) look seen was c.in-Ok.located c.locate_last.new.machine.files _ _ (c.in-Ok.ensures.locates m was now tied stands) in
+    let loc = found (IsNameLocated Existing look was) look seen was c.in-Ok.located c.locate_last.new.machine.files _ _ (c.in-Ok.ensures.locates m was now tied stands) in
     tries-same (next_step look (deletes_it asker was c.args.lookup.execute)) (deletes_by asker was terms c.args.lookup.execute
     (refuses_by c.args.lookup.refusal)) most most asker was _ _ _ _
     (sym (deletes-parts asker was c.args.lookup.execute terms c.args.lookup.refusal)) refl

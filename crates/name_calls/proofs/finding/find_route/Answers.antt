@@ -2,7 +2,7 @@ use Rattle.std.proofs.Common.{◌≡◌, ◌∙◌, IfOk, length, refl, ap, sym,
 use Rattle.std.proofs.lemmas.List.{length-map}
 use Rattle.os9_base.specs.Cells.{Cells}
 use Rattle.os9_base.specs.declared.registers.Regs.{Regs}
-use Rattle.file_routes.specs.Routes.{HasNames}
+use Rattle.file_routes.specs.Routes.{HasCourseNames}
 use Rattle.name_calls.proofs.DeviceLemmas.{as-many}
 use Rattle.name_calls.proofs.SameLemmas.{regs-are}
 use Rattle.name_calls.proofs.finding.find_route.Goals as goal
@@ -20,7 +20,7 @@ returns-clause-route g c m was now tied stands =
 
 pub returns-clause-names : goal.returns-clause-names
 returns-clause-names g c =
-    subst (λ (cells : Cells). IfOk c.call_route.result (λ route. HasNames cells route.course)) (sym (c.call_route.ensures.same.memory.cells c.args.by.p.0)) c.call_route.ensures.names
+    subst (λ (cells : Cells). IfOk c.call_route.result (λ route. HasCourseNames cells route.course)) (sym (c.call_route.ensures.same.memory.cells c.args.by.p.0)) c.call_route.ensures.names
 
 pub returns-clause-start : goal.returns-clause-start
 returns-clause-start g c =

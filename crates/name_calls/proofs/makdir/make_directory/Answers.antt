@@ -6,7 +6,7 @@ use Rattle.file_routes.specs.Routes.{next_step}
 use Rattle.file_routes.specs.declared.route.Purpose.TheVariants.{New}
 use Rattle.name_calls.specs.ListCalls.{i_makdir_calls, making_calls, named_calls}
 use Rattle.name_calls.specs.MakDir.{makes_it, makes_it_calls}
-use Rattle.name_calls.specs.Naming.{IsNamed, names_last}
+use Rattle.name_calls.specs.Naming.{IsNameLocated, names_last}
 use Rattle.name_calls.proofs.ListCallLemmas.{named-seen, named-within}
 use Rattle.name_calls.proofs.LookLemmas.{found}
 use Rattle.name_calls.proofs.MakDirLemmas.{makdir-parts}
@@ -24,7 +24,7 @@ returns-in-Err-clause-tries g c m was tied stands =
     let most = i_makdir_calls asker was terms in
     tries-same (next_step look (makes_it asker was)) (i_makdir asker was terms) most most asker was _ _ _ _ (sym (makdir-parts asker was terms)) refl
     (tries-more (next_step look (makes_it asker was)) seen most asker was _ _ _ _ (named-seen New asker was terms false (making_calls asker.user))
-    (tries-unfound (IsNamed New look was) look (makes_it asker was) seen asker was c.in-Err.number
+    (tries-unfound (IsNameLocated New look was) look (makes_it asker was) seen asker was c.in-Err.number
     c.locate_last.new.machine.files _ _ (makes-quiet asker was) (c.in-Err.ensures.locates m was c.args.by.time tied stands)))
 
 pub returns-in-Ok-clause-tries : goal.returns-in-Ok-clause-tries
@@ -34,7 +34,7 @@ returns-in-Ok-clause-tries g c m was tied stands =
     let look = names_last New false None asker was terms in
     let seen = named_calls New false (λ name v dir. 0) asker was terms in
     let most = i_makdir_calls asker was terms in
-    let loc = found (IsNamed New look was) look seen was c.in-Ok.located c.locate_last.new.machine.files _ _ (c.in-Ok.ensures.locates m was c.args.by.time tied stands) in
+    let loc = found (IsNameLocated New look was) look seen was c.in-Ok.located c.locate_last.new.machine.files _ _ (c.in-Ok.ensures.locates m was c.args.by.time tied stands) in
     tries-same (next_step look (makes_it asker was)) (i_makdir asker was terms) most most asker was _ _ _ _ (sym (makdir-parts asker was terms)) refl
     (tries-more (next_step look (makes_it asker was)) (makes_it_calls seen asker loc.it) most asker was _ _ _ _
     (named-within New asker was terms false (making_calls asker.user) loc.it None loc.answer)

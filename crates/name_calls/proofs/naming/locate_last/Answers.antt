@@ -7,7 +7,7 @@ use Rattle.device_paths.specs.Standing.{NamesFrom, NamesStand}
 use Rattle.file_routes.specs.Walks.{SomeFrom}
 use Rattle.file_routes.specs.declared.walk.Walker.{Walker}
 use Rattle.name_calls.specs.ListCalls.{named_calls}
-use Rattle.name_calls.specs.Naming.{IsNamed, names_last}
+use Rattle.name_calls.specs.Naming.{IsNameLocated, names_last}
 use Rattle.name_calls.proofs.LocatingLemmas.{has-along, starts-along}
 use Rattle.name_calls.proofs.LookLemmas.{refused-there}
 use Rattle.name_calls.proofs.NamingLemmas.{along-named, along-unnamed, has-last, names-along, names-device, names-refused, reached-directory}
@@ -18,7 +18,7 @@ pub returns-in-Err-clause-locates : goal.returns-in-Err-clause-locates
 returns-in-Err-clause-locates g c m was now tied stands =
     let step = names_last c.args.search.purpose c.args.search.lookup.execute c.args.search.lookup.refusal (asker_of m c.args.by.p.0 now) was (vec_len c.args.devices.now.terms) in
     let most = named_calls c.args.search.purpose c.args.search.lookup.execute (λ name v dir. 0) (asker_of m c.args.by.p.0 now) was (vec_len c.args.devices.now.terms) in
-    refused-there (IsNamed c.args.search.purpose step was) step most c.in-Err.number was c.args.machine.now.files _ stands
+    refused-there (IsNameLocated c.args.search.purpose step was) step most c.in-Err.number was c.args.machine.now.files _ stands
     (names-refused c.args.search.purpose (asker_of m c.args.by.p.0 now) was (vec_len c.args.devices.now.terms) c.args.search.lookup.execute c.args.search.lookup.refusal c.in-Err.number
     (c.in-Err.ensures.route m was now tied stands))
 
@@ -26,7 +26,7 @@ pub returns-in_default-clause-locates : goal.returns-in_default-clause-locates
 returns-in_default-clause-locates g c m was now tied stands =
     let step = names_last c.args.search.purpose c.args.search.lookup.execute c.args.search.lookup.refusal (asker_of m c.args.by.p.0 now) was (vec_len c.args.devices.now.terms) in
     let most = named_calls c.args.search.purpose c.args.search.lookup.execute (λ name v dir. 0) (asker_of m c.args.by.p.0 now) was (vec_len c.args.devices.now.terms) in
-    refused-there (IsNamed c.args.search.purpose step was) step most 214 was c.args.machine.now.files _ stands
+    refused-there (IsNameLocated c.args.search.purpose step was) step most 214 was c.args.machine.now.files _ stands
     (names-device c.args.search.purpose (asker_of m c.args.by.p.0 now) was (vec_len c.args.devices.now.terms) c.args.search.lookup.execute
     c.args.search.lookup.refusal (cells_at m c.args.by.p.0) c.in-Ok.route (c.in-Ok.ensures.route m was now tied stands)
     c.in_default.is)

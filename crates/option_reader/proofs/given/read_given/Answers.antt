@@ -22,7 +22,7 @@ names_named names named = All-map (λ name. name ≢ []) (λ name. name.now) nam
 module _ (c : goal.In-Ok) where
   taken-here : (Some (given_of (rows_of (found_of c.in-Ok.matches))) ≡ Rattle.option_reader.specs.Given.words_give
       (map (λ name. name.now) c.args.names.now) (map string_bytes c.args.words.now)) × All
-      Rattle.option_reader.specs.Rows.HasValue (rows_of (found_of c.in-Ok.matches))
+      Rattle.option_reader.specs.Rows.HasOptionValue (rows_of (found_of c.in-Ok.matches))
   taken-here =
       let names = map (λ name. name.now) c.args.names.now in
       let words = map string_bytes c.args.words.now in

@@ -2,7 +2,7 @@
 use Rattle.std.proofs.Common.{[], refl, subst}
 use Rattle.boot_run.specs.World.{world_of}
 use Rattle.os9_boot.specs.Asm.{MakesModule, asm_file_name}
-use Rattle.os9_boot.specs.AsmSteps.{RefusesSource, WritesOut}
+use Rattle.os9_boot.specs.AsmSteps.{RefusesSource, WritesAsmOut}
 use Rattle.os9_boot.proofs.AsmCallLemmas.{module-written, read-ended, source-refused}
 use Rattle.os9_boot.proofs.AsmNoteLemmas.{notes-refused, notes-stopped, notes-written}
 use Rattle.os9_boot.proofs.asm.do_asm.Goals as goal
@@ -22,7 +22,7 @@ pub returns-in-Ok-make_module-clause-call : goal.returns-in-Ok-make_module-claus
 returns-in-Ok-make_module-clause-call g c devices =
     module-written c.args.asm.now c.in-Ok.source.items _ _ c.in-Ok.ensures.contents (c.in-Ok.ensures.kept devices) c.in-Ok-make_module.module.items
     (subst (λ source. MakesModule source c.in-Ok-make_module.module.items) c.deref.ensures.value c.in-Ok-make_module.ensures.made) _ c.write_module.result
-    (subst (λ bytes. WritesOut c.args.asm.now bytes c.write_module.result (world_of g.H.Host c.read_input.new.host
+    (subst (λ bytes. WritesAsmOut c.args.asm.now bytes c.write_module.result (world_of g.H.Host c.read_input.new.host
     devices) (world_of g.H.Host c.write_module.new.host devices)) c.deref-in-Ok-make_module.ensures.value
     (c.write_module.ensures.wrote devices))
 

@@ -5,7 +5,7 @@ use Rattle.os9_kernel.specs.Outside.{outside}
 use Rattle.os9_boot.proofs.BootCallLemmas.{stopped-call}
 use Rattle.os9_boot.proofs.BootLemmas.{boot-ended, boot-refused, boot-texts-refused}
 use Rattle.os9_boot.proofs.MachineLemmas.{runs-after}
-use Rattle.os9_words.specs.Notes.{HasRead, notes_of}
+use Rattle.os9_words.specs.Notes.{HasReadFiles, notes_of}
 use Rattle.os9_words.specs.declared.command.Command.TheVariants.{Boot as BootCommand}
 use Rattle.boot_run.specs.Machine.{history_left}
 use Rattle.boot_run.specs.World.{world_of}
@@ -86,7 +86,7 @@ returns-clause-noted g c =
     (output_bytes (outputs_of c.args.boot.now) c.run_images-outcome.new.images
     (history_left c.run_images-outcome.result.records)) c.run_images-outcome.result.end c.write_back.result (world_of g.H.Host c.run_images-outcome.new.host left)
     (world_of g.H.Host c.write_back.new.host left) (c.write_back.ensures.ended left) in
-    let read : HasRead (run_inputs c.args.boot.now) (notes_of g.H.Host c.args.host.now)
+    let read : HasReadFiles (run_inputs c.args.boot.now) (notes_of g.H.Host c.args.host.now)
     (notes_of g.H.Host c.run_images-outcome.new.host) = record {
       is = c.run_images-outcome.ensures.notes_kept ∙
           c.in-Ok.ensures.noted.is;

@@ -1,6 +1,6 @@
 use Rattle.std.proofs.Common.{refl, sym, subst}
 use Rattle.std.specs.Prelude.{slice_get}
-use Rattle.os9_words.specs.Notes.{HasRead, notes_of}
+use Rattle.os9_words.specs.Notes.{HasReadFiles, notes_of}
 use Rattle.boot_run.specs.World.{world_of}
 use Rattle.boot_run.specs.declared.status.Input.TheVariants.{File}
 use Rattle.boot_run.proofs.FileLemmas.{stopped-as}
@@ -38,6 +38,6 @@ returns-in_default-clause-contents g c = other-contents c.args.vol.now _ _ c.in_
 
 pub returns-in_default-clause-noted : goal.returns-in_default-clause-noted
 returns-in_default-clause-noted g c =
-    subst (λ names. HasRead names (notes_of g.H.Host c.args.host.now) (notes_of g.H.Host c.args.host.now))
+    subst (λ names. HasReadFiles names (notes_of g.H.Host c.args.host.now) (notes_of g.H.Host c.args.host.now))
     (sym (no-names c.args.vol.now.verb c.args.vol.now c.in_default.not-Put))
     (read-none (notes_of g.H.Host c.args.host.now))

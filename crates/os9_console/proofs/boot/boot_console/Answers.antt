@@ -6,7 +6,7 @@ use Rattle.console_run.specs.Keyboard.{keyboard_state}
 use Rattle.console_run.specs.declared.session.SessionEnd.TheVariants.{LineLost, OfRun}
 use Rattle.console_run.proofs.PartLemmas.{keeps-none}
 use Rattle.os9_console.specs.Images.{RunsConsole}
-use Rattle.os9_words.specs.Notes.{HasRead, notes_of}
+use Rattle.os9_words.specs.Notes.{HasReadFiles, notes_of}
 use Rattle.boot_run.specs.declared.status.End.TheVariants.{NoMemory}
 use Rattle.os9_boot.specs.History.{output_bytes, output_names, outputs_of}
 use Rattle.os9_boot.proofs.NameLemmas.{behind-end, behind-images, images-unwritten}
@@ -88,7 +88,7 @@ returns-in-OfRun-clause-noted g c =
     let behind = behind-end outputs bytes c.in-OfRun.end c.write_back.result
     (world_of g.H.Host c.run_on_images-session.new.host left) (world_of g.H.Host c.write_back.new.host left)
     (c.write_back.ensures.ended left) in
-    let read : HasRead c.args.boot.now.files (notes_of g.H.Host c.args.host.now)
+    let read : HasReadFiles c.args.boot.now.files (notes_of g.H.Host c.args.host.now)
     (notes_of g.H.Host c.run_on_images-session.new.host) = record {
       is = c.run_on_images-session.ensures.notes_kept ∙
           c.in-Ok.ensures.noted.is;
@@ -97,7 +97,7 @@ returns-in-OfRun-clause-noted g c =
 
 pub returns-clause-noted : goal.returns-clause-noted
 returns-clause-noted g c =
-    let read : HasRead c.args.boot.now.files (notes_of g.H.Host c.args.host.now)
+    let read : HasReadFiles c.args.boot.now.files (notes_of g.H.Host c.args.host.now)
     (notes_of g.H.Host c.run_on_images-session.new.host) = record {
       is = c.run_on_images-session.ensures.notes_kept ∙
           c.in-Ok.ensures.noted.is;

@@ -1,7 +1,7 @@
 -- The commands below the index are done, and what they show is put.
 use Rattle.std.proofs.Common.{◌≡◌}
 use Rattle.std.specs.Vec.{vec_len}
-use Rattle.machine_model.specs.ProcessStart.{Refuses}
+use Rattle.machine_model.specs.ProcessStart.{RefusesBoot}
 use Rattle.machine_model.specs.declared.ends.BootFault.{BootFault}
 use Rattle.os9_kernel.specs.Outside.{outside}
 use Rattle.os9_words.specs.Notes.{notes_of}
@@ -20,7 +20,7 @@ invariant-loop-command g l =
       at : IsPositionOf l.machine first l.position now;
       so_far : SoFar l.machine l.commands first now l.command-index (g.H.Host.bytes_out l.fn.host) (g.H.Host.bytes_out l.host) l.position.events;
       starts : HasStart l.machine first;
-      accepted : (fault : BootFault) → ¬ Refuses l.machine.file.now l.machine.blocks fault;
+      accepted : (fault : BootFault) → ¬ RefusesBoot l.machine.file.now l.machine.blocks fault;
       none : HasNoFault (world_of g.H.Host l.fn.host nowhere) (world_of g.H.Host l.host nowhere);
       files : g.H.Host.file_map l.host ≡ g.H.Host.file_map l.fn.host;
       notes : notes_of g.H.Host l.host ≡ notes_of g.H.Host l.fn.host;

@@ -9,7 +9,7 @@ use Rattle.file_drives.specs.Drives.{drive_states, drive_views}
 use Rattle.os9_kernel.specs.Outside.{outside}
 use Rattle.boot_run.proofs.MachineLemmas.{drives-counted, where-refused}
 use Rattle.os9_debug.specs.Machine.{start_fault}
-use Rattle.os9_debug.specs.Moves.{HasStarted}
+use Rattle.os9_debug.specs.Moves.{HasStartedMachine}
 use Rattle.os9_debug.specs.declared.machine.SessionFault.{SessionFault}
 use Rattle.os9_debug.specs.declared.machine.SessionFault.TheVariants.{NoMemory}
 use Rattle.os9_debug.proofs.Counted.{fell-kept}
@@ -43,7 +43,7 @@ returns-in-Err-Boot-clause-started g c =
     let after = outside (λ box. (g.dyn-1.0.entry box.vtable).1) (λ box. (g.dyn-2.0.entry box.vtable).1) c.new.new.devices in
     let same = where-refused c.in-Err-Boot.field-0
     (λ same. ap (λ devices. outside (λ box. (g.dyn-1.0.entry box.vtable).1) (λ box. (g.dyn-2.0.entry box.vtable).1) devices) same) c.in-Err-Boot.ensures.untouched in
-    subst (λ (fault : SessionFault). HasStarted c.args.machine.now (Err fault) before after)
+    subst (λ (fault : SessionFault). HasStartedMachine c.args.machine.now (Err fault) before after)
     (sym (c.fault_of.ensures ∙ ap start_fault c.in-Err-Boot.fault-is))
     (start-refused c.args.machine.now c.in-Err-Boot.field-0 c.in-Err-Boot.fault before after c.in-Err-Boot.field-0-is
     c.in-Err-Boot.ensures.starts.refused same (ap (λ terms. terminal_states (λ box. (g.dyn-2.0.entry box.vtable).1)

@@ -1,7 +1,7 @@
 use Rattle.std.proofs.Common.{◌≡◌, Ok, subst}
 use Rattle.os9_kernel.specs.Outside.{outside}
 use Rattle.debug_run.specs.declared.command.Command.TheVariants.{To}
-use Rattle.debug_run.specs.Moves.{HasGone}
+use Rattle.debug_run.specs.Moves.{HasReachedEvent}
 use Rattle.debug_run.specs.declared.position.Step.{Step}
 use Rattle.debug_run.specs.declared.position.Step.TheVariants.{Event, End}
 use Rattle.os9_debug.specs.declared.machine.SessionFault.TheVariants.{NoMemory}
@@ -42,7 +42,7 @@ returns-in-Ok-advance_to-clause-end g c = λ is.
     let after = outside (λ box. (g.dyn-1.0.entry box.vtable).1) (λ box. (g.dyn-2.0.entry box.vtable).1) c.advance_to.new.devices in
     let same : c.in-Ok-advance_to.step ≡ End = cc in
     at-end _ c.args.machine.now c.args.k c.args.position.now c.go_back.new.position c.advance_to.new.self _ _ _
-    c.in-Ok.ensures.moved (subst (λ (step : Step). HasGone c.args.k c.args.machine.now.slices.now
+    c.in-Ok.ensures.moved (subst (λ (step : Step). HasReachedEvent c.args.k c.args.machine.now.slices.now
     c.go_back.new.position c.advance_to.new.self (Ok step) between after) same c.in-Ok-advance_to.ensures.gone)
 
 pub returns-in-Err-advance_to-clause-moved : goal.returns-in-Err-advance_to-clause-moved

@@ -7,17 +7,17 @@ use Rattle.proc_model.specs.Ends.{reaped, after_reap}
 use Rattle.proc_model.specs.Processes.{Processes, regs_at, with_records, with_regs_of}
 use Rattle.proc_model.specs.Wait.{f_wait, reaped_regs}
 use Rattle.proc_state.specs.declared.state.ProcState.{ProcState}
-use Rattle.proc_state.specs.Tie.{Represents, Comes}
+use Rattle.proc_state.specs.Tie.{RepresentsProcesses, ReturnsCallEnd}
 use Rattle.proc_calls.proofs.children.f_wait.Goals as goal
 
 -- a child was given, by records and registers that are those of the machine
 child_comes : (m : Processes) (new : ProcState) (p : ℕ) (child : Pid × ℕ) (table : List (Option Record)) (regs : Regs)
     → table ≡ m.records → regs ≡ regs_at m p → reaped table p ≡ Ok child
-    → Represents new (with_regs_of (with_records m (after_reap table p)) p (reaped_regs regs child))
-    → Comes m p (f_wait m p) Done new
+    → RepresentsProcesses new (with_regs_of (with_records m (after_reap table p)) p (reaped_regs regs child))
+    → ReturnsCallEnd m p (f_wait m p) Done new
 child_comes m new p child table regs same_table same_regs given stands =
     let is : reaped m.records p ≡ Ok child = rw same_table at given in
-    let then : Represents new (with_regs_of (with_records m (after_reap m.records p)) p (reaped_regs (regs_at m p) child)) = rw (same_table, same_regs) at stands in
+    let then : RepresentsProcesses new (with_regs_of (with_records m (after_reap m.records p)) p (reaped_regs (regs_at m p) child)) = rw (same_table, same_regs) at stands in
     rw is (refl, then)
 
 pub returns-in-Ok-clause-call : goal.returns-in-Ok-clause-call

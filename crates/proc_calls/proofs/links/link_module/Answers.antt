@@ -8,7 +8,7 @@ use Rattle.proc_model.specs.ModuleList.{ModuleEntry}
 use Rattle.proc_model.specs.Processes.{own_at, regs_at, with_memory, with_own, with_regs_of}
 use Rattle.proc_model.specs.Link.{mapped_group, links_at, with_links_at, linked_regs, after_link}
 use Rattle.proc_model.specs.ModuleLinks.{Entered, header_address}
-use Rattle.proc_state.specs.Tie.{Represents}
+use Rattle.proc_state.specs.Tie.{RepresentsProcesses}
 use Rattle.proc_calls.specs.Linked.{entered_as, links_entered}
 use Rattle.proc_calls.proofs.Linking.{link-refused, link-linked}
 use Rattle.proc_calls.proofs.Steps.{done-answers, refused-alone}
@@ -42,7 +42,7 @@ returns-clause-call c =
     c.linked_regs.ensures entry info_is ∙ ap (λ (regs : Regs). linked_regs regs entry (header_address slot entry)
     count) (c.regs-regs.ensures.tied _ added) in
     done-answers m (links_entered m p found count) (after_link m p found mapped count) c.set_regs.new.self there.goes
-    (subst (Represents c.set_regs.new.self) (λ i. with_regs_of (with_own (with_memory m (linked mapped.memory id)) p
+    (subst (RepresentsProcesses c.set_regs.new.self) (λ i. with_regs_of (with_own (with_memory m (linked mapped.memory id)) p
     (with_links_at (own_at m p) (sym there.slot_is i) (links_at (own_at m p) (sym there.slot_is i) + 1))) p
     ((regs_are ∙ (λ j. linked_regs (regs_at m p) entry (header_address (sym there.slot_is j) entry) count)) i))
     (c.set_regs.ensures.tied _ added))

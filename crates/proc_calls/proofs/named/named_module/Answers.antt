@@ -6,7 +6,7 @@ use Rattle.proc_model.specs.ModuleList.{ModuleEntry, module_entry_at, found_modu
 use Rattle.proc_model.proofs.ModuleListLaws.{found_entry}
 use Rattle.proc_model.specs.Processes.{regs_at, cells_at}
 use Rattle.os9_base.specs.UserNames.{name_at}
-use Rattle.proc_calls.specs.Named.{name_or_error, IsNamed}
+use Rattle.proc_calls.specs.Named.{name_or_error, IsModuleNamed}
 use Rattle.proc_calls.proofs.Naming.{named-error, named-nothing, named-found}
 use Rattle.proc_calls.proofs.named.named_module.Goals as goal
 
@@ -28,7 +28,7 @@ returns-in-Some-clause-named c =
     let found : found_module m.memory.modules name (regs_at m c.args.p.0).a ≡ Some c.in-Some.id.0 =
     ap (λ (regs : Regs). found_module m.memory.modules name regs.a) (sym regs_are) ∙ found-seen c.read_name.new.s.memory m.memory stood.memory name c.regs-regs.result.a
     ∙ ap (λ (modules : List (Option ModuleEntry)). found_module modules name c.regs-regs.result.a) (sym c.modules.ensures) ∙ sym c.in-Some.ensures.found in
-    subst (IsNamed m c.args.p.0 c.in-Some.id.0) (sym c.len.ensures.length) (named-found m c.args.p.0 name read c.in-Some.id.0 found)
+    subst (IsModuleNamed m c.args.p.0 c.in-Some.id.0) (sym c.len.ensures.length) (named-found m c.args.p.0 name read c.in-Some.id.0 found)
 
 pub returns-in-Some-clause-entered : goal.returns-in-Some-clause-entered
 returns-in-Some-clause-entered c =

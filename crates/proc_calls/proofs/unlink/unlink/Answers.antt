@@ -7,7 +7,7 @@ use Rattle.proc_model.specs.Slots.{group_slot}
 use Rattle.std.proofs.Common.{position}
 use Rattle.proc_model.specs.ModuleLinks.{Entered, is_at, without_module_link}
 use Rattle.proc_model.specs.UnLink.{f_unlink, after_unlink, without_group_link}
-use Rattle.proc_state.specs.Tie.{Represents}
+use Rattle.proc_state.specs.Tie.{RepresentsProcesses}
 use Rattle.proc_calls.proofs.Steps.{done-answers}
 use Rattle.proc_calls.proofs.Unlinking.{unlinked-at}
 use Rattle.proc_calls.proofs.unlink.unlink.Goals as goal
@@ -21,5 +21,7 @@ returns-clause-call c =
     m.memory.modules) (sym (c.regs-regs.ensures.tied m tied)) ∙ sym (c.in-Some.ensures.found m tied)) in
     let found : Entered = record { number = number; entry = there.entry } in
     done-answers m (f_unlink m p) (after_unlink m p found) c.unlink_module.new.self there.goes
-    (subst (Represents c.unlink_module.new.self) (λ i. without_module_link (option_map_or (without_group_link m p (there.group_is i)) (group_slot (map_at m.memory p) (there.group_is i)) m) number)
+    (subst (RepresentsProcesses c.unlink_module.new.self)
+    (λ i. without_module_link (option_map_or (without_group_link m p (there.group_is i))
+    (group_slot (map_at m.memory p) (there.group_is i)) m) number)
     (c.unlink_module.ensures.tied _ (c.drop_group_link.ensures.tied m tied)))

@@ -1,5 +1,5 @@
 use Rattle.std.proofs.Common.{◌≡◌, Some, length, take, drop, ap, sym, subst, ◌∙◌, arith, length-take}
-use Rattle.os9_base.specs.Cells.{FitsIn, Holds, Cells}
+use Rattle.os9_base.specs.Cells.{FitsIn, HoldsBytes, Cells}
 use Rattle.guest_memory.specs.Tie.{cells_of}
 use Rattle.proc_state.proofs.UserBytes.{user_bytes-Some, user_bytes-None, take-front, same-then}
 use Rattle.proc_state.proofs.bytes.read_front.Goals as goal
@@ -20,7 +20,9 @@ returns-clause-read c =
     let fits = c.fits.ensures.fits.0 c.if-not-fits.false in
     let new = c.load.new.into in
     let long : length new ≡ c.args.count = omega (arith, length-take c.args.count c.args.into.now) in
-    let holds : Holds (cells_of c.args.memory.now c.args.p.0) c.args.at new = subst (λ (cells : Cells). Holds cells c.args.at new) (c.fits.ensures.same.cells c.args.p.0) c.load.ensures.loaded in
+    let holds : HoldsBytes (cells_of c.args.memory.now c.args.p.0) c.args.at new = subst
+    (λ (cells : Cells). HoldsBytes cells c.args.at new) (c.fits.ensures.same.cells c.args.p.0)
+    c.load.ensures.loaded in
     user_bytes-Some (cells_of c.args.memory.now c.args.p.0) c.args.at c.args.count new long fits.0 holds
     ∙ ap Some (sym (take-front new (drop c.args.count c.args.into.now) c.args.count long))
 

@@ -2,7 +2,7 @@ use Rattle.std.proofs.Common.{◌∙◌, ap, sym, arith}
 use Rattle.std.proofs.lemmas.Result.{err_from_is_err_and}
 use Rattle.rbf_model.specs.Fields.{segments_field}
 use Rattle.os9_outer.specs.Drive.{sector_at}
-use Rattle.rbf_access.specs.Mounted.{kept}
+use Rattle.rbf_access.specs.Mounted.{mounted_part}
 use Rattle.rbf_access.proofs.Counting.{counts_most}
 use Rattle.rbf_access.proofs.Reading.{mounted_still}
 use Rattle.rbf_alloc.proofs.Dropping.{agrees_on, drop_unread, on_err, still_gone, still_has_gone, dropped_before, ended_before, calls_before}
@@ -13,7 +13,7 @@ load-requires-clause-cached g c = c.requires.mounted.cached
 
 pub returns-in_err-bytes-clause-fault : goal.returns-in_err-bytes-clause-fault
 returns-in_err-bytes-clause-fault g c v file gone =
-    on_err _ _ (drop_unread _ c.args.fd v file gone (kept c.args.volume.now) (agrees_on c.args.volume.now _ v c.requires.mounted gone.on) _ c.in_err-bytes.ensures.media_kept)
+    on_err _ _ (drop_unread _ c.args.fd v file gone (mounted_part c.args.volume.now) (agrees_on c.args.volume.now _ v c.requires.mounted gone.on) _ c.in_err-bytes.ensures.media_kept)
 
 pub returns-in_err-bytes-clause-mounted : goal.returns-in_err-bytes-clause-mounted
 returns-in_err-bytes-clause-mounted g c = mounted_still _ _ _ _ c.in_err-bytes.ensures.volume_kept c.in_err-bytes.ensures.media_kept c.in_err-bytes.ensures.cached c.requires.mounted

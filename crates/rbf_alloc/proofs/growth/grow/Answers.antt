@@ -1,14 +1,14 @@
 use Rattle.std.proofs.Common.{◌≡◌, true, false, replicate, refl, ap, sym, subst, arith, rules}
 use Rattle.std.proofs.lemmas.Bool.{both_ways}
 use Rattle.std.proofs.lemmas.Result.{err_from_is_err_and}
-use Rattle.rbf_change.specs.Agrees.{KeptVolume}
+use Rattle.rbf_change.specs.Agrees.{MountedPart}
 use Rattle.rbf_access.specs.declared.faults.FileFault.TheVariants as file
 use Rattle.rbf_model.specs.Geometry.{map_sectors}
 use Rattle.rbf_change.specs.Calls.{shape, cluster_size}
 use Rattle.rbf_access.specs.MapMarks.{has_mark_of}
 use Rattle.rbf_access.proofs.Mounting.{free_total_is}
 use Rattle.rbf_alloc.specs.Grown.{IsGrown, is_gained}
-use Rattle.rbf_alloc.specs.Gained.{ArePlaces, AreSizes, IsGivenBack}
+use Rattle.rbf_alloc.specs.Gained.{AreMapPlaces, AreSizes, IsGivenBack}
 use Rattle.rbf_alloc.specs.Marked.{AllWritten}
 use Rattle.rbf_alloc.proofs.Gaining.{places_gained, those_gained}
 use Rattle.rbf_alloc.proofs.Growing.{agrees_on, mounted_same, sizes_are, apart_is, too_many_is, marked_fresh, grown, grown_agrees, ended, back_agrees, mounted_where, full_is, if_some, sizes_after, enough_free, wanted_all, wanted_gained, wanted_calls, at_most_all, at_most_count, at_most_wanted}
@@ -67,7 +67,7 @@ write_marks-requires-clause-places g c =
 pub give_back-requires-clause-sizes : goal.give_back-requires-clause-sizes
 give_back-requires-clause-sizes g c =
     let m = c.requires.mounted in
-    let same = ap (λ (kv : KeptVolume). kv.map) c.in-Err.ensures.volume_kept in
+    let same = ap (λ (kv : MountedPart). kv.map) c.in-Err.ensures.volume_kept in
     subst (AreSizes c.args.volume.now.ident.cluster) (sym same)
     (sizes_after _ _ _ _ _ _ c.in_ok-longer.ensures.ok.gain (sizes_are c.args.volume.now m.on.image m.content m.on.vol m.agrees))
 
@@ -75,8 +75,8 @@ pub give_back-requires-clause-places : goal.give_back-requires-clause-places
 give_back-requires-clause-places g c =
     let m = c.requires.mounted in
     let sizes = sizes_are c.args.volume.now m.on.image m.content m.on.vol m.agrees in
-    let same = ap (λ (kv : KeptVolume). kv.map) c.in-Err.ensures.volume_kept in
-    subst (λ n. ArePlaces c.args.volume.now.ident.cluster n c.in_ok-longer.longer c.sectors.result c.args.count) (sym same)
+    let same = ap (λ (kv : MountedPart). kv.map) c.in-Err.ensures.volume_kept in
+    subst (λ n. AreMapPlaces c.args.volume.now.ident.cluster n c.in_ok-longer.longer c.sectors.result c.args.count) (sym same)
     (places_gained c.args.volume.now.ident.cluster c.args.count c.args.volume.now.map c.gain.new.map c.args.segs.now c.in_ok-longer.longer c.in_ok-longer.ensures.ok.gain sizes.some sizes.sectors
     (enough_free _ _ _ _ c.in_ok-longer.ensures.full) c.sectors.result c.sectors.ensures.count c.sectors.ensures.few)
 
@@ -144,8 +144,8 @@ returns-in-Err-clause-mounted g c =
     let marked =
     c.in-Err.ensures.on m.content m.on.image (marked_fresh c.args.volume.now m.on.image m.content m.on.vol m.agrees
     c.gain.new.map c.args.count c.args.segs.now c.in_ok-longer.longer c.in_ok-longer.ensures.ok _ m.on.is) in
-    let same = ap (λ (kv : KeptVolume). kv.map) c.in-Err.ensures.volume_kept in
-    let sizes_same = ap (λ (kv : KeptVolume). kv.sizes) c.in-Err.ensures.volume_kept in
+    let same = ap (λ (kv : MountedPart). kv.map) c.in-Err.ensures.volume_kept in
+    let sizes_same = ap (λ (kv : MountedPart). kv.sizes) c.in-Err.ensures.volume_kept in
     mounted_where _ _ _ marked.now _ marked.is marked.marked.vol
     (back_agrees c.args.volume.now m.on.image m.content m.on.vol m.agrees c.gain.new.map c.args.count c.args.segs.now
     c.in_ok-longer.longer c.in_ok-longer.ensures.ok _ _ m.on.is c.write_marks.new.written marked

@@ -1,7 +1,7 @@
 use Rattle.std.proofs.Common.{◌≡◌, ◌+◌, ◌*◌, ◌≤◌, ap, ◌∙◌, subst, arith}
 use Rattle.std.proofs.Math.Nat.{mul-le-mul_right}
 use Rattle.std.proofs.lemmas.Result.{err_from_is_err_and}
-use Rattle.rbf_change.specs.Agrees.{KeptVolume}
+use Rattle.rbf_change.specs.Agrees.{MountedPart}
 use Rattle.rbf_alloc.specs.Gained.{cluster_at, clusters_from}
 use Rattle.rbf_alloc.specs.Marked.{AllWritten}
 use Rattle.rbf_alloc.proofs.Written.{none_marked, still_marking, on_at_fault, marked_more, calls_at_fault, calls_of_all}
@@ -31,7 +31,7 @@ pub write_mark-requires-clause-in_map : goal.write_mark-requires-clause-in_map
 write_mark-requires-clause-in_map g c =
     let place = c.cluster_of-cluster.ensures ∙ ap (λ k. cluster_at c.args.v.now.ident.cluster c.args.segs.now (c.args.range.first + c.loop-i.i * k)) c.from.ensures in
     let low = c.requires.places.in_map c.loop-i.i (omega arith) in
-    let same = ap (λ (kv : KeptVolume). kv.map.whole) c.loop-i.invariant.same in
+    let same = ap (λ (kv : MountedPart). kv.map.whole) c.loop-i.invariant.same in
     omega (arith, place, low, same)
 
 pub returns-in_err-write_mark-clause-on : goal.returns-in_err-write_mark-clause-on

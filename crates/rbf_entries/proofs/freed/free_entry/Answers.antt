@@ -1,5 +1,5 @@
 use Rattle.std.proofs.Common.{[], ◌∷◌, refl, sym, subst}
-use Rattle.rbf_access.specs.Mounted.{IsSound}
+use Rattle.rbf_access.specs.Mounted.{IsSoundMedia}
 use Rattle.rbf_entries.proofs.Puts.{piece_written}
 use Rattle.rbf_entries.proofs.freed.free_entry.Goals as goal
 
@@ -8,4 +8,4 @@ returns-clause-written g c = piece_written _ _ _ c.args.found.now.lsn _ _ _ (0 �
 
 pub store-requires-clause-sound : goal.store-requires-clause-sound
 store-requires-clause-sound g c =
-    subst IsSound (sym (piece_written _ _ _ c.args.found.now.lsn _ _ _ (0 ∷ []) c.in_ok-bytes.ensures.bytes c.in_ok-bytes.ensures.media_kept c.put_bytes.ensures refl)) c.requires.sound
+    subst IsSoundMedia (sym (piece_written _ _ _ c.args.found.now.lsn _ _ _ (0 ∷ []) c.in_ok-bytes.ensures.bytes c.in_ok-bytes.ensures.media_kept c.put_bytes.ensures refl)) c.requires.sound

@@ -4,7 +4,7 @@ use Rattle.std.proofs.lemmas.List.{get_or_read, length_push}
 use Rattle.std.proofs.lemmas.List.Sums.{count_by-le-length}
 use Rattle.rbf_model.specs.Geometry.{sector}
 use Rattle.rbf_model.specs.Segments.{AreDistinct}
-use Rattle.rbf_model.specs.Search.{IsFound, searchable_bytes}
+use Rattle.rbf_model.specs.Search.{IsListOfReached, searchable_bytes}
 use Rattle.rbf_sector.specs.Ident.{geometry_of}
 use Rattle.rbf_sector_rules.specs.Files.{AreFiles, found_numbers}
 use Rattle.rbf_sector_rules.specs.Found.{added}
@@ -78,7 +78,7 @@ returns-clause-files c =
     let all : length found.items ≤ length files.items = omega (arith, found.ok.0, files.ok.0) in
     let same = all_numbers c.args.image.now found.items files.items c.loop-search.invariant.2 all in
     record {
-      found = subst (λ (ns : List ℕ). IsFound (disk_of g disk) ns) (sym same) (found_are g (searchable_bytes (disk_of g disk)) found.items (length files.items) c.loop-search.invariant.1 all);
+      found = subst (λ (ns : List ℕ). IsListOfReached (disk_of g disk) ns) (sym same) (found_are g (searchable_bytes (disk_of g disk)) found.items (length files.items) c.loop-search.invariant.1 all);
       read = c.loop-search.invariant.2.read;
     }
 

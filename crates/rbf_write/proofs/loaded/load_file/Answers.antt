@@ -1,7 +1,7 @@
 use Rattle.std.proofs.Common.{subst}
 use Rattle.rbf_access.proofs.Caching.{held_used}
 use Rattle.rbf_access.proofs.Reading.{number_on}
-use Rattle.rbf_write.specs.Files.{IsLoaded}
+use Rattle.rbf_write.specs.Files.{IsDescriptorLoaded}
 use Rattle.rbf_write.proofs.loaded.load_file.Goals as goal
 
 pub bring-requires-clause-on : goal.bring-requires-clause-on
@@ -13,4 +13,4 @@ held_file-requires g c = held_used c.args.fd c.args.volume.now.cache c.bring.new
 pub returns-clause-ok : goal.returns-clause-ok
 returns-clause-ok g c =
     let read = c.in_ok-bring.ensures in
-    subst (λ media. IsLoaded media c.args.fd c.held_file.result) read.media_kept (c.held_file.ensures _ read.cached)
+    subst (λ media. IsDescriptorLoaded media c.args.fd c.held_file.result) read.media_kept (c.held_file.ensures _ read.cached)

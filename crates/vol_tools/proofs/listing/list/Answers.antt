@@ -5,7 +5,7 @@ use Rattle.vol_tools.specs.Numbers.{reading_number}
 use Rattle.vol_tools.specs.Tool.{list as list_tool}
 use Rattle.rbf_model.specs.Walk.{directory_entries}
 use Rattle.vol_tools.specs.Listed.{lines_of}
-use Rattle.vol_tools.specs.Opening.{IsOpened, is_of_kind}
+use Rattle.vol_tools.specs.Opening.{IsOpenedFile, is_of_kind}
 use Rattle.vol_tools.specs.declared.opening.Opened.{Opened}
 use Rattle.vol_tools.specs.declared.opening.Kind.TheVariants.{Directory}
 use Rattle.vol_tools.proofs.Counts.{faults_then, no_faults, same_faults}
@@ -43,7 +43,7 @@ returns-in_err-opened-clause-answer g c now v on =
 pub returns-in_err-contents-clause-answer : goal.returns-in_err-contents-clause-answer
 returns-in_err-contents-clause-answer g c now v on =
     let p = err_from_is_err_and c.from_residual-in_err-contents.result c.from_residual-in_err-contents.ensures.1 in
-    let it : IsOpened v c.in-Some.names.items Directory c.in_ok-opened.opened = opening_as v _ _ Directory (Ok c.in_ok-opened.opened) c.deref.ensures.value (c.in_ok-opened.ensures.answer v on) in
+    let it : IsOpenedFile v c.in-Some.names.items Directory c.in_ok-opened.opened = opening_as v _ _ Directory (Ok c.in_ok-opened.opened) c.deref.ensures.value (c.in_ok-opened.ensures.answer v on) in
     let here = still _ _ v c.in_ok-opened.ensures.media_kept on in
     rw (p.1, p.2)
     (reading_ended (Unit {0}) (λ _. []) (record { tool = list_tool c.args.path.now; now = now }) v _ on _ (Unit {0})
@@ -60,14 +60,14 @@ pub entry_lines-requires-clause-directory : goal.entry_lines-requires-clause-dir
 entry_lines-requires-clause-directory g c =
     let v = c.requires.content in
     let on = c.requires.on in
-    let it : IsOpened v c.in-Some.names.items Directory c.in_ok-opened.opened = opening_as v _ _ Directory (Ok c.in_ok-opened.opened) c.deref.ensures.value (c.in_ok-opened.ensures.answer v on) in
+    let it : IsOpenedFile v c.in-Some.names.items Directory c.in_ok-opened.opened = opening_as v _ _ Directory (Ok c.in_ok-opened.opened) c.deref.ensures.value (c.in_ok-opened.ensures.answer v on) in
     let here = still _ _ v c.in_ok-opened.ensures.media_kept on in
     has_listing _ _ v on (c.in_ok-contents.ensures.media_kept ∙ c.in_ok-opened.ensures.media_kept) _ c.in_ok-opened.opened it _
     (c.deref-2.ensures.value ∙ c.in_ok-contents.ensures.bytes v it.file here it.there)
 
 pub returns-clause-answer : goal.returns-clause-answer
 returns-clause-answer g c now v on =
-    let it : IsOpened v c.in-Some.names.items Directory c.in_ok-opened.opened = opening_as v _ _ Directory (Ok c.in_ok-opened.opened) c.deref.ensures.value (c.in_ok-opened.ensures.answer v on) in
+    let it : IsOpenedFile v c.in-Some.names.items Directory c.in_ok-opened.opened = opening_as v _ _ Directory (Ok c.in_ok-opened.opened) c.deref.ensures.value (c.in_ok-opened.ensures.answer v on) in
     let here = still _ _ v c.in_ok-opened.ensures.media_kept on in
     let there = still _ _ v (c.in_ok-contents.ensures.media_kept ∙ c.in_ok-opened.ensures.media_kept) on in
     let are = sym c.in_ok-names.ensures ∙ ap (option_map (λ names. names.items)) c.in-Some.is in

@@ -3,7 +3,7 @@ use Rattle.std.proofs.Common.{◌≡◌, ℕ, None, Some, Ok, Err, refl, subst}
 use Rattle.std.proofs.lemmas.Result.{err_from_is_err_and}
 use Rattle.vol_tools.proofs.Counts.{file_ends_then, faults_then, same_faults}
 use Rattle.rbf_model.specs.Volume.{DiskVolume}
-use Rattle.rbf_access.specs.Mounted.{Represents}
+use Rattle.rbf_access.specs.Mounted.{RepresentsVolume}
 use Rattle.rbf_walk.proofs.Stepping.{same_content}
 use Rattle.rbf_write.specs.Laying.{Laying}
 use Rattle.vol_tools.proofs.Others.{absent, written-others}
@@ -65,8 +65,8 @@ returns-clause-others g c path place image now was is =
     let n = c.in_ok-n.n in
     let first = c.in_ok-n.ensures.others path place image has.on.image was has.on.is in
     let kept = c.in_ok-n.ensures.tail image has.on.image was has.on.is in
-    let before : Represents _ first.before = record { image = image; is = was; vol = first.was } in
-    let after : Represents _ first.after = record { image = has.on.image; is = has.on.is; vol = first.is } in
+    let before : RepresentsVolume _ first.before = record { image = image; is = was; vol = first.was } in
+    let after : RepresentsVolume _ first.after = record { image = has.on.image; is = has.on.is; vol = first.is } in
     let made = c.in_ok-n.ensures.answer path first.before place before in
     let there = new_there path c.args.bytes.now c.args.now first.before n _ made in
     let same : made.volume ≡ first.after = same_content _ made.volume first.after made.on after in

@@ -3,7 +3,7 @@ use Rattle.std.proofs.Common.{ℕ, List, [], Ok, Err, refl, sym, ap, ◌∙◌, 
 use Rattle.std.proofs.lemmas.Result.{err_from_is_err_and}
 use Rattle.vol_tools.specs.Numbers.{reading_number}
 use Rattle.vol_tools.specs.Tool.{get as get_tool}
-use Rattle.vol_tools.specs.Opening.{IsOpened, is_of_kind}
+use Rattle.vol_tools.specs.Opening.{IsOpenedFile, is_of_kind}
 use Rattle.vol_tools.specs.declared.opening.Opened.{Opened}
 use Rattle.vol_tools.specs.declared.opening.Kind.TheVariants.{File}
 use Rattle.vol_tools.proofs.Counts.{faults_then, no_faults, same_faults}
@@ -40,7 +40,7 @@ returns-in_err-opened-clause-answer g c now v on =
 
 pub returns-clause-answer : goal.returns-clause-answer
 returns-clause-answer g c now v on =
-    let it : IsOpened v c.in-Some.names.items File c.in_ok-opened.opened = opening_as v _ _ File (Ok c.in_ok-opened.opened) c.deref.ensures.value (c.in_ok-opened.ensures.answer v on) in
+    let it : IsOpenedFile v c.in-Some.names.items File c.in_ok-opened.opened = opening_as v _ _ File (Ok c.in_ok-opened.opened) c.deref.ensures.value (c.in_ok-opened.ensures.answer v on) in
     let here = still _ _ v c.in_ok-opened.ensures.media_kept on in
     let are = sym c.in_ok-names.ensures ∙ ap (option_map (λ names. names.items)) c.in-Some.is in
     let kept = c.read_whole.ensures.media_kept ∙ c.in_ok-opened.ensures.media_kept in

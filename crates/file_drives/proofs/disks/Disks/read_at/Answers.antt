@@ -1,7 +1,7 @@
 use Rattle.std.proofs.Common.{rules}
 use Rattle.std.specs.Prelude.{IfOk, length}
 use Rattle.rbf_access.specs.Faults.{file_fault}
-use Rattle.rbf_access.specs.Reading.{IsRead, read_calls}
+use Rattle.rbf_access.specs.Reading.{IsReadInto, read_calls}
 use Rattle.file_drives.proofs.PlacedLemmas.{has-file, is-mounted, none-kept, on-file, only-reads}
 use Rattle.file_drives.proofs.disks.Disks.read_at.Goals as goal
 
@@ -22,7 +22,7 @@ pub returns-clause-ok : goal.returns-clause-ok
 returns-clause-ok g c =
     on-file (goal.BlockDriver-dyn g) c.args.devices.now.drives.items c.self.view_is c.self.invariant c.index_mut.ensures.value
     c.in-Some.is c.index_mut-in-Some.ensures.value (search rules) c.requires.file
-    (λ v file. IfOk c.read_at.result (IsRead file c.args.at c.args.into.now c.read_at.new.into)) c.read_at.ensures.ok
+    (λ v file. IfOk c.read_at.result (IsReadInto file c.args.at c.args.into.now c.read_at.new.into)) c.read_at.ensures.ok
 
 pub returns-clause-drive : goal.returns-clause-drive
 returns-clause-drive g c =

@@ -1,13 +1,13 @@
 use Rattle.std.proofs.Common.{◌≡◌, ◌∙◌, Option, Some, IfSome, subst, sym}
 use Rattle.io_model.specs.Io.{open_path}
-use Rattle.file_state.specs.Opened.{IsPathOf, NamesFile, path_of}
+use Rattle.file_state.specs.Opened.{IsPathOf, NumberNamesFile, path_of}
 use Rattle.file_state.specs.declared.state.OpenFile.{OpenFile}
 use Rattle.file_state.proofs.OpenedLemmas.{names-path, no-file, open-desc, path-named, path-opened}
 use Rattle.file_state.proofs.state.FileState.open_file.Goals as goal
 
 pub returns-in-Some-clause-file : goal.returns-in-Some-clause-file
 returns-in-Some-clause-file c views files stands kinds =
-    subst (λ (o : Option OpenFile). NamesFile c.args.self.now views files c.args.p.0 c.args.n o) (sym c.opened_on.ensures)
+    subst (λ (o : Option OpenFile). NumberNamesFile c.args.self.now views files c.args.p.0 c.args.n o) (sym c.opened_on.ensures)
     (names-path c.args.self.now views files c.args.p.0 c.args.n stands kinds c.in-Some.path c.in-Some.desc c.in-Some.ensures.path)
 
 pub returns-in-Some-clause-path : goal.returns-in-Some-clause-path

@@ -9,11 +9,11 @@ use Rattle.io_model.specs.Io.{Io}
 use Rattle.io_model.specs.Waiting.{interrupted_count}
 use Rattle.file_rules.specs.Files.{Files}
 use Rattle.file_rules.specs.Locking.{files_interrupted}
-use Rattle.file_state.specs.Tie.{StandsFor}
+use Rattle.file_state.specs.Tie.{RepresentsFiles}
 use Rattle.machine_model.specs.ProcessEvent.{broken_off, delivery_end}
 use Rattle.machine_model.specs.Event.{before_delivery, files_after_delivery}
 use Rattle.machine_model.specs.State.{State}
-use Rattle.proc_state.specs.Tie.{Represents as RepresentsProcesses}
+use Rattle.proc_state.specs.Tie.{RepresentsProcesses}
 use Rattle.os9_base.specs.declared.registers.Pid.{Pid}
 use Rattle.os9_kernel.specs.declared.act.Act.TheVariants.{Delivery}
 use Rattle.os9_kernel.specs.declared.kernel.Kernel.{Kernel}
@@ -79,7 +79,7 @@ returns-in-Ended-clause-event c devices =
           let end = c.deliver.ensures.end m c.args.signal (tied_found here s.processes tied.processes) (signal_found here s.processes tied.processes) in
           let before = found_is here devices s tied in
           let left = files_after_delivery s.files p.0 (delivered (before_delivery s p.0) p.0 c.args.signal) in
-          let stands : StandsFor c.end.new.self devices.drives left = subst (λ (files : Files). StandsFor c.end.new.self devices.drives files)
+          let stands : RepresentsFiles c.end.new.self devices.drives left = subst (λ (files : Files). RepresentsFiles c.end.new.self devices.drives files)
           (ended-so s.files p.0 ∙ files-ended-so d c.deliver.result end c.in-Ended.is s.files p.0 ∙ ap (λ (m : Processes). files_after_delivery s.files p.0 (delivered m p.0 c.args.signal)) before)
           (c.end.ensures devices.drives (files_interrupted s.files p.0) (c.break_off.ensures.files devices.drives s.files tied.files)) in
           event-here old p act next devices s tied new _ (after_delivery m p.0 d) left c.break_off.ensures.chosen
@@ -120,7 +120,7 @@ returns-in_default c =
             let end = c.deliver.ensures.end m c.args.signal (tied_found here s.processes tied.processes) (signal_found here s.processes tied.processes) in
             let before = found_is here devices s tied in
             let left = files_after_delivery s.files p.0 (delivered (before_delivery s p.0) p.0 c.args.signal) in
-            let stands : StandsFor c.break_off.new.self.machine.files devices.drives left = subst (λ (files : Files). StandsFor c.break_off.new.self.machine.files devices.drives files)
+            let stands : RepresentsFiles c.break_off.new.self.machine.files devices.drives left = subst (λ (files : Files). RepresentsFiles c.break_off.new.self.machine.files devices.drives files)
             (files-goes-so d c.deliver.result end c.in_default.not-Ended s.files p.0 ∙ ap (λ (m : Processes). files_after_delivery s.files p.0 (delivered m p.0 c.args.signal)) before)
             (c.break_off.ensures.files devices.drives s.files tied.files) in
             event-here old p act next devices s tied new _ (after_delivery m p.0 d) left c.break_off.ensures.chosen

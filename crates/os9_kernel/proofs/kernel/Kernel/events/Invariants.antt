@@ -4,7 +4,7 @@ use Rattle.machine_model.specs.Run.{FirstSteps}
 use Rattle.machine_model.specs.State.{State}
 use Rattle.os9_kernel.specs.Changes.{KeepsImages}
 use Rattle.os9_kernel.specs.Outside.{Outside, outside}
-use Rattle.os9_kernel.specs.Tie.{Represents, Stands, IsGoing, ticks, pending}
+use Rattle.os9_kernel.specs.Tie.{Represents, RepresentsSomeState, IsGoing, ticks, pending}
 use Rattle.os9_kernel.proofs.Turns.{BeginsFrom, ContinuesFrom}
 use Rattle.os9_kernel.proofs.kernel.Kernel.events.Given as goal
 
@@ -16,7 +16,7 @@ invariant-loop-left g l =
       terminal : vec_len l.devices.terms ≡ vec_len l.initial.devices.terms;
       drives : vec_len l.devices.drives ≡ vec_len l.initial.devices.drives;
       count : ticks l.self ≡ ticks l.initial.self;
-      stands : Stands l.self now;
+      stands : RepresentsSomeState l.self now;
       tied : (s : State) → Represents l.initial.self before s
           → (m : State) × (all : List State) × Represents l.self now m × ContinuesFrom l.n s all l.left m × BeginsFrom l.n s all l.left m × KeepsImages (FirstSteps l.n s) all before.drives now.drives;
     }

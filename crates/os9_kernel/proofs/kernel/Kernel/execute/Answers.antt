@@ -4,14 +4,14 @@ use Rattle.cpu_model.specs.declared.stop.Stop.{Stop}
 use Rattle.cpu_model.specs.declared.stop.Stop.TheVariants.{Next, Call, Abort}
 use Rattle.proc_model.specs.Memory.{MemoryState}
 use Rattle.guest_memory.specs.Running.{RunsInMemory}
-use Rattle.guest_memory.specs.Tie.{Represents as RepresentsMemory}
+use Rattle.guest_memory.specs.Tie.{RepresentsMemory}
 use Rattle.proc_model.specs.declared.record.Record.{Record}
 use Rattle.proc_model.specs.Records.{IsLiving}
-use Rattle.proc_state.specs.Tie.{Represents as RepresentsProcesses}
+use Rattle.proc_state.specs.Tie.{RepresentsProcesses}
 use Rattle.proc_model.specs.End.{ended}
 use Rattle.proc_model.specs.Processes.{Processes, own_at, regs_at, with_memory, with_own, with_regs_of}
 use Rattle.file_rules.specs.Processes.{files_ended}
-use Rattle.file_state.specs.Tie.{StandsFor}
+use Rattle.file_state.specs.Tie.{RepresentsFiles}
 use Rattle.file_state.specs.declared.state.FileState.{FileState}
 use Rattle.os9_kernel.specs.declared.kernel.Kernel.{Kernel}
 use Rattle.os9_kernel.specs.Tie.{pending, pending_of}
@@ -123,7 +123,7 @@ returns-in-Call-clause-turn c devices =
                 (ap (λ (files : FileState). files.records) c.begin_call.ensures.files) (c.begin_call.ensures.count ∙ ticks_set here) tied.known) _ s.files
                 c.begin_call.ensures.chosen c.begin_call.ensures.clock (c.begin_call.ensures.tied _
                 (regs_set here s.processes tied.processes t there))
-                (subst (λ (files : FileState). StandsFor files devices.drives s.files)
+                (subst (λ (files : FileState). RepresentsFiles files devices.drives s.files)
                 (sym c.begin_call.ensures.files) tied.files) (instructions-open done tied.run),
           );
       memory = λ is. cc;

@@ -12,12 +12,12 @@ use Rattle.file_rules.specs.Files.{Files}
 use Rattle.file_state.specs.Attempt.{Standing}
 use Rattle.file_state.specs.Context.{machine_seen}
 use Rattle.file_state.specs.Counted.{CalledAtMost}
-use Rattle.file_state.specs.Tie.{StandsFor}
+use Rattle.file_state.specs.Tie.{RepresentsFiles}
 use Rattle.file_state.specs.declared.state.FileState.{FileState}
 use Rattle.proc_calls.specs.Telling.{LivesOn}
 use Rattle.proc_model.specs.Records.{is_waiting, record_at}
 use Rattle.file_drives.specs.Drives.{boxed_seen}
-use Rattle.proc_state.specs.Tie.{Comes, Represents as RepresentsProcesses}
+use Rattle.proc_state.specs.Tie.{ReturnsCallEnd, RepresentsProcesses}
 use Rattle.proc_state.specs.declared.state.ProcState.{ProcState}
 use Rattle.machine_model.specs.Services.{Serves, Service, with_files}
 use Rattle.os9_kernel.specs.declared.act.Act.TheVariants.{Attempt}
@@ -79,21 +79,21 @@ returns-clause-event g c =
     let (s0, tied0) = c.requires.stands in
     let (time0, is_time0) = some-time old before s0 tied0 in
     let first = c.try_load-end.ensures.call time0 s0.processes s0.files tied0.processes tied0.files tied0.run.locked.state.running.kinds in
-    let told0 : Comes s0.processes p.0 first.result end c.begin.new.self.machine.processes = subst (λ (processes : ProcState).
-    Comes s0.processes p.0 first.result end processes) (sym c.begin.ensures.processes) first.comes in
+    let told0 : ReturnsCallEnd s0.processes p.0 first.result end c.begin.new.self.machine.processes = subst (λ (processes : ProcState).
+    ReturnsCallEnd s0.processes p.0 first.result end processes) (sym c.begin.ensures.processes) first.comes in
     let (there0, same0) = c.tell_end.ensures.told s0.processes first.result told0 in
     let over = sym (c.event_end.ensures ∙ ap event_end_of same0) in record {
       step = λ _ s tied.
           let (time, is_time) = some-time old before s tied in
           let it = c.try_load-end.ensures.call time s.processes s.files tied.processes tied.files tied.run.locked.state.running.kinds in
-          let told : Comes s.processes p.0 it.result end c.begin.new.self.machine.processes = subst (λ (processes : ProcState).
-          Comes s.processes p.0 it.result end processes) (sym c.begin.ensures.processes) it.comes in
+          let told : ReturnsCallEnd s.processes p.0 it.result end c.begin.new.self.machine.processes = subst (λ (processes : ProcState).
+          ReturnsCallEnd s.processes p.0 it.result end processes) (sym c.begin.ensures.processes) it.comes in
           let (there, same) = c.tell_end.ensures.told s.processes it.result told in
           let left : Files = begun_on c.args.call it.left p.0 it.result in
-          let begun : StandsFor c.begin.new.self.machine.files after.drives left = subst (λ (files : Files). StandsFor
+          let begun : RepresentsFiles c.begin.new.self.machine.files after.drives left = subst (λ (files : Files). RepresentsFiles
           c.begin.new.self.machine.files after.drives files) (begun-tied c.args.call s.processes p.0 it.left tried.machine.processes
           it.result end it.comes) (c.begin.ensures.files after.drives it.left it.stands) in
-          let stands : StandsFor new.machine.files after.drives left = subst (λ (files : FileState). StandsFor files after.drives left) (sym c.tell_end.ensures.files) begun in
+          let stands : RepresentsFiles new.machine.files after.drives left = subst (λ (files : FileState). RepresentsFiles files after.drives left) (sym c.tell_end.ensures.files) begun in
           let terms_here = terms-are old p act next before s tied in
           let attempt : AttemptsLoad c.args.call s.processes (asker_of s.processes p.0 time) s.files (length s.terms) p.0
           it.result it.left = subst (λ (n : ℕ). AttemptsLoad c.args.call s.processes (asker_of s.processes p.0 time)
@@ -160,8 +160,8 @@ returns-clause-progress g c ran =
     let (s, tied) = c.requires.stands in
     let (time, is_time) = some-time old _ s tied in
     let it = c.try_load-end.ensures.call time s.processes s.files tied.processes tied.files tied.run.locked.state.running.kinds in
-    let told : Comes s.processes p.0 it.result end c.begin.new.self.machine.processes =
-    subst (λ (processes : ProcState). Comes s.processes p.0 it.result end processes) (sym c.begin.ensures.processes) it.comes in
+    let told : ReturnsCallEnd s.processes p.0 it.result end c.begin.new.self.machine.processes =
+    subst (λ (processes : ProcState). ReturnsCallEnd s.processes p.0 it.result end processes) (sym c.begin.ensures.processes) it.comes in
     let (there, same) = c.tell_end.ensures.told s.processes it.result told in
     let (t, regs, is) = goes-on it.result (sym (c.event_end.ensures ∙ ap event_end_of same) ∙ ran) s.processes p.0 in
     let none = no-call new.machine.processes t p.0 regs c.requires.next.process.1 (subst (λ (m : Processes). RepresentsProcesses new.machine.processes m) is there) in

@@ -12,12 +12,12 @@ use Rattle.proc_model.specs.CallResult.{CallResult}
 use Rattle.proc_model.specs.Processes.{Processes, no_own}
 use Rattle.proc_model.specs.declared.proc_call.ProcCall.{ProcCall}
 use Rattle.file_rules.specs.Memory.{LacksEntry, LacksMemory}
-use Rattle.call_dispatch.specs.Attempts.{MayAttempt}
+use Rattle.call_dispatch.specs.Attempts.{MayAttemptPathCall}
 use Rattle.file_rules.specs.Attempts.{FileAttempts, asker_of, io_effect}
 use Rattle.io_model.specs.Path.{ArePaths}
 use Rattle.io_model.specs.Io.{Io}
 use Rattle.file_laws.specs.Devices.{number_in}
-use Rattle.file_state.specs.Tie.{StandsFor}
+use Rattle.file_state.specs.Tie.{RepresentsFiles}
 use Rattle.file_state.specs.declared.state.FileState.{FileState}
 use Rattle.io_model.specs.Attempts.{result_of}
 use Rattle.lock_model.specs.Records.{Records}
@@ -27,7 +27,7 @@ use Rattle.machine_model.specs.declared.ends.EventEnd.{EventEnd}
 use Rattle.proc_model.specs.declared.record.Record.{Record}
 use Rattle.proc_model.specs.Records.{IsLiving, is_waiting, record_at}
 use Rattle.file_drives.specs.Drives.{boxed_seen}
-use Rattle.proc_state.specs.Tie.{Comes, Represents as RepresentsProcesses}
+use Rattle.proc_state.specs.Tie.{ReturnsCallEnd, RepresentsProcesses}
 use Rattle.machine_model.specs.Services.{Serves, Service, on_paths}
 use Rattle.machine_model.specs.Event.{Event}
 use Rattle.machine_model.specs.State.{Rest, State}
@@ -64,7 +64,7 @@ attempt_on_path-end-requires-clause-may g c =
     let terms = c.args.devices.now.terms in
     let before = outside (λ box. (g.dyn-1.0.entry box.vtable).1) (λ box. (g.dyn-2.0.entry box.vtable).1) c.args.devices.now in
     let long : length before.terms ≡ vec_len terms = simp length-map (sym terms.ok.0) in
-    subst (λ (n : ℕ). MayAttempt c.args.call c.args.self.now.machine.processes c.args.self.now.machine.files c.args.p.0 n) long
+    subst (λ (n : ℕ). MayAttemptPathCall c.args.call c.args.self.now.machine.processes c.args.self.now.machine.files c.args.p.0 n) long
     (may-attempt-here c.args.self.now c.args.p c.args.code c.requires.next before s tied c.args.call (path-served c.args.code c.args.call c.requires.serves).1)
 
 pub attempt_on_path-end-requires-clause-sound : goal.attempt_on_path-end-requires-clause-sound
@@ -99,7 +99,7 @@ returns-clause-event g c =
           let attempt : FileAttempts c.args.call s.processes s.files time p.0 it.result it.left s.terms after.terms =
           subst (λ (terms : List TerminalState). FileAttempts c.args.call s.processes s.files time p.0 it.result
           it.left terms after.terms) (sym (terms-are old p act next before s tied)) it.attempt in
-          let stands : StandsFor new.machine.files after.drives it.left = subst (λ (files : FileState). StandsFor files after.drives it.left) (sym settled_is) it.stands in
+          let stands : RepresentsFiles new.machine.files after.drives it.left = subst (λ (files : FileState). RepresentsFiles files after.drives it.left) (sym settled_is) it.stands in
           let rest : Rest = record { files = it.left; clock = s.clock; terms = after.terms } in
           let t : State = record s { processes = after_attempt s.processes p.0 it.result; files = it.left; terms = after.terms } in
           let ticks_kept = sym (ap (λ (m : Processes). m.tick) there.is)
@@ -163,9 +163,9 @@ returns-clause-event g c =
           let it = ((c.attempt_on_path-end.ensures.call time fits s0.processes s0.files tied0.processes tied0.files
           tied0.run.locked.state.running.kinds).attempted (λ out. let no : Wait ≡ NoMemory = sym waiting ∙ out in cc)).attempts in
           let effect = io_effect it.attempt.effect in
-          let came : Comes s0.processes p.0 (result_of s0.processes p.0 effect) Wait now = subst
-          (λ (result : CallResult). Comes s0.processes p.0 result Wait now) it.attempt.result_is
-          (subst (λ (end : CallEnd). Comes s0.processes p.0 it.result end now) waiting it.comes) in
+          let came : ReturnsCallEnd s0.processes p.0 (result_of s0.processes p.0 effect) Wait now = subst
+          (λ (result : CallResult). ReturnsCallEnd s0.processes p.0 result Wait now) it.attempt.result_is
+          (subst (λ (end : CallEnd). ReturnsCallEnd s0.processes p.0 it.result end now) waiting it.comes) in
           let same : old.machine.processes.table ≡ now.table = sym (records-kept s0.processes p.0 effect now came ∙ ap (λ (m : Processes). m.records) tied0.processes.is) in record {
             p = p;
             chosen = next.chosen;

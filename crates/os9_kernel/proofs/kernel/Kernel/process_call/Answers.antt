@@ -7,11 +7,11 @@ use Rattle.proc_model.specs.Attempts.{attempted, after_attempt}
 use Rattle.proc_model.specs.Processes.{Processes, no_own}
 use Rattle.proc_model.specs.declared.proc_call.ProcCall.{ProcCall}
 use Rattle.file_rules.specs.Files.{Files}
-use Rattle.file_state.specs.Tie.{StandsFor}
+use Rattle.file_state.specs.Tie.{RepresentsFiles}
 use Rattle.file_rules.specs.Locking.{call_wait}
 use Rattle.proc_model.specs.Records.{IsLiving, is_waiting, record_at}
 use Rattle.proc_state.specs.declared.state.ProcState.{ProcState}
-use Rattle.proc_state.specs.Tie.{Represents as RepresentsProcesses}
+use Rattle.proc_state.specs.Tie.{RepresentsProcesses}
 use Rattle.machine_model.proofs.Ticks.{attempt-tick}
 use Rattle.machine_model.specs.Services.{Serves, Service, files_after_call, with_files}
 use Rattle.os9_kernel.specs.declared.act.Act.TheVariants.{Attempt}
@@ -51,7 +51,7 @@ returns-clause-event c devices =
           let now : RepresentsProcesses new.machine.processes (after_attempt s.processes p.0 result) = subst
           (λ (processes : ProcState). RepresentsProcesses processes (after_attempt s.processes p.0 result))
           (sym c.follow.ensures.processes) there in
-          let stands : StandsFor new.machine.files devices.drives left = subst (λ (files : Files). StandsFor new.machine.files
+          let stands : RepresentsFiles new.machine.files devices.drives left = subst (λ (files : Files). RepresentsFiles new.machine.files
           devices.drives files) (ap (λ (end : CallEnd). files_then end s.files p.0) ends ∙ files-tied s.files p.0
           result) (c.follow.ensures.files devices.drives s.files tied.files) in
           event-here old p act next devices s tied new _ (after_attempt s.processes p.0 result) left c.follow.ensures.chosen c.follow.ensures.clock now stands (known_then s tied) (

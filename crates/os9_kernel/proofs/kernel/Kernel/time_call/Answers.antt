@@ -1,9 +1,9 @@
 use Rattle.std.proofs.Common.{refl, sym, ap, ◌∙◌, subst}
 use Rattle.proc_model.specs.Attempts.{after_attempt}
 use Rattle.proc_model.specs.Processes.{Processes}
-use Rattle.file_state.specs.Tie.{StandsFor}
+use Rattle.file_state.specs.Tie.{RepresentsFiles}
 use Rattle.file_state.specs.declared.state.FileState.{FileState}
-use Rattle.proc_state.specs.Tie.{Represents as RepresentsProcesses}
+use Rattle.proc_state.specs.Tie.{RepresentsProcesses}
 use Rattle.time_rules.specs.Attempts.{TimeAttempts}
 use Rattle.time_rules.specs.Clock.{IsNow}
 use Rattle.time_rules.specs.declared.clock.Clock.{Clock}
@@ -50,7 +50,9 @@ returns-clause-event c devices =
           let result = it.attempts.result in
           let (there, same) = c.tell_end.ensures.told s.processes result it.attempts.comes in
           let clock_here = sym (clock-is old p act next devices s tied) in
-          let stands : StandsFor new.machine.files devices.drives s.files = subst (λ (files : FileState). StandsFor files devices.drives s.files) (sym c.tell_end.ensures.files) tied.files in
+          let stands : RepresentsFiles new.machine.files devices.drives s.files = subst
+          (λ (files : FileState). RepresentsFiles files devices.drives s.files) (sym c.tell_end.ensures.files)
+          tied.files in
           let is_now : IsNow s.clock s.processes.tick it.now = subst (λ (k : Clock). IsNow k s.processes.tick it.now) clock_here it.is in
           let attempt : TimeAttempts c.args.call s.processes s.clock it.now p.0 result clock = subst
           (λ (k : Clock). TimeAttempts c.args.call s.processes k it.now p.0 result clock) clock_here

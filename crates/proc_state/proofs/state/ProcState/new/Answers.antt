@@ -4,14 +4,14 @@ use Rattle.os9_sched.specs.Schedule.{Schedule}
 use Rattle.proc_model.specs.Memory.{first_memory}
 use Rattle.proc_model.specs.declared.own.Own.{Own}
 use Rattle.proc_model.specs.declared.record.Record.{Record}
-use Rattle.proc_model.specs.Records.{AreRecords}
+use Rattle.proc_model.specs.Records.{AreProcessRecords}
 use Rattle.proc_state.specs.Sound.{AreTurns, ArePrimaries, AreSleeps}
 use Rattle.proc_state.proofs.First.{AreRecords-first, AreTurns-first, ArePrimaries-first}
 use Rattle.proc_state.proofs.Sleeps.{AreSleeps-first}
 use Rattle.proc_state.proofs.state.ProcState.new.Goals as goal
 
 pub invariant_of-result-clause-numbers : goal.invariant_of-result-clause-numbers
-invariant_of-result-clause-numbers c = subst AreRecords (sym c.in_ok-new-2.ensures.empty) AreRecords-first
+invariant_of-result-clause-numbers c = subst AreProcessRecords (sym c.in_ok-new-2.ensures.empty) AreRecords-first
 
 pub invariant_of-result-clause-turns : goal.invariant_of-result-clause-turns
 invariant_of-result-clause-turns c =

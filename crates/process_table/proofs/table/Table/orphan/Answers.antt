@@ -2,13 +2,13 @@ use Rattle.std.proofs.Common.{◌≡◌, ◌∙◌, ◌<◌, ℕ, Option, None, 
 use Rattle.std.proofs.lemmas.List.{length-map, get_or-map}
 use Rattle.std.proofs.lemmas.Grind.{common_steps}
 use Rattle.proc_model.specs.declared.record.Record.{Record}
-use Rattle.proc_model.specs.Records.{AreRecords}
+use Rattle.proc_model.specs.Records.{AreProcessRecords}
 use Rattle.proc_model.specs.Ends.{orphaned}
 use Rattle.process_table.proofs.table.Table.orphan.Goals as goal
 
 -- the places that are left when children lose a parent
-left_records : (records left : List (Option Record)) (parent : ℕ) → left ≡ map (orphaned parent) records → AreRecords records → AreRecords left
-left_records records left parent is are = subst AreRecords (sym is) (record {
+left_records : (records left : List (Option Record)) (parent : ℕ) → left ≡ map (orphaned parent) records → AreProcessRecords records → AreProcessRecords left
+left_records records left parent is are = subst AreProcessRecords (sym is) (record {
   places = length-map records (orphaned parent) ∙ are.places;
   from_two = λ p low.
       let within : p < length records = omega (arith, are.places) in

@@ -1,6 +1,6 @@
 use Rattle.std.proofs.Common.{refl, sym, subst, ◌∙◌}
 use Rattle.std.proofs.lemmas.Bool.{false≢true}
-use Rattle.rbf_access.specs.Cached.{IsCacheOf, IsUsed}
+use Rattle.rbf_access.specs.Cached.{IsCacheOf, IsSectorUsed}
 use Rattle.rbf_access.proofs.Caching.{bytes_held, cached_used, cached_read, used_put, used_kept, still_put}
 use Rattle.rbf_access.proofs.volume.Volume.bring.Goals as goal
 
@@ -28,7 +28,7 @@ returns-in-Ok-clause-cached g c =
 pub returns-in-Ok-clause-used : goal.returns-in-Ok-clause-used
 returns-in-Ok-clause-used g c =
     let same = c.touch.ensures.absent c.if-touch.false in
-    subst (λ old. IsUsed c.args.lsn old c.add.new.self) same (used_kept c.args.lsn c.touch.new.self c.add.new.self c.read_into.new.into c.add.ensures)
+    subst (λ old. IsSectorUsed c.args.lsn old c.add.new.self) same (used_kept c.args.lsn c.touch.new.self c.add.new.self c.read_into.new.into c.add.ensures)
 
 pub returns-in-Ok-clause-still : goal.returns-in-Ok-clause-still
 returns-in-Ok-clause-still g c m is held = absurd (false≢true (sym c.if-touch.false ∙ c.touch.ensures.held.1 is))

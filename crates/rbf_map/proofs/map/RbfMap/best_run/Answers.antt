@@ -1,6 +1,6 @@
 use Rattle.std.proofs.Common.{ℕ, ◌≡◌, ◌<◌, ◌≤◌, List, subst, sym, min, ⊎_elim, arith}
 use Rattle.std.proofs.lemmas.Bool.{cases_lt}
-use Rattle.rbf_map.specs.Map.{ClusterMap, mark, MarkedFrom, IsFirstClear, IsFreeRun}
+use Rattle.rbf_map.specs.Map.{ClusterMap, mark, MarkedFrom, IsFirstClear, BeginsFreeRun}
 use Rattle.rbf_map.specs.Runs.{is_clear, is_clear_below, IsBestRun, BeginsBestRun}
 use Rattle.rbf_map.specs.Inside.{map_of, HoldsMap}
 use Rattle.rbf_map.specs.declared.map.RbfMap.TheInside.{Inside}
@@ -27,8 +27,8 @@ module _ (inside : Inside) (holds : HoldsMap inside) (bytes : List ℕ) (read : 
     chosen : BeginsBestRun (is_clear map) wanted begin
     chosen = (n, subst (λ m. IsBestRun (is_clear m) wanted begin n) view best_inside)
 
-    found : IsFreeRun map begin
-    found = subst (λ m. IsFreeRun m begin) view (free_run (map_of inside) wanted begin n
+    found : BeginsFreeRun map begin
+    found = subst (λ m. BeginsFreeRun m begin) view (free_run (map_of inside) wanted begin n
         (some_in (is_clear (map_of inside)) wanted begin n at some best_inside (clear_is inside.bytes.items inside.whole at there.below there.clear)) best_inside)
 
 pub best_run-run-requires-clause-used_before : goal.best_run-run-requires-clause-used_before

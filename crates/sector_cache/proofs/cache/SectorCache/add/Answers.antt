@@ -1,6 +1,6 @@
 use Rattle.std.proofs.Common.{Some, sym, ap, subst, ◌∙◌}
 use Rattle.std.proofs.Math.ListN.{set}
-use Rattle.sector_cache.specs.Inside.{IsSound}
+use Rattle.sector_cache.specs.Inside.{IsSoundCache}
 use Rattle.sector_cache.proofs.Calls.{absent_of, kept_view, kept_sound}
 use Rattle.sector_cache.proofs.cache.SectorCache.add.Goals as goal
 
@@ -11,7 +11,7 @@ invariant_of-self c =
     c.args.self.now c.self.view_is c.requires in
     let place = c.new_place-n.ensures.place c.args.drive c.args.lsn absent in
     record {
-      sound = subst (λ xs. IsSound xs c.bring_first.new.order)
+      sound = subst (λ xs. IsSoundCache xs c.bring_first.new.order)
           (sym (c.put.ensures.put ∙ ap (λ xs. set xs c.new_place-n.result
           (Some (record { drive = c.args.drive; lsn = c.args.lsn; bytes = c.args.bytes.now })))
           c.new_place-n.ensures.kept))

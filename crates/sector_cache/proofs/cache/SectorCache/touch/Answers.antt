@@ -1,13 +1,13 @@
 use Rattle.std.proofs.Common.{refl, sym, subst}
 use Rattle.std.proofs.lemmas.Bool.{false≢true}
-use Rattle.sector_cache.specs.Inside.{IsSound}
+use Rattle.sector_cache.specs.Inside.{IsSoundCache}
 use Rattle.sector_cache.proofs.Calls.{not_held, some_held, moved, sound_moved}
 use Rattle.sector_cache.proofs.cache.SectorCache.touch.Goals as goal
 
 pub invariant_of-self : goal.invariant_of-self
 invariant_of-self c =
     record {
-      sound = subst (λ xs. IsSound xs c.bring_first.new.order) (sym c.note.ensures.kept)
+      sound = subst (λ xs. IsSoundCache xs c.bring_first.new.order) (sym c.note.ensures.kept)
           (sound_moved c.self.inside.places.sectors.items c.self.inside.order c.self.invariant.sound c.args.drive c.args.lsn c.in-Some.n c.bring_first.new.order c.in-Some.ensures.within
           c.bring_first.ensures);
       indexed = c.note.ensures.indexed;
