@@ -1,4 +1,4 @@
--- HostFiles that are written change under their names alone.
+-- Files that are written change under their names alone.
 use Rattle.std.proofs.Common.{◌≡◌, ◌≢◌, ℕ, zero, suc, Bool, true, false, Option, Some, None, List, [], ◌∷◌, take, slice_get, bytes_eq, refl, ap, ◌∙◌, All}
 use Rattle.std.proofs.lemmas.List.Elements.{All-cons, All-head, All-nil, All-tail}
 use Rattle.std.proofs.lemmas.Slice.Eq.{bytes_eq-Decides}

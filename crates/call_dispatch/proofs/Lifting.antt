@@ -1,4 +1,5 @@
 -- What an attempt of a call on terminals and pipes comes to, in the state of files.
+use Rattle.proc_state.proofs.Entered.{some-machine}
 use Rattle.io_model.specs.Rows.{effect_of}
 use Rattle.std.proofs.Common.{◌≡◌, ◌≢◌, ◌∙◌, ℕ, None, List, [], length, replicate, refl, sym, ap, subst, inl, inr, arith}
 use Rattle.os9_base.specs.declared.call.CallEnd.{CallEnd}
@@ -25,12 +26,11 @@ use Rattle.file_state.proofs.EndLemmas.{goes-as-io, stands-settled}
 use Rattle.file_state.proofs.KeepLemmas.{MayKeepAll, keeps-same}
 use Rattle.file_state.proofs.RequestLemmas.{not-memory}
 use Rattle.file_state.proofs.StateLemmas.{stands-with_io, stands-with_records}
-use Rattle.file_state.specs.Attempt.{FileAttempted, Standing}
+use Rattle.file_state.specs.Attempt.{FileAttempted, MachineOnDrives}
 use Rattle.file_state.specs.Counted.{AttemptsIn, AttemptsWithin, calls_of}
 use Rattle.file_state.specs.Lacks.{AttemptsOrLacks, TriesWithin}
 use Rattle.file_state.specs.Tie.{AreSoundFiles, RepresentsFiles}
 use Rattle.file_state.specs.declared.state.FileState.{FileState}
-use Rattle.name_calls.proofs.SameLemmas.{some-machine}
 use Rattle.device_paths.specs.Quiet.{EndsIoAttempt}
 use Rattle.device_paths.proofs.QuietLemmas.{IsQuiet}
 use Rattle.lock_model.specs.Records.{Records, with_waiting}
@@ -57,7 +57,7 @@ never-memory most call now p end terms terms_after old processes state new views
     not-memory m p it.attempts.result end processes it.attempts.comes
 
 pub tries-of : (call : PathCall) (m : Processes) (files : Files) (now : TimePacket) (p : ℕ) (end : CallEnd)
-    (terms terms_after : List TerminalState) (before after : Standing)
+    (terms terms_after : List TerminalState) (before after : MachineOnDrives)
     → AttemptsIn (attempt_calls call (asker_of m p now) files (length terms)) call m files now p end terms terms_after
     before after → TriesPathCall call m files now p end terms terms_after before after
 tries-of call m files now p end terms terms_after before after it = record {
@@ -67,7 +67,7 @@ tries-of call m files now p end terms terms_after before after it = record {
 
 -- or for an entry in the history
 pub tries-or : (call : PathCall) (m : Processes) (files : Files) (now : TimePacket) (p : ℕ) (end : CallEnd)
-    (terms terms_after : List TerminalState) (before after : Standing)
+    (terms terms_after : List TerminalState) (before after : MachineOnDrives)
     → AttemptsOrLacks (attempt_calls call (asker_of m p now) files (length terms)) call m files now p end terms
     terms_after before after → TriesPathCall call m files now p end terms terms_after before after
 tries-or call m files now p end terms terms_after before after it =
@@ -75,7 +75,7 @@ tries-or call m files now p end terms terms_after before after it =
 
 -- memory for an entry was not lacking if each attempt has a result
 pub within-tries : (most : Asker → Files → ℕ → ℕ) (call : PathCall) (now : TimePacket) (p : ℕ) (end : CallEnd)
-    (terms terms_after : List TerminalState) (before after : Standing) → AttemptsWithin most call now p end terms
+    (terms terms_after : List TerminalState) (before after : MachineOnDrives) → AttemptsWithin most call now p end terms
     terms_after before after → TriesWithin most call now p end terms terms_after before after
 within-tries most call now p end terms terms_after before after attempts m was tied stands kinds =
     let it = attempts m was tied stands kinds in record {

@@ -11,7 +11,7 @@ use Rattle.proc_model.specs.Records.{record_at}
 use Rattle.proc_state.specs.declared.state.ProcState.{ProcState}
 use Rattle.file_rules.specs.declared.path_call.PathCall.{PathCall}
 use Rattle.file_drives.specs.Drives.{DriveView}
-use Rattle.file_state.specs.Attempt.{Standing}
+use Rattle.file_state.specs.Attempt.{MachineOnDrives}
 use Rattle.file_state.specs.Counted.{AttemptsWithin}
 use Rattle.file_state.specs.Lacks.{TriesWithin}
 use Rattle.file_state.specs.declared.state.FileState.{FileState}
@@ -46,13 +46,14 @@ pub time-for : (call other : PathCall) (now time : TimePacket) → other ≡ cal
 time-for call other now time is known dated = known (sym (ap sets_date is) ∙ dated)
 
 -- an attempt of a call that sets a date is one at its time
-pub at-time : (call : PathCall) (now time : TimePacket) (p : ℕ) → sets_date call ≡ true → IsTimeFor call now time → (end : CallEnd) (terms terms_after : List TerminalState) (before after : Standing)
+pub at-time : (call : PathCall) (now time : TimePacket) (p : ℕ) → sets_date call ≡ true → IsTimeFor call now time
+    → (end : CallEnd) (terms terms_after : List TerminalState) (before after : MachineOnDrives)
     → TriesWithin (attempt_calls call) call now p end terms terms_after before after → TriesWithin (attempt_calls call) call time p end terms terms_after before after
 at-time call now time p dated is end terms terms_after before after attempts =
     subst (λ (t : TimePacket). TriesWithin (attempt_calls call) call t p end terms terms_after before after) (sym (is dated)) attempts
 
 pub at-time-within : (call : PathCall) (now time : TimePacket) (p : ℕ) → sets_date call ≡ true → IsTimeFor call now time
-    → (end : CallEnd) (terms terms_after : List TerminalState) (before after : Standing)
+    → (end : CallEnd) (terms terms_after : List TerminalState) (before after : MachineOnDrives)
     → AttemptsWithin (attempt_calls call) call now p end terms terms_after before after → AttemptsWithin (attempt_calls call) call time p end terms terms_after before after
 at-time-within call now time p dated is end terms terms_after before after attempts =
     subst (λ (t : TimePacket). AttemptsWithin (attempt_calls call) call t p end terms terms_after before after) (sym (is dated)) attempts
@@ -81,7 +82,7 @@ module _ (call other : PathCall) (now : TimePacket) (p : ℕ) (is : other ≡ ca
       (record { processes = old; files = state; views = views })
       (record { processes = processes; files = new; views = later })) is attempts
 
-  pub call-tries : (end : CallEnd) (terms terms_after : List TerminalState) (before after : Standing)
+  pub call-tries : (end : CallEnd) (terms terms_after : List TerminalState) (before after : MachineOnDrives)
       → TriesPathCallFrom other now p end terms terms_after before after → TriesPathCallFrom call now p end terms terms_after before
       after
   call-tries end terms terms_after before after tries =

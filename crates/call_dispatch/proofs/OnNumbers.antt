@@ -7,7 +7,7 @@ use Rattle.proc_model.specs.Processes.{Processes}
 use Rattle.call_dispatch.specs.Staying.{MayAttemptIo as MayAttemptOnDevice}
 use Rattle.proc_state.specs.declared.state.ProcState.{ProcState}
 use Rattle.file_rules.specs.Files.{Files}
-use Rattle.file_state.specs.Attempt.{Standing}
+use Rattle.file_state.specs.Attempt.{MachineOnDrives}
 use Rattle.file_state.specs.declared.state.FileState.{FileState}
 use Rattle.call_dispatch.specs.Attempts.{MayAttemptPathCall, TriesPathCall}
 use Rattle.call_dispatch.specs.Numbers.{number_call}
@@ -29,7 +29,7 @@ may-use Use.PErr processes state p terms may = may.attempt
 
 -- what comes of a call is what comes of the one that it is
 pub number-tries : (call other : NumberCall) (m : Processes) (files : Files) (now : TimePacket) (p : ℕ) → call ≡ other
-    → (end : CallEnd) (terms terms_after : List TerminalState) (before after : Standing) → TriesPathCall (number_call other) m
+    → (end : CallEnd) (terms terms_after : List TerminalState) (before after : MachineOnDrives) → TriesPathCall (number_call other) m
     files now p end terms terms_after before after → TriesPathCall (number_call call) m files now p end terms terms_after
     before after
 number-tries call other m files now p is end terms terms_after before after tries =

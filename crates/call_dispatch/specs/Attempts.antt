@@ -18,7 +18,7 @@ use Rattle.file_rules.specs.Memory.{LacksMemory}
 use Rattle.file_rules.specs.Step.{as_io, deed_of}
 use Rattle.file_rules.specs.declared.path_call.PathCall.{PathCall}
 use Rattle.file_state.specs.Asking.{KeepsRequest}
-use Rattle.file_state.specs.Attempt.{OnEach, Standing}
+use Rattle.file_state.specs.Attempt.{OnEach, MachineOnDrives}
 use Rattle.file_state.specs.Counted.{AttemptsIn}
 use Rattle.file_state.specs.Lacks.{LacksItsEntry, TriesWithin}
 use Rattle.file_state.specs.Tie.{RepresentsFiles}
@@ -50,14 +50,14 @@ pub record MayAttemptPathCall (call : PathCall) (processes : ProcState) (state :
 -- memory was wanting for a byte that an attempt puts on a terminal: these are the terminals then, and no drive was
 -- called
 pub record LacksByte (call : PathCall) (m : Processes) (files : Files) (now : TimePacket) (p : ℕ)
-    (terms terms_after : List TerminalState) (before after : Standing) : Type 0 where
+    (terms terms_after : List TerminalState) (before after : MachineOnDrives) : Type 0 where
   pub lacks : LacksMemory call m files now p terms terms_after
   pub views : after.views ≡ before.views
 
 -- a process tries a call, at a time: its attempt ends with this end, and leaves these terminals and this state of the
 -- kernel; or memory is lacking
 pub record TriesPathCall (call : PathCall) (m : Processes) (files : Files) (now : TimePacket) (p : ℕ) (end : CallEnd)
-    (terms terms_after : List TerminalState) (before after : Standing) : Type 0 where
+    (terms terms_after : List TerminalState) (before after : MachineOnDrives) : Type 0 where
   pub attempted : end ≢ NoMemory
       → AttemptsIn (attempt_calls call (asker_of m p now) files (length terms)) call m files now p end terms terms_after
       before after
@@ -68,25 +68,27 @@ pub record TriesPathCall (call : PathCall) (m : Processes) (files : Files) (now 
 -- ---- from any state that the kernel's state represents
 
 -- a process tries a call, at a time, in each such state in which the targets of paths and directories exist
-abbrev pub TriesPathCallFrom : PathCall → TimePacket → ℕ → CallEnd → List TerminalState → List TerminalState → Standing
-    → Standing → Type 0
+abbrev pub TriesPathCallFrom : PathCall → TimePacket → ℕ → CallEnd → List TerminalState → List TerminalState
+    → MachineOnDrives
+    → MachineOnDrives → Type 0
 TriesPathCallFrom call now p end terms terms_after before after =
     OnEach before (λ m was. TriesPathCall call m was now p end terms terms_after before after)
 
 -- a process tries a call in each such state, at each right time
-abbrev pub TriesAt : PathCall → TimePacket → ℕ → CallEnd → List TerminalState → List TerminalState → Standing
-    → Standing → Type 0
+abbrev pub TriesAt : PathCall → TimePacket → ℕ → CallEnd → List TerminalState → List TerminalState → MachineOnDrives
+    → MachineOnDrives → Type 0
 TriesAt call now p end terms terms_after before after =
     (time : TimePacket) → IsTimeFor call now time → TriesPathCallFrom call time p end terms terms_after before after
 
 -- a process tries a call on a file in each such state, at each right time, and leaves all terminals unchanged
-abbrev pub TriesFileAt : PathCall → TimePacket → ℕ → CallEnd → Standing → Standing → Type 0
+abbrev pub TriesFileAt : PathCall → TimePacket → ℕ → CallEnd → MachineOnDrives → MachineOnDrives → Type 0
 TriesFileAt call now p end before after =
     (time : TimePacket) (terms : List TerminalState) → IsTimeFor call now time
     → TriesWithin (attempt_calls call) call time p end terms terms before after
 
 -- a process tries each call that is this device call, at any time, on a machine with this number of drives
-abbrev pub TriesOnDevice : IoCall → ℕ → ℕ → CallEnd → List TerminalState → List TerminalState → Standing → Standing
+abbrev pub TriesOnDevice : IoCall → ℕ → ℕ → CallEnd → List TerminalState → List TerminalState → MachineOnDrives
+    → MachineOnDrives
     → Type 0
 TriesOnDevice device p drives end terms terms_after before after =
     (call : PathCall) (m : Processes) (was : Files) (now : TimePacket) → RepresentsProcesses before.processes m

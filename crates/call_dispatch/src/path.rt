@@ -2,7 +2,7 @@
 
 ghost use Rattle.std.specs.Prelude.{List, vec_len};
 ghost use Rattle.io_state.specs.Context.{AsManyTerminals, InCall, SameTerminals};
-ghost use Rattle.file_state.specs.Context.{InFirstAttempt, beside, machine_seen};
+ghost use Rattle.file_state.specs.Context.{InFirstAttempt, on_drives, machine_seen};
 ghost use Rattle.file_io.specs.Opened.{IsOpenedPath};
 ghost use Rattle.call_dispatch.specs.Attempts.{TriesAt, TriesFileAt, TriesPathCallFrom};
 ghost use Rattle.call_dispatch.specs.Bounds.{attempt_calls};
@@ -115,7 +115,7 @@ pub fn seek_path(machine: &mut Machine, by: Requester) -> CallEnd
     requires calls { InFirstAttempt by machine.old }
     ensures call { (now : TimePacket) (views : List DriveView) (terms : List TerminalState)
         → AttemptsWithin (attempt_calls Call.Seek) Call.Seek now by.p.0 result terms terms
-        (beside machine.old views) (beside machine.new views) }
+        (on_drives machine.old views) (on_drives machine.new views) }
     ensures lives { IsLiving machine.new.processes.table by.p.0 }
 {
     match machine.files.open_file(by.p, by.regs.a) {

@@ -40,7 +40,7 @@ pub fn first_program(modules: &Dir) -> Option<ModId>
     modules.find(&name, PROGRAM)
 }
 
-/// BeginsFirstProcess the first process, with the program of an entered module and without parameters. No
+/// Begins the first process, with the program of an entered module and without parameters. No
 /// process has begun yet.
 ///
 /// # Errors

@@ -85,7 +85,7 @@ StopsFor Stop.Over turns t from to before after =
     StopsAsOver turns t from to before ⊎ StopsAtEnd turns t from to before after
 StopsFor Stop.LineLost turns t from to before after = StopsAtLine turns t from to before after
 
--- a state with keys of these bytes, due in the tick that comes
+-- a state with keys of these bytes, due in the next tick
 abbrev pub with_bytes : State → List ℕ → State
 with_bytes m bytes = with_keys m (load_of (keys_typed (m.processes.tick + 1) bytes))
 

@@ -99,7 +99,7 @@ HasRest NoMemory out old new = LosesLine out old new
 abbrev pub AllWait : SliceEnd → Kernel → Outside → Type 0
 AllWait last kernel devices = (s : State) → Represents kernel devices s → WaitsForLine last s
 
--- the session goes on: what is typed was loaded, and is due in the tick that comes
+-- the session goes on: what is typed was loaded, and is due in the next tick
 pub record TypesLine (last : SliceEnd) (kernel : Kernel) (out : Option (List ℕ)) (old new : ConsoleState)
     (before after : Outside) : Type 0 where
   pub line : Option (List ℕ)

@@ -53,7 +53,7 @@ left_of rest [] = rest
 left_of rest (turn ∷ turns) = left_of (left_after rest turn.line turn.bytes) turns
 
 -- Turns that follow a slice with this end, while this rest of a line is left, from s through these states to t, and the
--- bytes that they write. What is typed before a slice is due in the tick that comes.
+-- bytes that they write. What is typed before a slice is due in the next tick.
 abbrev pub TypedTurns : SliceEnd → List ℕ → List TypedTurn → State → List State → List ℕ → State → Type 0
 TypedTurns last rest [] s states written t = (states ≡ []) × (written ≡ []) × (t ≡ s)
 TypedTurns last rest (turn ∷ turns) s states written t =

@@ -23,6 +23,6 @@ pub record WaitsForLine (end : SliceEnd) (s : State) : Type 0 where
   pub asleep : NoneWakes s
   pub none_left : term_keys s.terms ≡ []
 
--- no slice can follow: no process lives, or the last tick would come
+-- no slice can follow: no process lives, or the last tick would be reached
 abbrev pub IsRunOver : State → Type 0
 IsRunOver s = (has_living s ≡ false) ⊎ (s.processes.tick + 1 ≡ LAST_TICK)

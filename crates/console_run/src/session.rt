@@ -42,8 +42,8 @@ pub struct SessionOutcome {
 
 /// Starts a machine with a boot file and the images in its first drives, and runs it as a person
 /// types. What the terminals are given goes to the output stream after each slice, before the
-/// keyboard is asked again. What comes of it is what comes of the machine that `run_machine` runs
-/// over the slices and with the keys that are kept, and it was a session.
+/// keyboard is asked again. Its outcome is that of the machine that `run_machine` runs over the kept
+/// slices and with the kept keys, and it was a session.
 pub fn run_session<H: Host, K: Keyboard<H> + Drop>(
     config: Config,
     file: &[u8],

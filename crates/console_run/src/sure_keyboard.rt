@@ -33,7 +33,7 @@ impl SureKeyboard {
         }
     }
 
-    /// Notes that it answers when so many bytes are shown.
+    /// Notes that it answers once this number of bytes is shown.
     ///
     /// # Errors
     ///

@@ -29,7 +29,7 @@ use os9_outer::terminal::CharDriver;
 #[derive(Clone, Copy, Debug, PartialEq, Eq)]
 pub enum Stop {
     /// It is over: no process lives, or every one waits for keys and the keyboard gave its end, or
-    /// the last tick would come.
+    /// the last tick would be reached.
     Over,
     /// Memory is out for keys, for which every process waits.
     LineLost,

@@ -19,8 +19,8 @@ use os9_outer::host::Host;
 use os9_outer::terminal::CharDriver;
 
 /// Types the next part of a line at TERM, if every process waits for keys after a slice that ended
-/// so. It is due in the tick that comes. If nothing is left of a line, the next one is taken from
-/// the keyboard.
+/// so. It is due in the next tick. If nothing is left of a line, the next one is taken from the
+/// keyboard.
 pub(crate) fn type_line<H: Host, K: Keyboard<H> + Drop>(
     kernel: &Kernel,
     last: SliceEnd,

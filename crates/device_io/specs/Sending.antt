@@ -1,4 +1,4 @@
--- WriteAttempted as a process may attempt them, and what they do on a path that they found.
+-- Writes as a process may attempt them, and what they do on a path that they found.
 use Rattle.std.specs.Prelude.{◌≡◌, ℕ, ◌==◌, ⊤, IfSome, Some, None, List, length, if◌then◌else◌}
 use Rattle.os9_base.specs.Cells.{Cells}
 use Rattle.os9_base.specs.declared.call.CallEnd.{CallEnd}

@@ -1,4 +1,4 @@
--- IoAttempted that reach no device: which calls make none, and what such an attempt is.
+-- Attempts that reach no device: which calls make none, and what such an attempt is.
 use Rattle.io_model.specs.Rows.{effect_of}
 use Rattle.std.proofs.Common.{◌≡◌, ℕ, Bool, true, false, Option, Some, None, List, refl, sym, subst, is_none, min, ◌==◌, if◌then◌else◌}
 use Rattle.os9_base.specs.declared.call.CallEnd.{CallEnd}

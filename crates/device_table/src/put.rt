@@ -21,7 +21,7 @@ fn put_byte(term: &mut dyn CharDriver, byte: u8) -> Result<(), PutFault>
     term.put(byte)
 }
 
-/// PutsOnTerminal the bytes on a terminal, one after another, until one is refused.
+/// Puts the bytes on a terminal, one after another, until one is refused.
 ///
 /// # Errors
 ///
@@ -61,7 +61,7 @@ fn put_in_box(term: &mut Box<dyn CharDriver>, bytes: &[u8]) -> Result<(), PutFau
     put_bytes(&mut **term, bytes)
 }
 
-/// PutsOnTerminal the bytes on the terminal of this number, one after another, until one is refused.
+/// Puts the bytes on the terminal of this number, one after another, until one is refused.
 ///
 /// # Errors
 ///

@@ -12,8 +12,7 @@ use Rattle.io_model.specs.Write.{i_write as writes_device, i_writln as writes_de
 use Rattle.io_model.specs.declared.modes.TheConstants.{STANDARD_ERROR}
 use Rattle.os9_base.specs.declared.registers.Regs.{Regs}
 use Rattle.proc_model.specs.Records.{record_at}
-use Rattle.proc_state.proofs.Entered.{represented}
-use Rattle.proc_state.specs.Tie.{RepresentsProcesses, processes_of}
+use Rattle.proc_state.specs.Tie.{RepresentsProcesses}
 use Rattle.proc_state.specs.declared.state.ProcState.{ProcState}
 use Rattle.rbf_model.specs.File.{DiskFile}
 use Rattle.rbf_model.specs.Volume.{DiskVolume}
@@ -74,10 +73,6 @@ above {n} some = omega (arith, some)
 -- registers with their own count
 pub with-own-y : (regs own : Regs) → regs ≡ own → regs ≡ record own { y = regs.y }
 with-own-y regs own same = subst (λ (r : Regs). regs ≡ record r { y = regs.y }) same refl
-
--- processes are those of some machine
-pub some-machine : (s : ProcState) → (m : Processes) × RepresentsProcesses s m
-some-machine s = (processes_of s _, record { memory = represented s.memory; is = refl })
 
 -- ---- the steps of the calls
 

@@ -22,7 +22,7 @@ use Rattle.file_state.proofs.EndLemmas.{goes-well}
 use Rattle.file_state.proofs.KeepLemmas.{ends-attempt, keeps-same, lacks-attempt}
 use Rattle.file_state.proofs.RequestLemmas.{lacks-none}
 use Rattle.file_state.proofs.StateLemmas.{stands-with_io}
-use Rattle.file_state.specs.Attempt.{Standing}
+use Rattle.file_state.specs.Attempt.{MachineOnDrives}
 use Rattle.file_state.specs.Counted.{AttemptsIn}
 use Rattle.file_state.specs.Tie.{RepresentsFiles}
 use Rattle.file_state.specs.declared.state.FileState.{FileState}
@@ -134,7 +134,7 @@ module _ (m : Processes) (files : Files) (now : TimePacket) (p : ℕ) (end : Cal
 
 -- ---- what an attempt did is what its call does
 
-module _ (m : Processes) (files : Files) (now : TimePacket) (p : ℕ) (end : CallEnd) (before after : Standing)
+module _ (m : Processes) (files : Files) (now : TimePacket) (p : ℕ) (end : CallEnd) (before after : MachineOnDrives)
     (terms : List TerminalState) (call : PathCall) (step : FileStep) (is : file_step call (asker_of m p now) files
     (length terms) ≡ step) (most : ℕ) where
   -- with at most so many calls of the drives

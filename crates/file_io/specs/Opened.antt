@@ -10,7 +10,7 @@ use Rattle.file_drives.specs.Drives.{DriveView}
 use Rattle.file_drives.specs.Mounted.{HasDataFileAt, HasFileAt}
 use Rattle.file_rules.specs.Files as rules
 use Rattle.file_laws.specs.Kinds.{AreKinds}
-use Rattle.file_state.specs.Attempt.{Standing}
+use Rattle.file_state.specs.Attempt.{MachineOnDrives}
 pub use Rattle.file_state.specs.Opened.{IsPathOf}
 use Rattle.file_state.specs.Opened.{IsOpenFileOf, path_of}
 use Rattle.file_state.specs.Tie.{RepresentsFiles}
@@ -18,12 +18,12 @@ use Rattle.file_state.specs.declared.state.FileState.{FileState}
 use Rattle.file_state.specs.declared.state.OpenFile.{OpenFile}
 
 -- the path and its file are there
-pub record IsOnFile (opened : OpenFile) (before : Standing) : Type 0 where
+pub record IsOnFile (opened : OpenFile) (before : MachineOnDrives) : Type 0 where
   pub path : IsPathOf before.files.io opened
   pub file : HasFileAt before.files.disks before.views opened.place
 
--- a number of a process names the path, which is on the file at its place, for all files that the kernel's state stands
--- for
+-- a number of a process names the path, which is on the file at its place, for all files that the kernel's state
+-- represents
 pub record IsOpenedPath (state : FileState) (p n : ℕ) (opened : OpenFile) : Type 0 where
   pub path : IsPathOf state.io opened
   pub file : (views : List DriveView) (files : rules.Files) → RepresentsFiles state views files → AreKinds files

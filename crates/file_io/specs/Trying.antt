@@ -11,7 +11,7 @@ use Rattle.file_rules.specs.Attempts.{asker_of}
 use Rattle.file_rules.specs.Files as rules
 use Rattle.file_rules.specs.Files.{Asker, Files, volume_at}
 use Rattle.file_rules.specs.Step.{FileStep}
-use Rattle.file_state.specs.Attempt.{Standing, unrequested}
+use Rattle.file_state.specs.Attempt.{MachineOnDrives, unrequested}
 use Rattle.file_state.specs.Ends.{EndsOrLacks}
 use Rattle.file_state.specs.Tie.{RepresentsFiles}
 use Rattle.file_state.specs.declared.state.OpenFile.{OpenFile}
@@ -20,7 +20,8 @@ use Rattle.file_io.specs.Opened.{found_on}
 -- an attempt on the file of a path does this, for every state that the kernel's state represents once its files are
 -- changed so, or no memory was left for its entry in the history
 abbrev pub TriesFileStepFrom : (Files → Files) → (Asker → Files → rules.OpenFile → FileStep)
-    → (Asker → Files → rules.OpenFile → ℕ) → OpenFile → TimePacket → ℕ → CallEnd → Standing → Standing → Type 0
+    → (Asker → Files → rules.OpenFile → ℕ) → OpenFile → TimePacket → ℕ → CallEnd → MachineOnDrives → MachineOnDrives
+    → Type 0
 TriesFileStepFrom changed step most opened now p end before after =
     (m : Processes) (files : Files) (v : DiskVolume) (file : DiskFile) (terms : List TerminalState)
     → RepresentsProcesses before.processes m → RepresentsFiles before.files before.views (changed files)
@@ -31,18 +32,18 @@ TriesFileStepFrom changed step most opened now p end before after =
 
 -- whatever files the kernel's are
 abbrev pub TriesFileStep : (Asker → Files → rules.OpenFile → FileStep) → (Asker → Files → rules.OpenFile → ℕ) → OpenFile
-    → TimePacket → ℕ → CallEnd → Standing → Standing → Type 0
+    → TimePacket → ℕ → CallEnd → MachineOnDrives → MachineOnDrives → Type 0
 TriesFileStep step most opened now p end before after = TriesFileStepFrom (λ files. files) step most opened now p end
     before after
 
 -- at any time
 abbrev pub TriesAlways : (Asker → Files → rules.OpenFile → FileStep) → (Asker → Files → rules.OpenFile → ℕ) → OpenFile
-    → ℕ → CallEnd → Standing → Standing → Type 0
+    → ℕ → CallEnd → MachineOnDrives → MachineOnDrives → Type 0
 TriesAlways step most opened p end before after =
     (now : TimePacket) → TriesFileStep step most opened now p end before after
 
 -- once its request is granted: the kernel's files have it no longer
 abbrev pub TriesGranted : (Asker → Files → rules.OpenFile → FileStep) → (Asker → Files → rules.OpenFile → ℕ) → OpenFile
-    → TimePacket → ℕ → CallEnd → Standing → Standing → Type 0
+    → TimePacket → ℕ → CallEnd → MachineOnDrives → MachineOnDrives → Type 0
 TriesGranted step most opened now p end before after =
     TriesFileStepFrom (unrequested p) step most opened now p end before after

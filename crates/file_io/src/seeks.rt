@@ -1,6 +1,6 @@
 //! I$Seek (System Programmer's Manual, I$Seek).
 
-ghost use Rattle.file_state.specs.Context.{InFileCall, beside};
+ghost use Rattle.file_state.specs.Context.{InFileCall, on_drives};
 ghost use Rattle.std.specs.Prelude.{◌≡◌, List};
 ghost use Rattle.proc_model.specs.Processes.{Processes};
 ghost use Rattle.file_io.specs.Calls.{i_seek_calls};
@@ -36,7 +36,7 @@ pub fn seek(machine: &mut Machine, by: Requester, opened: &OpenFile) -> CallEnd
     requires opened { IsOpenedPath machine.old.files by.p.0 by.regs.a opened.now }
     ensures call { (now : TimePacket) (views : List DriveView) (terms : List TerminalState)
         → AttemptsWithin i_seek_calls Call.Seek now by.p.0 result terms terms
-        (beside machine.old views) (beside machine.new views) }
+        (on_drives machine.old views) (on_drives machine.new views) }
     ensures lives { IsLiving machine.new.processes.table by.p.0 }
 {
     answer_at(machine, by, by.regs, opened, long_of(by.regs))

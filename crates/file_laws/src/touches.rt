@@ -172,7 +172,7 @@ pub fn codes_are_the_same_on_devices()
 {}
 
 /// Without a mounted volume, a directory of the process and a request of it, each call that
-/// terminals and pipes have comes to what theirs comes to, also if its path list leads nowhere; and
+/// terminals and pipes have has the result of theirs, even if its path list leads nowhere; and
 /// each of theirs is one (this project's own).
 pub fn without_files_calls_are_those_of_devices()
     ensures attempt { (it : Attempt) → IsWithoutFiles it → IsSome (device_call it.call)

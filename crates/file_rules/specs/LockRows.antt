@@ -43,7 +43,7 @@ opens p files = after_by p Call.Open (record zero_regs { a = 3 }) (codes "/D0/A 
 abbrev pub seeks : ℕ → ℕ → ℕ → Files → Files
 seeks p n at files = after_by p Call.Seek (record zero_regs { a = n; u = at }) [] files
 
--- a call on a path that moves at most so many bytes at address 0
+-- a call on a path that moves at most `count` bytes at address 0
 abbrev pub moving_on : ℕ → ℕ → Regs
 moving_on n count = record zero_regs { a = n; y = count }
 
@@ -99,7 +99,7 @@ lock_from p at = record {
 
 -- ---- a history
 
--- process 2 reads so many bytes, and writes four at the start
+-- process 2 reads `count` bytes, and writes four at the start
 abbrev pub history_of : ℕ → Files
 history_of count =
     after_by 2 Call.Write (moving_on 3 4) (codes "Abcd") (seeks 2 3 0
@@ -112,7 +112,7 @@ abbrev pub sets_to : ℕ → ℕ → Files → Files
 sets_to code number files =
     after_by 2 Call.SetStt (record zero_regs { a = 3; b = code; x = number / 65536; u = number % 65536 }) [] files
 
--- it has locked so many bytes of the file
+-- it has locked `count` bytes of the file
 abbrev pub locked_file : ℕ → Files
 locked_file count = sets_to SS_LOCK count (opens 2 (on (volume_a 3)))
 

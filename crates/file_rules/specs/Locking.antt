@@ -33,7 +33,7 @@ use Rattle.file_rules.specs.declared.claim.Claim.{Claim}
 abbrev pub is_for_update : ℕ → Bool
 is_for_update mode = has_bit_of MODE_READ mode && has_bit_of MODE_WRITE mode
 
--- so many bytes from a position on of a file of this size; all from there on if they reach past its end
+-- `count` bytes from a position on of a file of this size; all from there on if they reach past its end
 abbrev pub range_of : ℕ → ℕ → ℕ → Range
 range_of size at count =
     record { start = at; end = if nat_lt size (at + count) then None else Some (at + count) }
@@ -95,7 +95,7 @@ request_by grant request = None
 abbrev pub call_by : Grant → Request → Option PendingCall
 call_by grant request = option_map call_of (request_by grant request)
 
--- the state where it waits in its request
+-- the state in which it waits in its request
 abbrev pub waiting_in : Files → Request → Files
 waiting_in files request =
     with_records files (with_waiting files.records request.lock.owner.0 (Some request))

@@ -126,7 +126,7 @@ sets_size asker files opened =
 abbrev pub sets_ticks : Asker → Files → OpenFile → FileStep
 sets_ticks asker files opened = done asker.caller.regs (with_ticks files opened.opened asker.caller.regs.x)
 
--- the bytes that SS.Lock asks for, of a file of this size: so many from a position on, or the whole file
+-- the bytes that SS.Lock asks for, of a file of this size: `count` from a position on, or the whole file
 abbrev pub range_locked : ℕ → ℕ → ℕ → Range
 range_locked size at count = if count == WHOLE_FILE then record { start = 0; end = None } else range_of size at count
 
@@ -139,7 +139,7 @@ locks_range asker files opened request =
     asks asker files request
     (done asker.caller.regs (with_records files (holding files.records opened.opened.path.0 request.lock [])))
 
--- SS.Lock of so many bytes; of none, the path's lock ends
+-- SS.Lock of `count` bytes; of none, the path's lock ends
 abbrev pub locks_bytes : Asker → Files → OpenFile → ℕ → FileStep
 locks_bytes asker files opened count =
     if count == 0 then done asker.caller.regs (with_records files (without_lock files.records opened.opened.path.0))

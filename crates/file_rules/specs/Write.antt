@@ -28,8 +28,8 @@ use Rattle.lock_model.specs.declared.lock.Request.{Request}
 use Rattle.file_rules.specs.OnFile.{on_file, moves_bytes}
 use Rattle.file_rules.specs.Step.{FileStep, comes, reaches, changes, needs, refuses, leaves}
 
--- the file is changed so that it has a size, and this is the state beside it and the registers; it is refused if it
--- needs more clusters than are free
+-- the file is changed so that it has a size, and these are the rest of the state and the registers afterwards; it is
+-- refused if it needs more clusters than are free
 abbrev pub changes_file : OpenFile → Change → ℕ → Regs → Files → FileStep
 changes_file opened change size regs after =
     refuses

@@ -25,7 +25,7 @@ use Rattle.file_drives.specs.Changed.{Asked, IsRefusedChange, is_refused}
 use Rattle.file_drives.specs.Drives.{DriveView, KeepsIdent, drive_states, media_at, media_of}
 use Rattle.file_state.proofs.EndLemmas.{asked_of, stands-settled}
 use Rattle.file_state.proofs.MediaLemmas.{ident-same, media-of_same, media-same}
-use Rattle.file_state.specs.Attempt.{Standing}
+use Rattle.file_state.specs.Attempt.{MachineOnDrives}
 use Rattle.file_state.specs.Counted.{AttemptsIn}
 use Rattle.file_state.specs.Ends.{EndsFileAttempt, EndsUnentered}
 use Rattle.file_state.specs.Lacks.{LacksItsEntry}
@@ -139,7 +139,7 @@ module _ (step : FileStep) (asker : Asker) (files : Files) (it : VolumeChange) (
 -- ---- a whole call
 
 pub ends-attempt : (most : ℕ) (call : PathCall) (m : Processes) (was : Files) (now : TimePacket) (p : ℕ) (end : CallEnd)
-    (terms : List TerminalState) (before after : Standing)
+    (terms : List TerminalState) (before after : MachineOnDrives)
     → EndsFileAttempt (file_step call (asker_of m p now) was (length terms)) most m was now p end after.processes after.files
     before.views after.views terms → AttemptsIn most call m was now p end terms terms before after
 ends-attempt most call m was now p end terms before after ends = record {
@@ -163,7 +163,7 @@ settled-history (keeps kept) records p = refl
 
 -- or memory was wanting for its entry
 pub lacks-attempt : (most : ℕ) (call : PathCall) (m : Processes) (was : Files) (now : TimePacket) (p : ℕ) (end : CallEnd)
-    (terms : List TerminalState) (before after : Standing) → EndsUnentered (file_step call (asker_of m p now) was
+    (terms : List TerminalState) (before after : MachineOnDrives) → EndsUnentered (file_step call (asker_of m p now) was
     (length terms)) most m was now p end after.files before.views after.views terms → LacksItsEntry most call m was
     now p end terms terms before after
 lacks-attempt most call m was now p end terms before after it = record {

@@ -47,13 +47,13 @@ pub record FileAttempted (call : PathCall) (m : Processes) (files : Files) (now 
 -- ---- from any state that the kernel's state represents
 
 -- the kernel's processes, its files, and the drives
-pub record Standing : Type 0 where
+pub record MachineOnDrives : Type 0 where
   pub processes : ProcState
   pub files : FileState
   pub views : List DriveView
 
 -- a fact of each state of the machine that it represents, in which the targets of paths and directories exist
-abbrev pub OnEach : Standing → (Processes → Files → Type 0) → Type 0
+abbrev pub OnEach : MachineOnDrives → (Processes → Files → Type 0) → Type 0
 OnEach before fact =
     (m : Processes) (was : Files) → RepresentsProcesses before.processes m
     → RepresentsFiles before.files before.views was
@@ -61,8 +61,9 @@ OnEach before fact =
     → fact m was
 
 -- an attempt of a call by a process, at a time, from each such state
-abbrev pub FileAttemptedFrom : PathCall → TimePacket → ℕ → CallEnd → List TerminalState → List TerminalState → Standing
-    → Standing → Type 0
+abbrev pub FileAttemptedFrom : PathCall → TimePacket → ℕ → CallEnd → List TerminalState → List TerminalState
+    → MachineOnDrives
+    → MachineOnDrives → Type 0
 FileAttemptedFrom call now p end terms terms_after before after =
     OnEach before
     (λ m was. FileAttempted call m was now p end after.processes after.files after.views terms terms_after)

@@ -9,18 +9,18 @@ use Rattle.io_state.specs.Context.{InCall}
 use Rattle.io_state.specs.Sound.{ReadsNoTerminal}
 use Rattle.io_state.specs.declared.requester.Requester.{Requester}
 use Rattle.file_drives.specs.Drives.{DriveView, drives_seen}
-use Rattle.file_state.specs.Attempt.{Standing}
+use Rattle.file_state.specs.Attempt.{MachineOnDrives}
 use Rattle.file_state.specs.declared.machine.Machine.{Machine}
 
--- the machine beside these drives
-abbrev pub beside : Machine → List DriveView → Standing
-beside machine views = record { processes = machine.processes; files = machine.files; views = views }
+-- the machine together with these drives
+abbrev pub on_drives : Machine → List DriveView → MachineOnDrives
+on_drives machine views = record { processes = machine.processes; files = machine.files; views = views }
 
 -- the machine with its drives, as `machine_seen BlockDriver-box machine.old devices.old`
 abbrev pub machine_seen : {Disk : Type 0} {Drive : Disk → Type 0} {Terminals : Type 0}
     → ((drive : DynBox Disk Global Drive) → Ghosts (Drive drive.vtable)) → Machine
-    → DeviceTable (DynBox Disk Global Drive) Terminals → Standing
-machine_seen members machine devices = beside machine (drives_seen members devices)
+    → DeviceTable (DynBox Disk Global Drive) Terminals → MachineOnDrives
+machine_seen members machine devices = on_drives machine (drives_seen members devices)
 
 -- the requester's call may act on a file: it has no pending call, or one that is not a read of a terminal
 pub record InFileCall (by : Requester) (machine : Machine) : Type 0 where

@@ -9,7 +9,7 @@ use Rattle.file_rules.specs.Files.{Asker, Files}
 use Rattle.file_rules.specs.Step.{Step, refused, comes, reaches}
 use Rattle.file_rules.specs.declared.path_call.PathCall.{PathCall}
 use Rattle.file_drives.specs.Drives.{DriveView, unused_drive}
-use Rattle.file_state.specs.Attempt.{FileAttempted, OnEach, Standing}
+use Rattle.file_state.specs.Attempt.{FileAttempted, OnEach, MachineOnDrives}
 use Rattle.file_state.specs.Media.{KeepsDrives}
 
 -- the number of calls of the drive of this number; 0 if there is none
@@ -33,7 +33,7 @@ calls_of (reaches drive step) most = most
 -- on the drives
 pub record AttemptsIn (most : ℕ) (call : PathCall) (m : Processes) (was : Files) (now : TimePacket) (p : ℕ)
     (end : CallEnd)
-    (terms terms_after : List TerminalState) (before after : Standing) : Type 0 where
+    (terms terms_after : List TerminalState) (before after : MachineOnDrives) : Type 0 where
   pub attempts : FileAttempted call m was now p end after.processes after.files after.views terms terms_after
   pub calls : CalledAtMost (calls_of (file_step call (asker_of m p now) was (length terms)) most) before.views
       after.views
@@ -43,7 +43,7 @@ pub record AttemptsIn (most : ℕ) (call : PathCall) (m : Processes) (was : File
 -- from each state that the kernel's state represents, with the greatest number of drive calls by the calling process,
 -- the files and the number of terminals
 abbrev pub AttemptsWithin : (Asker → Files → ℕ → ℕ) → PathCall → TimePacket → ℕ → CallEnd → List TerminalState
-    → List TerminalState → Standing → Standing → Type 0
+    → List TerminalState → MachineOnDrives → MachineOnDrives → Type 0
 AttemptsWithin most call now p end terms terms_after before after =
     OnEach before
     (λ m was. AttemptsIn (most (asker_of m p now) was (length terms)) call m was now p end terms terms_after before

@@ -17,7 +17,7 @@ use Rattle.file_rules.specs.Status.{gets_status, sets_status}
 use Rattle.file_rules.specs.declared.path_call.PathCall.TheVariants as Call
 use Rattle.file_laws.specs.Kinds.{AreKinds}
 use Rattle.file_state.proofs.KeepLemmas.{ends-attempt, lacks-attempt}
-use Rattle.file_state.specs.Attempt.{Standing}
+use Rattle.file_state.specs.Attempt.{MachineOnDrives}
 use Rattle.file_state.specs.Counted.{AttemptsIn}
 use Rattle.file_state.specs.Ends.{EndsFileAttempt, EndsOrLacks}
 use Rattle.file_state.specs.Lacks.{AttemptsOrLacks}
@@ -33,7 +33,7 @@ regs-tied processes m p tied = sym (ap (λ (i : Processes). regs_at i p) tied.is
 pub user-tied : (processes : ProcState) (m : Processes) (p user : ℕ) → RepresentsProcesses processes m → user ≡ (record_at processes.table p).user → user ≡ user_at m p
 user-tied processes m p user tied is = is ∙ sym (ap (λ (i : Processes). user_at i p) tied.is)
 
-module _ (m : Processes) (was : Files) (now : TimePacket) (p : ℕ) (end : CallEnd) (before after : Standing)
+module _ (m : Processes) (was : Files) (now : TimePacket) (p : ℕ) (end : CallEnd) (before after : MachineOnDrives)
     (opened : KernelFile) (terms : List TerminalState) (tied : RepresentsProcesses before.processes m)
     (stands : RepresentsFiles before.files before.views was) (kinds : AreKinds was) (named : IsNamedInA p opened before)
   where

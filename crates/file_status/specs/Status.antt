@@ -28,7 +28,7 @@ use Rattle.file_rules.specs.Step.{FileStep, reaches}
 use Rattle.file_rules.specs.Write.{changes_file}
 use Rattle.file_rules.specs.declared.status.TheConstants.{SS_LOCK, SS_SIZE}
 use Rattle.file_laws.specs.Kinds.{AreKinds}
-use Rattle.file_state.specs.Attempt.{Standing, unrequested}
+use Rattle.file_state.specs.Attempt.{MachineOnDrives, unrequested}
 use Rattle.file_state.specs.Ends.{EndsFileAttempt, EndsOrLacks}
 use Rattle.file_state.specs.Opened.{IsOpenFileOf, IsPathOf}
 use Rattle.file_state.specs.Tie.{RepresentsFiles}
@@ -56,7 +56,7 @@ pub record RepresentsOpenFile (files : Files) (opened : KernelFile) (it : OpenFi
 -- a call of a process on this path, at a time, ends as the step says, and calls the drive at most `most` times if it
 -- reaches the drive, from each state of the machine that the kernel's state represents
 abbrev pub EndsPathCall : KernelFile → (Asker → Files → OpenFile → FileStep) → (Asker → OpenFile → ℕ) → TimePacket → ℕ
-    → CallEnd → Standing → Standing → Type 0
+    → CallEnd → MachineOnDrives → MachineOnDrives → Type 0
 EndsPathCall opened step most now p end before after =
     (m : Processes) (was : Files) (it : OpenFile) (terms : List TerminalState) → RepresentsProcesses before.processes m
     → RepresentsFiles before.files before.views was → RepresentsOpenFile was opened it
@@ -66,7 +66,7 @@ EndsPathCall opened step most now p end before after =
 
 -- the same once the files have changed so, or memory was wanting for its entry in the history
 abbrev pub SetsFrom : (Files → Files) → KernelFile → (Asker → Files → OpenFile → FileStep) → (Asker → OpenFile → ℕ)
-    → TimePacket → ℕ → CallEnd → Standing → Standing → Type 0
+    → TimePacket → ℕ → CallEnd → MachineOnDrives → MachineOnDrives → Type 0
 SetsFrom changed opened step most now p end before after =
     (m : Processes) (was : Files) (it : OpenFile) (terms : List TerminalState) → RepresentsProcesses before.processes m
     → RepresentsFiles before.files before.views (changed was) → RepresentsOpenFile was opened it
@@ -74,17 +74,17 @@ SetsFrom changed opened step most now p end before after =
     after.files before.views after.views terms
 
 abbrev pub SetsOn : KernelFile → (Asker → Files → OpenFile → FileStep) → (Asker → OpenFile → ℕ) → TimePacket → ℕ
-    → CallEnd → Standing → Standing → Type 0
+    → CallEnd → MachineOnDrives → MachineOnDrives → Type 0
 SetsOn opened step most now p end before after = SetsFrom (λ files. files) opened step most now p end before after
 
 -- once its request is granted: the kernel's files have it no longer
 abbrev pub SetsGranted : KernelFile → (Asker → Files → OpenFile → FileStep) → (Asker → OpenFile → ℕ) → TimePacket → ℕ
-    → CallEnd → Standing → Standing → Type 0
+    → CallEnd → MachineOnDrives → MachineOnDrives → Type 0
 SetsGranted opened step most now p end before after =
     SetsFrom (unrequested p) opened step most now p end before after
 
 -- A of a process names this file or directory
-pub record IsNamedInA (p : ℕ) (opened : KernelFile) (before : Standing) : Type 0 where
+pub record IsNamedInA (p : ℕ) (opened : KernelFile) (before : MachineOnDrives) : Type 0 where
   pub path : IsPathOf before.files.io opened
   pub file : (files : Files) → RepresentsFiles before.files before.views files → AreKinds files
       → IsOpenFileOf before.files before.views files p (record_at before.processes.table p).regs.a opened

@@ -2,7 +2,7 @@
 
 ghost use Rattle.std.specs.Prelude.{◌≡◌, min, List};
 ghost use Rattle.io_state.specs.Context.{SameTerminals};
-ghost use Rattle.file_state.specs.Context.{InFileCall, InFirstAttempt, beside, machine_seen};
+ghost use Rattle.file_state.specs.Context.{InFileCall, InFirstAttempt, on_drives, machine_seen};
 ghost use Rattle.os9_base.specs.declared.registers.TimePacket.{TimePacket};
 ghost use Rattle.os9_outer.specs.TerminalState.{TerminalState};
 ghost use Rattle.proc_model.specs.Records.{IsLiving};
@@ -91,7 +91,7 @@ fn get_options(machine: &mut Machine, by: Requester) -> CallEnd
     requires calls { InFileCall by machine.old }
     ensures call { (now : TimePacket) (opened : KernelFile) (views : List DriveView)
         → EndsPathCall opened gets_options_model getting_calls now by.p.0 result
-        (beside machine.old views) (beside machine.new views) }
+        (on_drives machine.old views) (on_drives machine.new views) }
     ensures lives { IsLiving machine.new.processes.table by.p.0 }
 {
     let regs = by.regs;

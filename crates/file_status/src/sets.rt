@@ -2,7 +2,7 @@
 
 ghost use Rattle.std.specs.Prelude.{◌≡◌, false, true, List};
 ghost use Rattle.io_state.specs.Context.{InCall, SameTerminals};
-ghost use Rattle.file_state.specs.Context.{InFileCall, beside, machine_seen};
+ghost use Rattle.file_state.specs.Context.{InFileCall, on_drives, machine_seen};
 ghost use Rattle.proc_model.specs.Processes.{Processes, with_regs_of};
 ghost use Rattle.os9_base.specs.declared.registers.TimePacket.{TimePacket as Time};
 ghost use Rattle.os9_outer.specs.TerminalState.{TerminalState};
@@ -310,7 +310,7 @@ fn set_ticks(machine: &mut Machine, by: Requester, opened: &OpenFile) -> CallEnd
     requires path { IsPathOf machine.old.files.io opened.now }
     ensures call { (now : Time) (views : List DriveView)
         → EndsPathCall opened.now sets_ticks_model (setting_calls SS_TICKS) now by.p.0 result
-        (beside machine.old views) (beside machine.new views) }
+        (on_drives machine.old views) (on_drives machine.new views) }
     ensures lives { IsLiving machine.new.processes.table by.p.0 }
 {
     let end = answer(machine, by, by.regs);

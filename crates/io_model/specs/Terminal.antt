@@ -108,7 +108,7 @@ pub record Arrives (tick : ℕ) (old new : Terminal) (before now : TerminalState
 abbrev pub driver_with : List Key → List ℕ → ℕ → TerminalState
 driver_with keys put faults = record { keys = keys; put = Some put; faults = faults }
 
--- ReadAttempted.
+-- Reads.
 
 -- what a key makes of a line, by the kind of the read and the number of bytes that it asks for
 abbrev pub effect_by : ReadKind → ℕ → Editing → ℕ → Edited
@@ -240,7 +240,7 @@ pub record ReadAttempted (request : Reading) (answer : Progress) (old new : Term
 abbrev pub stored_bytes : Progress → Reading → Terminal → List ℕ
 stored_bytes answer request t = if is_refused answer then [] else (read_attempt request t).stored
 
--- WriteAttempted.
+-- Writes.
 
 -- the terminal got a part of these bytes: at least one of them was refused
 abbrev pub PutsPart : List ℕ → TerminalState → TerminalState → Type 0

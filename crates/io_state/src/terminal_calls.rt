@@ -1,4 +1,4 @@
-//! ReadAttempted and writes of terminals.
+//! Reads and writes of terminals.
 
 ghost use Rattle.std.specs.Prelude.{◌≡◌, ◌<◌, ◌≤◌, None, length, take, vec_len};
 ghost use Rattle.io_model.specs.Line.{line_length, line_put};

@@ -21,7 +21,7 @@ use Rattle.file_rules.specs.ProgramFile.{ProgramFile, ReadingIsBroken, ReadsProg
 use Rattle.file_rules.specs.Step.{Step, refuses}
 use Rattle.file_rules.specs.Route.{list_of, reads_list}
 use Rattle.file_state.proofs.CountLemmas.{called-more, called-none}
-use Rattle.file_state.specs.Attempt.{Standing}
+use Rattle.file_state.specs.Attempt.{MachineOnDrives}
 use Rattle.file_state.specs.Counted.{CalledAtMost}
 use Rattle.file_state.specs.Tie.{AreSoundFiles, RepresentsFiles}
 use Rattle.file_state.specs.declared.state.FileState.{FileState}
@@ -156,7 +156,7 @@ place-none (Some a) is = absurd cc
 -- ---- attempts of calls that start a program
 
 module _ (start : Processes → ℕ → Program → CallResult) (full : Processes → ℕ → CallResult) (m : Processes) (p : ℕ) (now : TimePacket) (was : Files) (terms : ℕ) (end : CallEnd)
-    (before after : Standing) where
+    (before after : MachineOnDrives) where
   abbrev asker : Asker
   asker = asker_of m p now
 

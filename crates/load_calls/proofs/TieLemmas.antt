@@ -1,5 +1,5 @@
 -- The kernel's processes, and those of the machine that they are.
-use Rattle.std.proofs.Common.{◌≡◌, ◌∙◌, ◌<◌, ℕ, Option, List, refl, ap, sym, subst}
+use Rattle.std.proofs.Common.{◌≡◌, ◌∙◌, ◌<◌, ℕ, Option, List, ap, sym, subst}
 use Rattle.os9_base.specs.Cells.{Cells}
 use Rattle.io_state.specs.Context.{InCall}
 use Rattle.io_state.specs.declared.requester.Requester.{Requester}
@@ -8,9 +8,8 @@ use Rattle.guest_memory.specs.Tie.{cells_of}
 use Rattle.guest_memory.proofs.Seen.{cells_of-seen}
 use Rattle.device_paths.specs.Standing.{NamesFrom}
 use Rattle.proc_model.specs.Records.{record_at}
-use Rattle.proc_state.specs.Tie.{AreProcessesSame, RepresentsProcesses, processes_of}
+use Rattle.proc_state.specs.Tie.{AreProcessesSame, RepresentsProcesses}
 use Rattle.proc_state.specs.declared.state.ProcState.{ProcState}
-use Rattle.proc_state.proofs.Entered.{represented}
 use Rattle.proc_state.proofs.UserBytes.{same-then}
 
 -- they are the same still
@@ -23,13 +22,6 @@ same-processes before mid after one other = record {
   tick = other.tick ∙ one.tick;
   represents = λ m tied. other.represents m (one.represents m tied);
 }
-
--- they are those of some machine
-pub some-machine : (s : ProcState) → (m : Processes) × RepresentsProcesses s m
-some-machine s =
-    let own = represented s.memory in
-    let m : Processes = processes_of s _ in
-    let tied : RepresentsProcesses s m = record { memory = own; is = refl } in (m, tied)
 
 -- the user of a process
 pub same-user : (s : ProcState) (m : Processes) (p : ℕ) → RepresentsProcesses s m → user_at m p ≡ (record_at s.table p).user

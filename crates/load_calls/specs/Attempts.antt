@@ -15,14 +15,14 @@ use Rattle.file_rules.specs.Program.{ChainAttempts, ForkAttempts, named_program,
 use Rattle.file_rules.specs.ProgramFile.{ProgramFile, program_file}
 use Rattle.file_rules.specs.Step.{Step}
 use Rattle.file_rules.specs.Route.{list_of}
-use Rattle.file_state.specs.Attempt.{OnEach, Standing}
+use Rattle.file_state.specs.Attempt.{OnEach, MachineOnDrives}
 use Rattle.file_state.specs.Counted.{CalledAtMost, calls_of}
 use Rattle.file_state.specs.Tie.{RepresentsFiles}
 use Rattle.load_calls.specs.Calls.{list_calls}
 
 -- an attempt of a process had this end, called the drives at most this number of times, and left all media unchanged
 pub record AttemptsBy (attempt : CallResult → Files → Type 0) (m : Processes) (p : ℕ) (end : CallEnd) (most : ℕ)
-    (before after : Standing) : Type 0 where
+    (before after : MachineOnDrives) : Type 0 where
   pub result : CallResult
   pub left : Files
   pub attempted : attempt result left
@@ -42,19 +42,19 @@ start_calls m p now files terms =
     option_map_or (λ named. 0) (named_program m p) (file_calls (asker_of m p now) files terms (tests_program m p))
 
 -- attempts of F$Load, F$Fork and F$Chain, at a time, on a machine with this number of terminals
-abbrev pub LoadAttemptedFrom : TimePacket → ℕ → CallEnd → ℕ → Standing → Standing → Type 0
+abbrev pub LoadAttemptedFrom : TimePacket → ℕ → CallEnd → ℕ → MachineOnDrives → MachineOnDrives → Type 0
 LoadAttemptedFrom now p end terms before after =
     OnEach before
     (λ m was. AttemptsBy (LoadAttempts m (asker_of m p now) was terms p) m p end
     (file_calls (asker_of m p now) was terms (λ step. step)) before after)
 
-abbrev pub ForksFrom : TimePacket → ℕ → CallEnd → ℕ → Standing → Standing → Type 0
+abbrev pub ForksFrom : TimePacket → ℕ → CallEnd → ℕ → MachineOnDrives → MachineOnDrives → Type 0
 ForksFrom now p end terms before after =
     OnEach before
     (λ m was. AttemptsBy (ForkAttempts m (asker_of m p now) was terms p) m p end (start_calls m p now was terms)
     before after)
 
-abbrev pub ChainsFrom : TimePacket → ℕ → CallEnd → ℕ → Standing → Standing → Type 0
+abbrev pub ChainsFrom : TimePacket → ℕ → CallEnd → ℕ → MachineOnDrives → MachineOnDrives → Type 0
 ChainsFrom now p end terms before after =
     OnEach before
     (λ m was. AttemptsBy (ChainAttempts m (asker_of m p now) was terms p) m p end (start_calls m p now was terms)

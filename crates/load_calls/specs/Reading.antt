@@ -12,7 +12,7 @@ use Rattle.file_rules.specs.Step.{Step, drive_of}
 use Rattle.file_rules.specs.Route.{Found, along, IsFoundAt}
 use Rattle.lock_model.specs.declared.place.FilePlace.{FilePlace}
 use Rattle.file_drives.specs.Drives.{DriveView, media_of}
-use Rattle.file_state.specs.Attempt.{Standing}
+use Rattle.file_state.specs.Attempt.{MachineOnDrives}
 use Rattle.file_state.specs.Counted.{CalledAtMost}
 use Rattle.file_state.specs.Reached.{HasReadDrive}
 use Rattle.file_state.specs.Tie.{RepresentsFiles}
@@ -57,21 +57,22 @@ read_by (Err fault) size next = Err (file_error fault)
 -- ---- between two states of the kernel's processes, its files and the drives
 
 -- this step of a reading has this result
-abbrev pub ReadsBetween : Step ProgramFile → ℕ → Files → Result ProgramRead ℕ → Standing → Standing → Type 0
+abbrev pub ReadsBetween : Step ProgramFile → ℕ → Files → Result ProgramRead ℕ → MachineOnDrives → MachineOnDrives
+    → Type 0
 ReadsBetween step most was result before after =
     ReadsTo step most was result after.processes.buffer.items after.files before.views after.views
 
 -- this step of a calling process, at any time, from each state that the kernel's state represents
 abbrev pub ReadsProgramFrom : ℕ → (Asker → Files → Step ProgramFile) → (Asker → Files → ℕ) → Result ProgramRead ℕ
-    → Standing
-    → Standing → Type 0
+    → MachineOnDrives
+    → MachineOnDrives → Type 0
 ReadsProgramFrom p step most result before after =
     (m : Processes) (was : Files) (now : TimePacket) → RepresentsProcesses before.processes m
     → RepresentsFiles before.files before.views was
     → ReadsBetween (step (asker_of m p now) was) (most (asker_of m p now) was) was result before after
 
 -- the file reached from a directory along names: those of a process's path list from `first` on, before `next`
-abbrev pub ReadsAlong : ℕ → FilePlace → Option ℕ → ℕ → Result ProgramRead ℕ → Standing → Standing → Type 0
+abbrev pub ReadsAlong : ℕ → FilePlace → Option ℕ → ℕ → Result ProgramRead ℕ → MachineOnDrives → MachineOnDrives → Type 0
 ReadsAlong p from first next result before after =
     (m : Processes) (was : Files) (now : TimePacket) (list : PathList) → RepresentsProcesses before.processes m
     → RepresentsFiles before.files before.views was → NamesFrom (cells_at m p) first list.names → next ≡ list.next
@@ -79,7 +80,7 @@ ReadsAlong p from first next result before after =
     (program_route_calls (asker_of m p now) was (along from list.names)) was result before after
 
 -- a file was found at a place, and its drive has only been read
-pub record HasFoundFile (place : FilePlace) (was : Files) (found : Found) (now : Standing) : Type 0 where
+pub record HasFoundFile (place : FilePlace) (was : Files) (found : Found) (now : MachineOnDrives) : Type 0 where
   pub before : List DriveView
   pub read : HasReadDrive None place.drive was now.files before now.views
   pub there : IsFoundAt was place found

@@ -13,7 +13,7 @@ pub record IsIn (byte : ℕ) (range : Range) : Type 0 where
   pub from : range.start ≤ byte
   pub to : (end : ℕ) → range.end ≡ Some end → byte < end
 
--- a range has so many bytes from its start on
+-- a range has `count` bytes from its start on
 abbrev pub Covers : Range → ℕ → Type 0
 Covers range count = (last : ℕ) → range.end ≡ Some last → range.start + count ≤ last
 

@@ -1,4 +1,4 @@
--- WaitsForProcess, cycles of waits, and answers to requests (Level Two manual, RBF record locking).
+-- Waits, cycles of waits, and answers to requests (Level Two manual, RBF record locking).
 use Rattle.std.specs.Prelude.{◌≡◌, ℕ, zero, suc, ◌+◌, ◌==◌, ◌&&◌, ◌||◌, not, nat_le, nat_lt, Bool, true, false, Option, Some, None, List, [], ◌∷◌, if◌then◌else◌}
 use Rattle.lock_model.specs.declared.lock.Held.{Held}
 use Rattle.lock_model.specs.declared.lock.Request.{Request}

@@ -22,7 +22,7 @@ use Rattle.file_state.proofs.EndLemmas.{breaks, goes-well}
 use Rattle.file_state.proofs.KeepLemmas.{MayKeepAll, ends-attempt, error-keeps, keeps-read, keeps-same}
 use Rattle.file_state.proofs.ReachedLemmas as reached
 use Rattle.file_state.proofs.StateLemmas.{stands-with_io}
-use Rattle.file_state.specs.Attempt.{Standing}
+use Rattle.file_state.specs.Attempt.{MachineOnDrives}
 use Rattle.file_state.specs.Counted.{AttemptsIn, CalledAtMost, calls_of}
 use Rattle.file_state.specs.Ends.{EndsFileAttempt}
 use Rattle.file_state.specs.Media.{KeepsDrives}
@@ -165,7 +165,7 @@ module _ (m : Processes) (was : Files) (now : TimePacket) (p : ℕ) (end : CallE
 
 -- the attempt is that step
 pub attempts-by : (most : ℕ) (call : PathCall) (m : Processes) (was : Files) (now : TimePacket) (p : ℕ) (end : CallEnd)
-    (terms : List TerminalState) (before after : Standing) (step : FileStep) (few : ℕ)
+    (terms : List TerminalState) (before after : MachineOnDrives) (step : FileStep) (few : ℕ)
     → file_step call (asker_of m p now) was (length terms) ≡ step → few ≡ most → EndsFileAttempt step few m was now p end
     after.processes after.files before.views after.views terms → AttemptsIn most call m was now p end terms terms
     before after

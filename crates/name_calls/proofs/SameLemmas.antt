@@ -1,14 +1,13 @@
 -- Processes and their memory, as the calls on names of files need them.
-use Rattle.std.proofs.Common.{◌≡◌, ◌∙◌, ℕ, ◌<◌, Option, refl, ap, sym, subst}
+use Rattle.std.proofs.Common.{◌≡◌, ◌∙◌, ℕ, ◌<◌, Option, ap, sym, subst}
 use Rattle.io_state.specs.declared.requester.Requester.{Requester}
 use Rattle.proc_model.specs.Processes.{Processes, cells_at, regs_at, user_at}
 use Rattle.guest_memory.proofs.Seen.{cells_of-seen}
 use Rattle.guest_memory.specs.Tie.{cells_of}
 use Rattle.os9_base.specs.Cells.{Cells}
 use Rattle.proc_model.specs.Records.{record_at}
-use Rattle.proc_state.proofs.Entered.{represented}
 use Rattle.proc_state.proofs.UserBytes.{same-then}
-use Rattle.proc_state.specs.Tie.{AreProcessesSame, RepresentsProcesses, processes_of}
+use Rattle.proc_state.specs.Tie.{AreProcessesSame, RepresentsProcesses}
 use Rattle.proc_state.specs.declared.state.ProcState.{ProcState}
 use Rattle.file_routes.specs.Walks.{SomeFrom}
 
@@ -31,11 +30,7 @@ user-is s m p user tied is = ap (λ (m : Processes). user_at m p) tied.is ∙ sy
 pub regs-are : (by : Requester) (s : ProcState) (m : Processes) → by.regs ≡ (record_at s.table by.p.0).regs → RepresentsProcesses s m → by.regs ≡ regs_at m by.p.0
 regs-are by s m same tied = same ∙ ap (λ (m : Processes). regs_at m by.p.0) (sym tied.is)
 
--- processes are those of some machine
-pub some-machine : (s : ProcState) → (m : Processes) × RepresentsProcesses s m
-some-machine s = (processes_of s _, record { memory = represented s.memory; is = refl })
-
--- which sees some names of a list, where the kernel does
+-- a machine sees some names of a list, if the kernel does
 pub some-names : (s : ProcState) (p : ℕ) (first : Option ℕ) → p < 33 → (m : Processes) (tied : RepresentsProcesses s m) → SomeFrom (cells_of s.memory p) first → SomeFrom (cells_at m p) first
 some-names s p first inside m tied some =
     subst (λ (cells : Cells). SomeFrom cells first) (cells_of-seen s.memory p inside m.memory tied.memory) some

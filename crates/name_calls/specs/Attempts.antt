@@ -15,7 +15,7 @@ use Rattle.file_rules.specs.Step.{FileStep}
 use Rattle.file_rules.specs.Route.{Found, along, IsFoundAt}
 use Rattle.lock_model.specs.declared.place.FilePlace.{FilePlace}
 use Rattle.file_drives.specs.Drives.{DriveView}
-use Rattle.file_state.specs.Attempt.{Standing}
+use Rattle.file_state.specs.Attempt.{MachineOnDrives}
 use Rattle.file_state.specs.Ends.{EndsFileAttempt}
 use Rattle.file_state.specs.Tie.{RepresentsFiles}
 use Rattle.name_calls.specs.OpenCalls.{creating_calls, new_file_calls, opening_calls}
@@ -25,7 +25,8 @@ use Rattle.name_calls.specs.declared.naming.LastLocated.{LastLocated}
 
 -- an attempt of a process, at a time, does what the step says, for any terminals: it ends so, and leaves this state;
 -- since the drives were `drives`, it called them at most `most` times
-abbrev pub EndsForAnyTerminals : FileStep → ℕ → Processes → Files → TimePacket → ℕ → CallEnd → List DriveView → Standing
+abbrev pub EndsForAnyTerminals : FileStep → ℕ → Processes → Files → TimePacket → ℕ → CallEnd → List DriveView
+    → MachineOnDrives
     → Type 0
 EndsForAnyTerminals step most m was now p end drives after =
     (terms : List TerminalState)
@@ -35,14 +36,14 @@ EndsForAnyTerminals step most m was now p end drives after =
 
 -- a fact of each path list of a process, in each such state: the first of its names is at this address, or it has no
 -- names, and it ends before `next`
-abbrev pub OnEachList : Standing → ℕ → Option ℕ → ℕ → (Processes → Files → PathList → Type 0) → Type 0
+abbrev pub OnEachList : MachineOnDrives → ℕ → Option ℕ → ℕ → (Processes → Files → PathList → Type 0) → Type 0
 OnEachList before p first next fact =
     (m : Processes) (was : Files) (list : PathList) → RepresentsProcesses before.processes m
     → RepresentsFiles before.files before.views was → NamesFrom (cells_at m p) first list.names → list.next ≡ next
     → fact m was list
 
 -- I$Open, from a directory along the names of such a list
-abbrev pub OpensAlong : FilePlace → Option ℕ → ℕ → TimePacket → ℕ → CallEnd → Standing → Standing → Type 0
+abbrev pub OpensAlong : FilePlace → Option ℕ → ℕ → TimePacket → ℕ → CallEnd → MachineOnDrives → MachineOnDrives → Type 0
 OpensAlong from first next now p end before after =
     OnEachList before p first next
     (λ m was list.
@@ -50,7 +51,8 @@ OpensAlong from first next now p end before after =
     (opening_calls (asker_of m p now) was (along from list.names)) m was now p end before.views after)
 
 -- I$Create, with the last of the names, which is not dots
-abbrev pub CreatesAlong : FilePlace → Option ℕ → ℕ → TimePacket → ℕ → CallEnd → Standing → Standing → Type 0
+abbrev pub CreatesAlong : FilePlace → Option ℕ → ℕ → TimePacket → ℕ → CallEnd → MachineOnDrives → MachineOnDrives
+    → Type 0
 CreatesAlong from first next now p end before after =
     OnEachList before p first next
     (λ m was list.
@@ -62,7 +64,7 @@ CreatesAlong from first next now p end before after =
 
 -- I$Create with a last name, which is not dots, in the directory that a walk has reached: the walk began in a state
 -- that the kernel's state represents, with these drives, and has called its drive at most `most` times
-abbrev pub CreatesThere : LastLocated → TimePacket → ℕ → CallEnd → Standing → Standing → Type 0
+abbrev pub CreatesThere : LastLocated → TimePacket → ℕ → CallEnd → MachineOnDrives → MachineOnDrives → Type 0
 CreatesThere located now p end before after =
     (m : Processes) (was : Files) (list : PathList) (dir : Found) (most : ℕ) (drives : List DriveView)
     → RepresentsProcesses before.processes m

@@ -8,7 +8,7 @@ use Rattle.file_rules.specs.Attempts.{asker_of}
 use Rattle.file_rules.specs.Files.{Asker, Files, volume_at}
 use Rattle.file_rules.specs.Step.{Step, refused, comes, reaches, drive_of}
 use Rattle.file_drives.specs.Drives.{DriveView, drive_states}
-use Rattle.file_state.specs.Attempt.{Standing}
+use Rattle.file_state.specs.Attempt.{MachineOnDrives}
 use Rattle.file_state.specs.Counted.{CalledAtMost, calls_of}
 use Rattle.file_state.specs.Reached.{HasReadDrive}
 use Rattle.file_state.specs.Tie.{RepresentsFiles}
@@ -64,7 +64,7 @@ pub record SearchHasResult {A R : Type 0} (fact : A → R → Type 0) (step : St
 -- a search by a process, at any time and with this number of terminals, has this result, from each state of the machine
 -- that the kernel's state represents
 abbrev pub LooksFrom : {A R : Type 0} → (Step A → Files → A → R → Type 0) → (Asker → Files → ℕ → Step A)
-    → (Asker → Files → ℕ → ℕ) → ℕ → ℕ → Result R ℕ → Standing → Standing → Type 0
+    → (Asker → Files → ℕ → ℕ) → ℕ → ℕ → Result R ℕ → MachineOnDrives → MachineOnDrives → Type 0
 LooksFrom fact step most p terms result before after =
     (m : Processes) (was : Files) (now : TimePacket) → RepresentsProcesses before.processes m
     → RepresentsFiles before.files before.views was

@@ -12,7 +12,7 @@ use Rattle.file_drives.specs.Drives.{DriveView}
 use Rattle.file_rules.specs.Attempts.{asker_of}
 use Rattle.file_rules.specs.Files.{Asker, Files}
 use Rattle.file_rules.specs.Step.{FileDoes, FileStep, leaves}
-use Rattle.file_state.specs.Attempt.{Standing}
+use Rattle.file_state.specs.Attempt.{MachineOnDrives}
 use Rattle.file_state.specs.Counted.{CalledAtMost, calls_of}
 use Rattle.file_state.specs.Media.{KeepsDrives}
 use Rattle.file_state.specs.Tie.{RepresentsFiles}
@@ -43,7 +43,7 @@ pub record TriesNameCall (step : FileStep) (most : ℕ) (asker : Asker) (files :
 -- kernel's state represents
 abbrev pub TriesNameCallFrom : (Asker → Files → ℕ → FileStep) → (Asker → Files → ℕ → ℕ) → TimePacket → ℕ → ℕ
     → Result ℕ ℕ
-    → Standing → Standing → Type 0
+    → MachineOnDrives → MachineOnDrives → Type 0
 TriesNameCallFrom step most now p terms result before after =
     (m : Processes) (was : Files) → RepresentsProcesses before.processes m
     → RepresentsFiles before.files before.views was

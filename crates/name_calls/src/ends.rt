@@ -20,7 +20,7 @@ use io_state::requester::Requester;
 use os9_base::call::CallEnd;
 use os9_base::registers::Regs;
 
-/// EndsFileAttempt the call of a process. `came` is the address past its path list, to which X is set, or the
+/// Ends the call of a process. `came` is the address past its path list, to which X is set, or the
 /// number of its error. Nothing is kept of the call.
 pub(crate) fn end_call(machine: &mut Machine, by: Requester, came: Result<u32, u8>) -> CallEnd
     requires calls { InFirstAttempt by machine.old }

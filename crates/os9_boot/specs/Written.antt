@@ -22,7 +22,7 @@ ends_run (Run.DriveFailed drive number) = DriveFailed drive number
 ends_run Run.OutputFailed = CannotWrite
 ends_run Run.NoMemory = NoMemory
 
--- the end of a boot whose file of this number could not be written: the history comes after the images
+-- the end of a boot whose file of this number could not be written: the history is after the images
 abbrev pub end_unwritten : Outputs → ℕ → End
 end_unwritten outputs number =
     if number == length outputs.images then CannotWriteFile else CannotWriteImage number

@@ -1,4 +1,4 @@
--- What comes of a boot of disks at whose machine a person types (this project's own).
+-- The outcome of a boot of disks at whose machine a person types (this project's own).
 use Rattle.std.specs.Prelude.{◌≡◌, ◌⊎◌, ℕ, ⊤, Bool, true, false, Option, List, IfSome, length, All}
 use Rattle.os9_outer.specs.Host.{HostFiles, IfObserved}
 use Rattle.os9_words.specs.declared.command.RunWords.{RunWords}
@@ -94,8 +94,7 @@ WasSession setup outputs typed from to before after NoMemory =
     ⊎ ((number : ℕ) × EndsUnwritten setup outputs typed number from to before after))
 WasSession setup outputs typed from to before after end = ⊤
 
--- a machine is set up so, and what comes of it is what comes of a boot whose machine has the keys and slices that are
--- kept
+-- a machine is set up so, and its outcome is that of a boot whose machine has the kept keys and slices
 pub record MachineIsSession (boot : RunWords) (typed : Typed) (from to : KeyboardState) (before after : World)
     (end : End) : Type 0 where
   pub setup : Setup

@@ -21,7 +21,7 @@ abbrev pub option_words : List ℕ → Option (List ℕ) → List (List ℕ)
 option_words option value = option_map_or (λ value. (option ++ value) ∷ []) value []
 
 -- The words of a boot over the record of a session: the script and the slices of the record, the blocks and the time
--- that are given, and after `--` its images, or as many as are too many.
+-- that are given, and after `--` its images, or too many of them.
 abbrev pub replay_words : Given → List (List ℕ)
 replay_words given =
     codes "boot" ∷ (codes "--script=" ++ record_name given ++ codes ".script")

@@ -39,7 +39,7 @@ struct Record {
     slices: Vec<u8>,
 }
 
-/// RecordsIfAsked a session that ended so, if the words say so and its images are written.
+/// Records a session that ended so, if the words say so and its images are written.
 pub(crate) fn record_session<H: Host>(
     alloc: Global,
     words: &ConsoleWords,

@@ -234,8 +234,8 @@ fn refused_image_is_not_booted(rt: HostRuntime) -> Result<(), Fail> {
     Ok(())
 }
 
-/// A session in which this line is typed is the boot over its record, whose script has so many
-/// lines and this end.
+/// A session in which this line is typed is the boot over its record, whose script has this
+/// number of lines and this end.
 fn check_line(
     alloc: Global,
     rt: &impl Abort,

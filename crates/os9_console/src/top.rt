@@ -38,7 +38,8 @@ const NO_COMMAND: u8 = 1;
 /// slice with the next [`console_run::part::PART`] keys of a line, or as many as are left of it; if
 /// none are, the next line is taken from the keyboard. What is put on the terminals goes to the
 /// output stream after each slice, before the keyboard is asked again. The session is over if no
-/// process lives, if the keyboard gave its end in place of a line, or if the last tick would come.
+/// process lives, if the keyboard gave its end in place of a line, or if the last tick would be
+/// reached.
 /// With `--record` the files `NAME.script` and `NAME.slices` are written then. A boot over these
 /// texts and the old images has the setup of the session.
 ///

@@ -4,10 +4,10 @@ use Rattle.std.specs.List.{flat_map, range_with_len}
 use Rattle.std.proofs.lemmas.List.Concat.{flat_map-append}
 use Rattle.os9_base.specs.Cells.{Cells}
 use Rattle.cpu_model.specs.Reading.{reading}
-use Rattle.debug_run.specs.Disassembly.{bytes_from, byte_before, dis_line, dis_lines, longest_instruction, reading_at, reading_length}
+use Rattle.os9_debug.specs.Disassembly.{bytes_from, byte_before, dis_line, dis_lines, longest_instruction, reading_at, reading_length}
 use Rattle.asm_model.specs.Numbers.{four_digits}
-use Rattle.debug_run.specs.declared.command.Span.{Span}
-use Rattle.debug_run.specs.Show.{byte_text, mem_line}
+use Rattle.os9_debug.specs.declared.command.Span.{Span}
+use Rattle.os9_debug.specs.Show.{byte_text, mem_line}
 
 -- ---- the bytes of an instruction
 

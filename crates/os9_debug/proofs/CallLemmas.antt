@@ -8,8 +8,8 @@ use Rattle.script_text.specs.Slices.{slices_of}
 use Rattle.machine_model.specs.declared.ends.BootFault.TheVariants.{OutOfMemory, BadModule as BadModuleFault, NoFirst as NoFirstFault, TooLarge as TooLargeFault}
 use Rattle.os9_words.specs.declared.debug_words.DebugWords.{DebugWords}
 use Rattle.boot_run.specs.World.{World, HasNoFault}
-use Rattle.debug_run.specs.Commands.{commands_of}
-use Rattle.debug_run.specs.declared.command.Command.{Command}
+use Rattle.os9_debug.specs.Commands.{commands_of}
+use Rattle.os9_debug.specs.declared.command.Command.{Command}
 use Rattle.os9_debug.specs.Session.{FailsToPrint, PrintsSome, DebugSessionCall, StopsAtTerminal}
 use Rattle.os9_debug.specs.declared.machine.Machine.{Machine}
 use Rattle.os9_debug.specs.declared.machine.SessionFault.{SessionFault}

@@ -14,7 +14,7 @@ use Rattle.file_drives.specs.Drives.{drive_states}
 use Rattle.os9_kernel.specs.Outside.{Outside}
 use Rattle.run_laws.specs.Faults.{NotFailed}
 use Rattle.run_laws.proofs.Terminals.{rose-before, rose-later}
-use Rattle.debug_run.specs.Devices.{DevicesGain, Unfailed}
+use Rattle.os9_debug.specs.Devices.{DevicesGain, Unfailed}
 use Rattle.os9_debug.specs.Counts.{FailedOnce, HasNotFallen, NoneFell, RoseOnce, TerminalRose}
 use Rattle.os9_debug.specs.Machine.{loaded_devices}
 use Rattle.os9_debug.specs.declared.machine.Machine.{Machine}

@@ -6,19 +6,19 @@ use Rattle.machine_model.specs.State.{State}
 use Rattle.file_rules.specs.Files.{Files}
 use Rattle.file_drives.specs.Drives.{drive_states}
 use Rattle.os9_kernel.specs.Outside.{Outside}
-use Rattle.debug_run.specs.Course.{Course, last_of}
-use Rattle.debug_run.specs.Prints.{shows}
-use Rattle.debug_run.specs.Show.{end_line}
-use Rattle.debug_run.specs.declared.command.Command.{Command}
-use Rattle.debug_run.specs.declared.command.Command.TheVariants.{To, Back, Regs, Mem, Dis}
-use Rattle.debug_run.specs.declared.command.Span.{Span}
-use Rattle.debug_run.specs.Devices.{Unfailed}
-use Rattle.debug_run.specs.Moves.{HasReachedEvent}
-use Rattle.debug_run.specs.Position.{IsAt}
-use Rattle.debug_run.specs.declared.position.Position.{Position}
-use Rattle.debug_run.specs.declared.position.Step.{Step}
-use Rattle.debug_run.specs.declared.position.Step.TheVariants.{Event, End}
-use Rattle.debug_run.proofs.Faults.{devices-gain}
+use Rattle.os9_debug.specs.Course.{Course, last_of}
+use Rattle.os9_debug.specs.Prints.{shows}
+use Rattle.os9_debug.specs.Show.{end_line}
+use Rattle.os9_debug.specs.declared.command.Command.{Command}
+use Rattle.os9_debug.specs.declared.command.Command.TheVariants.{To, Back, Regs, Mem, Dis}
+use Rattle.os9_debug.specs.declared.command.Span.{Span}
+use Rattle.os9_debug.specs.Devices.{Unfailed}
+use Rattle.os9_debug.specs.PositionMoves.{HasReachedEvent}
+use Rattle.os9_debug.specs.Position.{IsAt}
+use Rattle.os9_debug.specs.declared.position.Position.{Position}
+use Rattle.os9_debug.specs.declared.position.Step.{Step}
+use Rattle.os9_debug.specs.declared.position.Step.TheVariants.{Event, End}
+use Rattle.os9_debug.proofs.Faults.{devices-gain}
 use Rattle.os9_debug.specs.Machine.{CourseOf, loaded_devices, or_no_memory}
 use Rattle.os9_debug.specs.Moves.{AtPosition, FailsToMove, HasRestarted, HasShown, IsAtEnd, IsUnderWay, LeadsBack, MayFailSo, MovesOn}
 use Rattle.os9_debug.specs.declared.machine.Machine.{Machine}

@@ -1,3 +1,13 @@
+pub mod Lines
+pub mod Courses
+pub mod Registers
+pub mod Breaking
+pub mod Emptying
+pub mod Faults
+pub mod Looks
+pub mod Passing
+pub mod Positions
+pub mod Remaining
 pub mod Back
 pub mod Bytes
 pub mod Counted

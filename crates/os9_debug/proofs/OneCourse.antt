@@ -9,7 +9,7 @@ use Rattle.script_text.specs.declared.script.ScriptKey.{ScriptKey}
 use Rattle.boot_run.specs.Loaded.{loaded_from}
 use Rattle.os9_words.specs.declared.debug_words.DebugWords.{DebugWords}
 use Rattle.boot_run.specs.World.{World}
-use Rattle.debug_run.proofs.Courses.{course-one, course-some}
+use Rattle.os9_debug.proofs.Courses.{course-one, course-some}
 use Rattle.os9_debug.specs.Machine.{boot_of}
 use Rattle.boot_run.specs.declared.status.End.TheVariants.{Ended}
 use Rattle.os9_debug.specs.Call.{DebugCall}

@@ -12,12 +12,12 @@ use Rattle.machine_model.specs.ProcessStart.{RefusesBoot}
 use Rattle.machine_model.specs.declared.ends.BootFault.{BootFault}
 use Rattle.os9_kernel.specs.Outside.{Outside}
 use Rattle.boot_run.specs.World.{FailsToWrite, HasNoFault, World}
-use Rattle.debug_run.proofs.Courses.{course-one, course-some}
-use Rattle.debug_run.specs.Course.{Course, position_after}
-use Rattle.debug_run.specs.Prints.{printed_from, shows}
-use Rattle.debug_run.specs.declared.command.Command.{Command}
-use Rattle.debug_run.specs.Devices.{Unfailed}
-use Rattle.debug_run.specs.declared.position.Position.{Position}
+use Rattle.os9_debug.proofs.Courses.{course-one, course-some}
+use Rattle.os9_debug.specs.Course.{Course, position_after}
+use Rattle.os9_debug.specs.Prints.{printed_from, shows}
+use Rattle.os9_debug.specs.declared.command.Command.{Command}
+use Rattle.os9_debug.specs.Devices.{Unfailed}
+use Rattle.os9_debug.specs.declared.position.Position.{Position}
 use Rattle.os9_debug.specs.Counts.{NoneFell}
 use Rattle.os9_debug.specs.Machine.{CanStart, HasNoBytes, HasStart, InCourse, boot_of}
 use Rattle.os9_debug.specs.Moves.{FailsToMove, FailsToStart, HasShown, IsPositionOf, LeadsBack, MayFailSo, MovesOn}

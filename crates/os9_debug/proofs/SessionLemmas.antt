@@ -20,10 +20,10 @@ use Rattle.boot_run.proofs.DriveLemmas.{counts-without, empty-without, given-bac
 use Rattle.os9_kernel.specs.Outside.{Outside}
 use Rattle.run_laws.specs.Faults.{NoDriveFailed, NotFailed}
 use Rattle.boot_run.specs.World.{World}
-use Rattle.debug_run.specs.Course.{Course}
-use Rattle.debug_run.specs.Prints.{printed_from}
-use Rattle.debug_run.specs.declared.command.Command.{Command}
-use Rattle.debug_run.specs.Devices.{Unfailed}
+use Rattle.os9_debug.specs.Course.{Course}
+use Rattle.os9_debug.specs.Prints.{printed_from}
+use Rattle.os9_debug.specs.declared.command.Command.{Command}
+use Rattle.os9_debug.specs.Devices.{Unfailed}
 use Rattle.os9_debug.specs.Counts.{FailedOnce, RoseOnce, TerminalRose}
 use Rattle.os9_debug.specs.Machine.{CanStart, HasKeyTick, InCourse}
 use Rattle.os9_debug.specs.Session.{FailsToPrint, PrintsFrontInCourse, PrintsSome, DebugSessionCall, StopsDebugSession}

@@ -30,11 +30,11 @@ use Rattle.os9_kernel.specs.declared.kernel.Kernel.{Kernel}
 use Rattle.os9_kernel.specs.declared.new.StartError.{StartError}
 use Rattle.os9_kernel.specs.declared.new.StartError.TheVariants.{Boot, Drive}
 use Rattle.run_laws.specs.Faults.{NotFailed}
-use Rattle.debug_run.specs.Course.{Course}
-use Rattle.debug_run.specs.Prints.{IsCourse}
-use Rattle.debug_run.specs.Devices.{DevicesGain, Unfailed}
-use Rattle.debug_run.specs.Position.{CanGoOn, IsAt}
-use Rattle.debug_run.specs.declared.position.Position.{Position}
+use Rattle.os9_debug.specs.Course.{Course}
+use Rattle.os9_debug.specs.Prints.{IsCourse}
+use Rattle.os9_debug.specs.Devices.{DevicesGain, Unfailed}
+use Rattle.os9_debug.specs.Position.{CanGoOn, IsAt}
+use Rattle.os9_debug.specs.declared.position.Position.{Position}
 use Rattle.os9_debug.specs.Machine.{CanStart, HasNoBytes, boot_of, debug_config, loaded_devices, start_fault}
 use Rattle.os9_debug.specs.Moves.{FailsToMove, FailsToStart, HasCome, HasRestarted, HasStartedMachine, IsBack, IsPositionOf}
 use Rattle.os9_debug.specs.declared.machine.Machine.{Machine}

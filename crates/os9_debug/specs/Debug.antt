@@ -7,8 +7,8 @@ use Rattle.machine_model.specs.ProcessStart.{RefusesBoot}
 use Rattle.machine_model.specs.declared.ends.BootFault.{BootFault}
 use Rattle.os9_words.specs.declared.debug_words.DebugWords.{DebugWords}
 use Rattle.boot_run.specs.World.{World}
-use Rattle.debug_run.specs.Commands.{commands_of}
-use Rattle.debug_run.specs.declared.command.Command.{Command}
+use Rattle.os9_debug.specs.Commands.{commands_of}
+use Rattle.os9_debug.specs.declared.command.Command.{Command}
 use Rattle.os9_debug.specs.Machine.{HasStart}
 use Rattle.os9_debug.specs.Session.{FailsToPrint, PrintsAll, PrintsSome, StopsAtTerminal}
 use Rattle.os9_debug.specs.declared.machine.Machine.{Machine}

@@ -1,3 +1,13 @@
+pub mod Commands
+pub mod Cuts
+pub mod Course
+pub mod Disassembly
+pub mod Prints
+pub mod Rows
+pub mod Show
+pub mod Devices
+pub mod PositionMoves
+pub mod Position
 pub mod Counts
 pub mod Machine
 pub mod Moves

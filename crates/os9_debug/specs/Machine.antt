@@ -12,9 +12,9 @@ use Rattle.machine_model.specs.State.{State}
 use Rattle.os9_kernel.specs.Outside.{Outside}
 use Rattle.os9_kernel.specs.declared.new.Config.{Config}
 use Rattle.boot_run.specs.Machine.{CanRun}
-use Rattle.debug_run.specs.Course.{Course}
-use Rattle.debug_run.specs.Prints.{IsCourse}
-use Rattle.debug_run.specs.Devices.{Unfailed}
+use Rattle.os9_debug.specs.Course.{Course}
+use Rattle.os9_debug.specs.Prints.{IsCourse}
+use Rattle.os9_debug.specs.Devices.{Unfailed}
 use Rattle.os9_debug.specs.declared.machine.Machine.{Machine}
 use Rattle.os9_debug.specs.declared.machine.SessionFault.{SessionFault}
 use Rattle.os9_debug.specs.declared.machine.SessionFault.TheVariants.{Refused, NoMemory}

@@ -8,14 +8,14 @@ use Rattle.machine_model.specs.declared.ends.BootFault.{BootFault}
 use Rattle.file_drives.specs.Drives.{drive_states}
 use Rattle.machine_model.specs.State.{State}
 use Rattle.os9_kernel.specs.Outside.{Outside}
-use Rattle.debug_run.specs.Course.{Course, last_of, position_after, state_at}
-use Rattle.debug_run.specs.Prints.{shows}
-use Rattle.debug_run.specs.Show.{shown_cells}
-use Rattle.debug_run.specs.declared.command.Command.{Command}
-use Rattle.debug_run.specs.declared.command.Command.TheVariants.{To, Back}
-use Rattle.debug_run.specs.Devices.{DevicesGain, Unfailed}
-use Rattle.debug_run.specs.Position.{CanGoOn, IsAt}
-use Rattle.debug_run.specs.declared.position.Position.{Position}
+use Rattle.os9_debug.specs.Course.{Course, last_of, position_after, state_at}
+use Rattle.os9_debug.specs.Prints.{shows}
+use Rattle.os9_debug.specs.Show.{shown_cells}
+use Rattle.os9_debug.specs.declared.command.Command.{Command}
+use Rattle.os9_debug.specs.declared.command.Command.TheVariants.{To, Back}
+use Rattle.os9_debug.specs.Devices.{DevicesGain, Unfailed}
+use Rattle.os9_debug.specs.Position.{CanGoOn, IsAt}
+use Rattle.os9_debug.specs.declared.position.Position.{Position}
 use Rattle.os9_debug.specs.Counts.{NoneFell}
 use Rattle.os9_debug.specs.Machine.{CanStart, CourseOf, HasNoBytes, HasStart, InCourse, loaded_devices}
 use Rattle.os9_debug.specs.declared.machine.Machine.{Machine}

@@ -5,8 +5,8 @@ use Rattle.os9_words.specs.Command.{IsRun}
 use Rattle.os9_words.specs.declared.debug_words.DebugWords.{DebugWords}
 use Rattle.boot_run.specs.Ready.{DevicesAreFree}
 use Rattle.boot_run.specs.World.{World}
-use Rattle.debug_run.specs.Devices.{Unfailed}
-use Rattle.debug_run.specs.declared.command.Command.{Command}
+use Rattle.os9_debug.specs.Devices.{Unfailed}
+use Rattle.os9_debug.specs.declared.command.Command.{Command}
 use Rattle.os9_debug.specs.Machine.{HasNoBytes}
 use Rattle.os9_debug.specs.Session.{CanFail, ShowsTheCourse}
 use Rattle.os9_debug.specs.declared.machine.Machine.{Machine}

@@ -6,11 +6,11 @@ use Rattle.machine_model.specs.ProcessStart.{RefusesBoot}
 use Rattle.machine_model.specs.Start.{Starts}
 use Rattle.machine_model.specs.State.{State}
 use Rattle.run_laws.specs.Faults.{CanRise}
-use Rattle.debug_run.specs.declared.command.Command.{Command}
+use Rattle.os9_debug.specs.declared.command.Command.{Command}
 use Rattle.os9_kernel.specs.Outside.{Outside}
-use Rattle.debug_run.specs.Course.{Course, position_after}
-use Rattle.debug_run.specs.Prints.{printed_from}
-use Rattle.debug_run.specs.Devices.{DevicesGain}
+use Rattle.os9_debug.specs.Course.{Course, position_after}
+use Rattle.os9_debug.specs.Prints.{printed_from}
+use Rattle.os9_debug.specs.Devices.{DevicesGain}
 use Rattle.boot_run.specs.World.{FailsToWrite, HasNoFault, World}
 use Rattle.os9_debug.specs.Counts.{FailedOnce, TerminalRose}
 use Rattle.os9_debug.specs.Machine.{CourseOf, HasNoBytes, HasStart, InCourse, boot_of, loaded_devices}

@@ -3,8 +3,8 @@ use Rattle.std.specs.Prelude.{◌≡◌, ⊤, ℕ, Some, Result, Ok, Err, List, 
 use Rattle.os9_outer.specs.Host.{HostFiles, file_contents}
 use Rattle.os9_words.specs.declared.debug_words.DebugWords.{DebugWords}
 use Rattle.boot_run.specs.World.{World}
-use Rattle.debug_run.specs.Commands.{commands_of}
-use Rattle.debug_run.specs.declared.command.Command.{Command}
+use Rattle.os9_debug.specs.Commands.{commands_of}
+use Rattle.os9_debug.specs.declared.command.Command.{Command}
 use Rattle.os9_debug.specs.Session.{DebugSessionCall}
 use Rattle.os9_debug.specs.declared.machine.Machine.{Machine}
 use Rattle.os9_debug.specs.declared.machine.SessionFault.{SessionFault}

@@ -3,16 +3,18 @@
 ghost use Rattle.std.specs.Prelude.{◌≡◌, ◌<◌, IfOk, vec_len};
 ghost use Rattle.os9_base.specs.declared.limits.TheConstants.{PROCESS_PLACES};
 ghost use Rattle.os9_kernel.specs.Outside.{OnDevices, outside};
-ghost use Rattle.debug_run.specs.Prints.{shows};
-ghost use Rattle.debug_run.specs.Show as model;
-ghost use Rattle.debug_run.specs.declared.command.Command.TheVariants.{To, Back};
+ghost use Rattle.os9_debug.specs.Prints.{shows};
+ghost use Rattle.os9_debug.specs.Show as model;
+ghost use Rattle.os9_debug.specs.declared.command.Command.TheVariants.{To, Back};
 ghost use Rattle.os9_debug.specs.Machine.{or_no_memory};
 ghost use Rattle.os9_debug.specs.Moves.{AtPosition, HasShown, IsUnderWay, MovesOn};
 
+use crate::command::{Command, Span};
+use crate::line::{push_end, push_regs};
 use crate::machine::{Machine, SessionFault};
 use crate::memory::{push_instructions, push_memory};
 use crate::moves::go_to;
-use debug_run::{Command, Position, Span, Step, push_end, push_regs};
+use crate::position::{Position, Step};
 use device_table::devices::Devices;
 use os9_outer::drive::BlockDriver;
 use os9_outer::terminal::CharDriver;

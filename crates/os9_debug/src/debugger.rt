@@ -8,9 +8,9 @@ ghost use Rattle.boot_run.specs.World.{OnWorld};
 ghost use Rattle.os9_debug.specs.Machine.{CanStart};
 ghost use Rattle.os9_debug.specs.Session.{DebugSessionCall};
 
+use crate::command::Command;
 use crate::commands::obey;
 use crate::machine::{Machine, SessionFault, start};
-use debug_run::Command;
 use device_table::devices::Devices;
 use os9_outer::drive::BlockDriver;
 use os9_outer::host::{Host, HostFault};

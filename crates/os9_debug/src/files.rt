@@ -4,15 +4,16 @@ ghost use Rattle.std.specs.Prelude.{◌≡◌, IfErr, IfOk, IfSome, Ok, OnOk, le
 ghost use Rattle.os9_kernel.specs.Outside.{Outside};
 ghost use Rattle.os9_words.specs.Notes.{HasReadFiles, notes_of};
 ghost use Rattle.boot_run.specs.World.{world_of};
-ghost use Rattle.debug_run.specs.Commands.{commands_of};
+ghost use Rattle.os9_debug.specs.Commands.{commands_of};
 ghost use Rattle.boot_run.specs.Stops.{NotesStop, StopsAtRead};
 ghost use Rattle.os9_debug.specs.Debug.{debug_file_name, debug_inputs};
 ghost use Rattle.os9_debug.specs.Steps.{HasDebugFiles, RefusesCommands};
 
+use crate::command::Command;
+use crate::reader::read_commands;
 use boot_run::files::read_script;
 use boot_run::input::read_input;
 use boot_run::status::{End, Input};
-use debug_run::{Command, read_commands};
 use os9_outer::host::Host;
 use os9_words::debug_words::DebugWords;
 use script_text::fault::LineFault;

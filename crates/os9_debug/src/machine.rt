@@ -5,8 +5,9 @@ ghost use Rattle.os9_kernel.specs.Outside.{OnDevices, outside};
 ghost use Rattle.os9_debug.specs.Machine.{CanStart, start_fault};
 ghost use Rattle.os9_debug.specs.Moves.{HasRestarted, HasStartedMachine, HasCome};
 
+use crate::console::empty_terminals;
+use crate::position::Position;
 use boot_run::{drop_keys, load_keys};
-use debug_run::{Position, empty_terminals};
 use device_table::devices::Devices;
 use machine_model::ends::BootFault;
 use os9_base::registers::TimePacket;

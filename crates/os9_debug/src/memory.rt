@@ -2,13 +2,15 @@
 
 ghost use Rattle.std.specs.Prelude.{◌≡◌, ◌<◌, ◌≤◌, ◌++◌, OnOk};
 ghost use Rattle.os9_base.specs.declared.limits.TheConstants.{PROCESS_PLACES};
-ghost use Rattle.debug_run.specs.Disassembly as model;
-ghost use Rattle.debug_run.specs.Disassembly.{dis_lines, longest_instruction};
-ghost use Rattle.debug_run.specs.Show.{mem_line};
+ghost use Rattle.os9_debug.specs.Disassembly as model;
+ghost use Rattle.os9_debug.specs.Disassembly.{dis_lines, longest_instruction};
+ghost use Rattle.os9_debug.specs.Show.{mem_line};
 ghost use Rattle.os9_debug.specs.Moves.{SeesCells};
 
+use crate::command::Span;
+use crate::line::{push_address, push_instruction, push_seen};
+use crate::position::Position;
 use arrayvec::ArrayVec;
-use debug_run::{Position, Span, push_address, push_instruction, push_seen};
 use std::alloc::AllocError;
 
 /// The most bytes of an instruction.

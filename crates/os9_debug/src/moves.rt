@@ -2,11 +2,11 @@
 
 ghost use Rattle.std.specs.Prelude.{◌≡◌, ◌≤◌, Ok, OnOk, vec_len};
 ghost use Rattle.os9_kernel.specs.Outside.{OnDevices, outside};
-ghost use Rattle.debug_run.specs.declared.command.Command.TheVariants.{To};
+ghost use Rattle.os9_debug.specs.declared.command.Command.TheVariants.{To};
 ghost use Rattle.os9_debug.specs.Moves.{IsAtEnd, IsUnderWay, MovesOn};
 
 use crate::machine::{Machine, SessionFault, restart};
-use debug_run::{Position, Step};
+use crate::position::{Position, Step};
 use device_table::devices::Devices;
 use os9_outer::drive::BlockDriver;
 use os9_outer::terminal::CharDriver;

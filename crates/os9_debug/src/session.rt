@@ -10,11 +10,12 @@ ghost use Rattle.os9_debug.specs.Steps.{HadSession, session_end};
 ghost use Rattle.os9_kernel.specs.Outside.{outside};
 ghost use Rattle.os9_words.specs.Notes.{notes_of};
 
-use crate::{Machine, SessionFault, debug};
+use crate::command::Command;
+use crate::debugger::debug;
+use crate::machine::{Machine, SessionFault};
 use boot_run::drives::eject_images;
 use boot_run::images::Images;
 use boot_run::status::End;
-use debug_run::Command;
 use device_table::devices::Devices;
 use os9_outer::drive::BlockDriver;
 use os9_outer::host::Host;

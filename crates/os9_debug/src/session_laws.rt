@@ -2,8 +2,8 @@
 
 ghost use Rattle.std.specs.Prelude.{Ok, All, List};
 ghost use Rattle.boot_run.specs.World.{World};
-ghost use Rattle.debug_run.specs.declared.command.Command.{Command};
-ghost use Rattle.debug_run.specs.Devices.{Unfailed};
+ghost use Rattle.os9_debug.specs.declared.command.Command.{Command};
+ghost use Rattle.os9_debug.specs.Devices.{Unfailed};
 ghost use Rattle.os9_debug.specs.Machine.{CanStart, HasNoBytes};
 ghost use Rattle.os9_debug.specs.Session.{CanFail, DebugSessionCall, ShowsTheCourse};
 ghost use Rattle.os9_debug.specs.declared.machine.Machine.{Machine};

@@ -30,7 +30,7 @@ use Rattle.file_rules.specs.Files.{Asker, Files}
 use Rattle.file_rules.specs.Load.{GoesOnLoaded, Loaded, LoadAttempts, links_first}
 use Rattle.file_rules.specs.Processes.{files_started}
 use Rattle.file_rules.specs.ProgramFile.{ProgramFile}
-use Rattle.file_state.specs.Attempt.{Standing}
+use Rattle.file_state.specs.Attempt.{MachineOnDrives}
 use Rattle.file_laws.proofs.Loads.{fork-leaves}
 use Rattle.machine_model.specs.Services.{Serves, files_after_fork, service_of, with_files}
 use Rattle.machine_model.specs.State.{State}
@@ -71,7 +71,7 @@ load-tick Chain m asker old terms p result new lives it = (chain-over m asker ol
 
 -- an attempt of the call that this one is
 pub loads-as : (call one : LoadCall) (m : Processes) (was : Files) (now : TimePacket) (terms p : ℕ) (end : CallEnd)
-    (before after : Standing) → call ≡ one → LoadsSo one m was now terms p end before after → LoadsSo call m was now
+    (before after : MachineOnDrives) → call ≡ one → LoadsSo one m was now terms p end before after → LoadsSo call m was now
     terms p end before after
 loads-as call one m was now terms p end before after is it =
     subst (λ (call : LoadCall). LoadsSo call m was now terms p end before after) (sym is) it
@@ -128,7 +128,7 @@ module _ (m : Processes) (io : Io) (p : ℕ) (processes : ProcState) (kept : Are
 
 -- it may begin
 pub child-begins : (call : LoadCall) (m : Processes) (was : Files) (now : TimePacket) (terms p : ℕ)
-    (before after : Standing) → ArePending m was.io → length m.records ≡ 33 → IsLiving m.records p → call ≡ Fork
+    (before after : MachineOnDrives) → ArePending m was.io → length m.records ≡ 33 → IsLiving m.records p → call ≡ Fork
     → LoadsSo call m was now terms p Done before after → MayBegin after.files.io (number_in_a after.processes.table p)
 child-begins Load m was now terms p before after kept long lives is it = cc
 child-begins Fork m was now terms p before after kept long lives is it =
@@ -162,7 +162,7 @@ begun-tied Chain m p left processes result end told = refl
 -- ---- what it waits for
 
 -- the calls that start a program wait for nothing that the scheduler has to know
-pub loads-rest : (call : LoadCall) (m : Processes) (was : Files) (now : TimePacket) (terms p : ℕ) (before after : Standing) → LoadsSo call m was now terms p Wait before after → call ≢ Load
+pub loads-rest : (call : LoadCall) (m : Processes) (was : Files) (now : TimePacket) (terms p : ℕ) (before after : MachineOnDrives) → LoadsSo call m was now terms p Wait before after → call ≢ Load
 loads-rest Load m was now terms p before after it is =
     load-answers m (asker_of m p now) was terms p it.result it.left after.processes it.attempted it.comes
 loads-rest Fork m was now terms p before after it is = cc

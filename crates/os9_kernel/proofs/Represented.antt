@@ -1,4 +1,5 @@
 -- What the processes of a kernel keep, since they represent those of a machine.
+use Rattle.proc_state.proofs.Entered.{some-machine}
 use Rattle.std.proofs.Common.{◌≡◌, ℕ, ◌<◌, false, None, List, length, get_or, set, sym, ap, ◌∙◌, arith}
 use Rattle.std.specs.Prelude.{slice_index_or}
 use Rattle.std.proofs.lemmas.List.{get_or-set_same, length-set}
@@ -18,7 +19,6 @@ use Rattle.os9_kernel.specs.Next.{next_of}
 use Rattle.os9_kernel.specs.Outside.{Outside}
 use Rattle.os9_kernel.specs.Tie.{Represents as RepresentsState}
 use Rattle.os9_kernel.proofs.Columns.{living-within}
-pub use Rattle.name_calls.proofs.SameLemmas.{some-machine}
 
 -- there are 33 places for processes
 pub places-there : (processes : ProcState) (m : Processes) → RepresentsProcesses processes m → length m.records ≡ 33

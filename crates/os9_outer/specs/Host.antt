@@ -1,4 +1,4 @@
--- HostFiles and output streams of a host, as far as they can be observed.
+-- Files and output streams of a host, as far as they can be observed.
 use Rattle.std.specs.Prelude.{◌≡◌, ℕ, ◌⊎◌, ⊤, Option, Some, None, unwrap_or, Result, Ok, Err, List, [], ◌∷◌, ◌++◌, take}
 use Rattle.os9_outer.specs.declared.host.HostFault.{HostFault}
 use Rattle.os9_outer.specs.declared.host.HostFault.TheVariants.{Failed, OutOfMemory}

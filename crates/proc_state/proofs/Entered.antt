@@ -1,4 +1,4 @@
--- Which modules are entered before and after a change of memory.
+-- Which modules are entered before and after a change of memory, and that the kernel represents some machine.
 use Rattle.std.proofs.Common.{◌≡◌, ℕ, zero, suc, [], ◌∷◌, ◌<◌, ◌≤◌, Option, Some, None, is_some, option_map, List, length, get_or, refl, sym, ap, ◌∙◌, arith, inl, inr, ◌⊎◌}
 use Rattle.std.specs.Prelude.{slice_get}
 use Rattle.std.proofs.lemmas.List.{get_or_past}
@@ -11,6 +11,9 @@ use Rattle.guest_memory.specs.Renaming.{renamed_entry}
 use Rattle.guest_memory.proofs.Directory.{entry_at-renamed}
 use Rattle.proc_model.specs.Memory.{MemoryState}
 use Rattle.proc_model.specs.ModuleList.{ModuleEntry, module_entry_at}
+use Rattle.proc_model.specs.Processes.{Processes}
+use Rattle.proc_state.specs.Tie.{RepresentsProcesses, processes_of}
+use Rattle.proc_state.specs.declared.state.ProcState.{ProcState}
 
 -- what a list has at a place within it
 slice_get-within : {X : Type 0} (xs : List X) (i : ℕ) (d : X) → i < length xs → slice_get xs i ≡ Some (get_or xs i d)
@@ -37,6 +40,10 @@ represented memory = record {
     within : (block : ℕ) → IsLive memory.pool block → (block < length memory.pool.counts) ⊎ (length memory.pool.counts ≤ block) → block < length memory.pool.bytes
     within block live (inl below) = omega (arith, memory.sound.shape.whole)
     within block live (inr past) = absurd (omega (arith, get_or_past {X = ℕ} memory.pool.counts block 0 past))
+
+-- the processes of the kernel are those of some machine
+pub some-machine : (s : ProcState) → (m : Processes) × RepresentsProcesses s m
+some-machine s = (processes_of s _, record { memory = represented s.memory; is = refl })
 
 is_some-map : {A B : Type 0} (f : A → B) (place : Option A) → is_some (option_map f place) ≡ is_some place
 is_some-map f None = refl

@@ -13,7 +13,7 @@ use Rattle.rbf_model.specs.Space.{is_marked, cluster_count}
 use Rattle.rbf_model.proofs.SectorBytes.{map_byte_is}
 use Rattle.rbf_model.proofs.Owners.{cluster_positive, cluster_begins}
 use Rattle.rbf_model.specs.Volume.{DiskVolume, Vol, free_clusters}
-use Rattle.rbf_map.specs.Map.{ClusterMap, mark, map_free_clusters}
+use Rattle.rbf_model.specs.ClusterMap.{ClusterMap, mark, map_free_clusters}
 use Rattle.rbf_map.proofs.Volume.{marked_is, free_clusters_are}
 use Rattle.rbf_change.specs.Agrees.{Agrees, AgreesOnMap}
 use Rattle.rbf_change.specs.Calls.{shape, free_total}

@@ -6,7 +6,7 @@ use Rattle.rbf_model.specs.Volume.{DiskVolume, Vol}
 use Rattle.rbf_sector.specs.Ident.{geometry_of}
 use Rattle.rbf_sector.specs.declared.ident.Ident.{Ident}
 use Rattle.rbf_change.specs.Agrees.{MountedPart, AgreesOnMap, Agrees}
-use Rattle.rbf_map.specs.Map.{ClusterMap}
+use Rattle.rbf_model.specs.ClusterMap.{ClusterMap}
 use Rattle.rbf_access.specs.Cached.{IsCacheOf}
 use Rattle.rbf_access.specs.declared.volume.Volume.{Volume}
 

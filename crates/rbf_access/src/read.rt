@@ -4,7 +4,7 @@ ghost use Rattle.rbf_model.specs.Fields.{segments_field};
 ghost use Rattle.rbf_model.specs.File.{segment_bytes};
 ghost use Rattle.rbf_model.specs.Volume.{DiskVolume, Vol};
 ghost use Rattle.rbf_sector.specs.Run.{IsRunAt};
-ghost use Rattle.rbf_map.specs.Map.{map_free_clusters};
+ghost use Rattle.rbf_model.specs.ClusterMap.{map_free_clusters};
 ghost use Rattle.rbf_change.specs.Calls.{free_total, shape};
 ghost use Rattle.rbf_change.specs.Agrees.{Agrees};
 ghost use Rattle.rbf_change.specs.Contents.{bytes_from, sector_span};

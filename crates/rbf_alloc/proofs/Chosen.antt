@@ -13,7 +13,7 @@ use Rattle.rbf_model.proofs.Lists.{any_witness, any_from}
 use Rattle.rbf_model.proofs.Segments.{has_range}
 use Rattle.rbf_model.proofs.Growth.{cluster_of_range}
 use Rattle.rbf_segs.proofs.Runs.{sectors_of-appended}
-use Rattle.rbf_map.specs.Map.{ClusterMap, IsFreeInMap, MayTake}
+use Rattle.rbf_model.specs.ClusterMap.{ClusterMap, IsFreeInMap, MayTake}
 use Rattle.rbf_map.specs.Runs.{is_clear, IsChosenCluster}
 use Rattle.rbf_change.specs.Growth.{uses, MayGain, free_beside, with_clusters, Gains}
 use Rattle.rbf_alloc.specs.Gained.{IsChosenFor, AreChosen, last_cluster, cluster_at, clusters_from}

@@ -4,7 +4,7 @@ use Rattle.std.specs.Prelude.{nat_lt, if◌then◌else◌}
 use Rattle.std.proofs.lemmas.Bool.{ltb-true, lt-ltb, and_parts, and_from, or_right, both_ways, false_from_ne_true, cases_eq}
 use Rattle.std.proofs.lemmas.List.Folds.{list_any-append}
 use Rattle.rbf_model.specs.Segments.{has}
-use Rattle.rbf_map.specs.Map.{ClusterMap, mark, clear_below, MarkedFrom, IsFreeInMap, Marks, NoneIsFree, map_free_clusters}
+use Rattle.rbf_model.specs.ClusterMap.{ClusterMap, mark, clear_below, MarkedFrom, IsFreeInMap, Marks, NoneIsFree, map_free_clusters}
 use Rattle.rbf_map.proofs.Marks.{mark-set_or_clear, clear_below-marked, clear_below-set}
 use Rattle.rbf_map.specs.Runs.{is_clear}
 use Rattle.rbf_alloc.specs.Gained.{SameMap, MarksBesides}

@@ -4,8 +4,8 @@ use Rattle.std.specs.Prelude.{nat_le, nat_lt, if◌then◌else◌}
 use Rattle.std.specs.Int.{bit_at}
 use Rattle.std.proofs.lemmas.Bool.{false_from_ne_true, cases_eq}
 use Rattle.std.proofs.lemmas.List.{get_or-set_same, get_or-set_other}
-use Rattle.rbf_map.specs.Map.{ClusterMap, mark}
-use Rattle.rbf_map.specs.Map as map
+use Rattle.rbf_model.specs.ClusterMap.{ClusterMap, mark}
+use Rattle.rbf_model.specs.ClusterMap as map
 use Rattle.rbf_alloc.specs.declared.own.Stretch.{Stretch}
 use Rattle.rbf_alloc.specs.Own.{sector_mark, in_stretch, AreInMap, ClearsIn, ClearsMarks}
 use Rattle.rbf_alloc.proofs.Stretches.{within, none_between, one_more, all_between}

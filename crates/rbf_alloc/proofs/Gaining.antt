@@ -7,7 +7,7 @@ use Rattle.std.proofs.Math.Nat.{mul-le-mul_right}
 use Rattle.std.proofs.lemmas.Bool.{false_from_ne_true, cases_Bool, both_ways, cases_eq, cases_lt, or_right}
 use Rattle.rbf_model.specs.Segments.{sectors_of, appended_segments, has}
 use Rattle.rbf_map.proofs.Marks.{length-clear_below}
-use Rattle.rbf_map.specs.Map.{ClusterMap, mark, MayTake, map_free_clusters}
+use Rattle.rbf_model.specs.ClusterMap.{ClusterMap, mark, MayTake, map_free_clusters}
 use Rattle.rbf_change.specs.Growth.{uses, MayGain, free_beside, with_clusters, Gains}
 use Rattle.rbf_map.specs.Runs.{is_clear, IsChosenCluster}
 use Rattle.rbf_alloc.specs.Gained.{AreSizes, AreApart, SameMap, last_cluster, GainsOne, IsOneFull, IsGain, IsChosenFor, AreChosen, IsChosenGain, IsTooMany, cluster_at, clusters_from, AreMapPlaces, ReturnsOne, is_written, IsGivenBack}

@@ -13,7 +13,7 @@ use Rattle.rbf_model.specs.Space.{is_marked, cluster_count}
 use Rattle.rbf_model.specs.Volume.{DiskVolume, Vol, is_free}
 use Rattle.rbf_model.specs.Writes.{with_lost}
 use Rattle.rbf_model.proofs.Owners.{cluster_positive, mark_sector}
-use Rattle.rbf_map.specs.Map.{ClusterMap, mark}
+use Rattle.rbf_model.specs.ClusterMap.{ClusterMap, mark}
 use Rattle.rbf_map.proofs.Volume.{free_in_map, free_on_volume}
 use Rattle.rbf_change.specs.Agrees.{MountedPart, Agrees}
 use Rattle.rbf_change.specs.Calls.{shape, cluster_size, is_free_in}

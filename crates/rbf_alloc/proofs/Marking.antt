@@ -18,7 +18,7 @@ use Rattle.rbf_model.proofs.Free.{is_free_is}
 use Rattle.rbf_model.proofs.ImageLaws.{takes_image}
 use Rattle.rbf_model.proofs.Lifted.{sector_put}
 use Rattle.rbf_model.proofs.Owners.{cluster_positive, mark_sector}
-use Rattle.rbf_map.specs.Map.{ClusterMap, mark, IsSectorOf}
+use Rattle.rbf_model.specs.ClusterMap.{ClusterMap, mark, IsSectorOf}
 use Rattle.rbf_change.specs.Agrees.{MountedPart}
 use Rattle.rbf_change.specs.Calls.{is_free_in}
 use Rattle.rbf_change.proofs.LawfulWrites.{shape-image}

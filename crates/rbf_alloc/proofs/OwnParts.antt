@@ -7,7 +7,7 @@ use Rattle.std.proofs.lemmas.List.{take_more, take_all}
 use Rattle.std.proofs.lemmas.List.Folds.{list_any-append}
 use Rattle.rbf_alloc.specs.declared.own.OwnSectors.{OwnSectors}
 use Rattle.std.proofs.lemmas.Option.{get_or_from_slice_get}
-use Rattle.rbf_map.specs.Map.{ClusterMap}
+use Rattle.rbf_model.specs.ClusterMap.{ClusterMap}
 use Rattle.rbf_alloc.specs.declared.own.Stretch.{Stretch}
 use Rattle.rbf_alloc.proofs.Stretches.{clamped, within, none_between}
 use Rattle.rbf_alloc.specs.Own.{own_segments, in_segment, in_part, in_own, in_stretch, here, AreInMap, NoneHere, in_segments}

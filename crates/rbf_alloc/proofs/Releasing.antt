@@ -16,7 +16,7 @@ use Rattle.rbf_model.proofs.Bytes.{put_beside, marked_beside, marked_here}
 use Rattle.rbf_model.proofs.ImageLaws.{frees_image}
 use Rattle.rbf_model.proofs.Lifted.{sector_put}
 use Rattle.rbf_model.proofs.Owners.{cluster_positive}
-use Rattle.rbf_map.specs.Map.{ClusterMap, mark, IsSectorOf}
+use Rattle.rbf_model.specs.ClusterMap.{ClusterMap, mark, IsSectorOf}
 use Rattle.rbf_change.specs.Agrees.{MountedPart, Agrees}
 use Rattle.rbf_change.specs.Calls.{shape}
 use Rattle.rbf_change.proofs.LawfulWrites.{shape-image}

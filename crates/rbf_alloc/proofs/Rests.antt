@@ -2,7 +2,7 @@
 use Rattle.std.proofs.Common.{◌≡◌, ℕ, ◌+◌, ◌/◌, ◌<◌, ◌≤◌, max, Bool, true, false, not, ◌==◌, ◌&&◌, ◌||◌, List, length, refl, sym, ap, ◌∙◌, ⊎_elim, arith, eq-eqb, eqb-true}
 use Rattle.std.specs.Prelude.{nat_le, nat_lt}
 use Rattle.std.proofs.lemmas.Bool.{and_parts, and_from, both_ways, false_from_ne_true, not-true, not_from_false, cases_Bool, cases_eq}
-use Rattle.rbf_map.specs.Map.{ClusterMap}
+use Rattle.rbf_model.specs.ClusterMap.{ClusterMap}
 use Rattle.rbf_alloc.specs.declared.own.OwnSectors.{OwnSectors}
 use Rattle.rbf_alloc.specs.declared.own.Stretch.{Stretch}
 use Rattle.rbf_alloc.specs.Own.{own_segments, in_segment, in_part, in_own, in_stretch, here, AreInMap, NoneHere, ClearsIn, ClearsMarks}

@@ -2,7 +2,7 @@
 use Rattle.std.specs.Prelude.{◌≡◌, ◌≢◌, ℕ, ◌+◌, ◌-◌, ◌*◌, ◌/◌, ◌^◌, ◌<◌, ◌≤◌, ◌&&◌, Bool, true, false, not, List, [], ◌∷◌, length, map, get_or, slice_get, slice_index_or, option_map, Option, if◌then◌else◌}
 use Rattle.std.specs.List.{range_with_len}
 use Rattle.rbf_model.specs.Segments.{sectors_of, appended_segments, has}
-use Rattle.rbf_map.specs.Map.{ClusterMap, mark, Marks}
+use Rattle.rbf_model.specs.ClusterMap.{ClusterMap, mark, Marks}
 use Rattle.rbf_map.specs.Runs.{is_clear, BeginsBestRun}
 use Rattle.rbf_change.specs.Growth.{uses, free_beside, with_clusters, IsClusterAfter, MayGain, Gains}
 

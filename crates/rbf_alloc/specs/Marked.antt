@@ -8,7 +8,7 @@ use Rattle.rbf_model.specs.Space.{is_marked, cluster_count}
 use Rattle.rbf_model.specs.Volume.{DiskVolume, Vol}
 use Rattle.rbf_model.specs.Writes.{with_lost}
 use Rattle.rbf_model.specs.Laws.{IsMapSector}
-use Rattle.rbf_map.specs.Map.{ClusterMap, mark, IsSectorOf}
+use Rattle.rbf_model.specs.ClusterMap.{ClusterMap, mark, IsSectorOf}
 use Rattle.rbf_change.specs.Agrees.{MountedPart}
 use Rattle.rbf_change.specs.Calls.{is_free_in}
 use Rattle.rbf_alloc.specs.Gained.{is_written, cluster_at}

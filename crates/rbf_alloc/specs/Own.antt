@@ -2,7 +2,7 @@
 use Rattle.std.specs.Prelude.{◌≡◌, ℕ, ◌+◌, ◌-◌, ◌/◌, ◌%◌, ◌<◌, ◌==◌, ◌&&◌, nat_le, nat_lt, Bool, true, not, false, List, ◌∷◌, length, get_or, slice_index, if◌then◌else◌}
 use Rattle.std.specs.Int.{bit_at}
 use Rattle.std.specs.List.{list_any}
-use Rattle.rbf_map.specs.Map.{ClusterMap, mark}
+use Rattle.rbf_model.specs.ClusterMap.{ClusterMap, mark}
 use Rattle.rbf_alloc.specs.declared.own.OwnSectors.{OwnSectors}
 use Rattle.rbf_alloc.specs.declared.own.Stretch.{Stretch}
 

@@ -1,7 +1,7 @@
 ghost use Rattle.std.specs.Prelude.{◌≡◌, ◌↔◌, ℕ, ◌+◌, ◌*◌, ◌<◌, ◌≤◌, length, IfOk, OnOk, OnErr, IsErrOf, None};
 ghost use Rattle.std.specs.Option.{option_map};
 ghost use Rattle.rbf_model.specs.Segments.{sectors_of};
-ghost use Rattle.rbf_map.specs.Map.{NoneIsFree, map_free_clusters};
+ghost use Rattle.rbf_model.specs.ClusterMap.{NoneIsFree, map_free_clusters};
 ghost use Rattle.rbf_map.specs.Runs.{is_clear};
 ghost use Rattle.rbf_access.specs.Faults.{file_fault};
 ghost use Rattle.rbf_alloc.specs.Gained.{AreSizes, AreApart, SameMap, last_cluster, GainsOne, IsOneFull, IsChosenGain, IsTooMany};

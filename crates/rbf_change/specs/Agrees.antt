@@ -2,7 +2,7 @@
 use Rattle.std.specs.Prelude.{◌≡◌, ℕ, ◌*◌, ◌/◌, ◌<◌, ◌==◌, List, length}
 use Rattle.rbf_model.specs.Geometry.{Geometry, image_geometry, sector, map_sectors}
 use Rattle.rbf_model.specs.Space.{is_marked, cluster_count}
-use Rattle.rbf_map.specs.Map.{ClusterMap, mark}
+use Rattle.rbf_model.specs.ClusterMap.{ClusterMap, mark}
 
 -- the sizes and the root that sector 0 gives, and the map
 pub record MountedPart : Type 0 where

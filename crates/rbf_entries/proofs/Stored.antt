@@ -8,7 +8,7 @@ use Rattle.rbf_model.specs.Volume.{DiskVolume, Vol}
 use Rattle.rbf_model.specs.Writes.{put_sector}
 use Rattle.rbf_model.proofs.Bytes.{put_beside, marked_beside}
 use Rattle.rbf_model.proofs.Lifted.{sector_put}
-use Rattle.rbf_map.specs.Map.{ClusterMap}
+use Rattle.rbf_model.specs.ClusterMap.{ClusterMap}
 use Rattle.rbf_change.specs.Agrees.{MountedPart, Agrees, AgreesOnMap}
 use Rattle.rbf_access.specs.declared.volume.Volume.{Volume}
 use Rattle.rbf_access.specs.Cached.{IsCacheOf}

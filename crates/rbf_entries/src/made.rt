@@ -13,7 +13,7 @@ use rbf_access::{FileFault, Volume};
 use rbf_alloc::grow;
 use rbf_segs::Segs;
 
-/// MakesNewFile a file without contents and without a name, and returns the number of its descriptor,
+/// Makes a file without contents and without a name, and returns the number of its descriptor,
 /// which is the first sector of a free cluster. The other sectors of that cluster are the file's
 /// first segment. The cluster is lost until an entry names the file (OS-9 Technical Reference,
 /// Random Block File Manager, "File Descriptors").

@@ -2,7 +2,7 @@
 use Rattle.std.proofs.Common.{◌≡◌, ℕ, sym, ◌+◌, ◌-◌, ◌<◌, ◌≤◌, ap, ◌∙◌, inl, inr, min, Vec, Global, arith}
 use Rattle.std.proofs.lemmas.Bool.{cases_eq}
 use Rattle.rbf_map.specs.declared.map.RbfMap.TheInside.{Inside}
-use Rattle.rbf_map.specs.Map.{mark, ChangesMark}
+use Rattle.rbf_model.specs.ClusterMap.{mark, ChangesMark}
 use Rattle.rbf_map.specs.Inside.{map_of, HoldsMap}
 use Rattle.rbf_map.specs.Runs.{is_clear, is_clear_below}
 use Rattle.rbf_map.specs.Search.{IsLongestWith}

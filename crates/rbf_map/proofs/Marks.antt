@@ -5,7 +5,7 @@ use Rattle.std.specs.List.{range_with_len}
 use Rattle.std.proofs.lemmas.Bool.{cases_lt, cases_eq}
 use Rattle.std.proofs.lemmas.Nat.Bits.{bit_at-lt}
 use Rattle.std.proofs.lemmas.List.{get_or-set_same, get_or-set_other, length-set}
-use Rattle.rbf_map.specs.Map.{mark, clear_below, ChangesMark}
+use Rattle.rbf_model.specs.ClusterMap.{mark, clear_below, ChangesMark}
 
 -- a mark is 0 or 1
 pub mark-set_or_clear : (bytes : List ℕ) (cluster : ℕ) → (mark bytes cluster ≡ 0) ⊎ (mark bytes cluster ≡ 1)

@@ -2,7 +2,7 @@
 use Rattle.std.proofs.Common.{◌≡◌, ◌≢◌, ◌⊎◌, ℕ, ◌+◌, ◌-◌, ◌<◌, ◌≤◌, zero, suc, Bool, true, false, ◌==◌, ◌&&◌, List, refl, sym, ap, ◌∙◌, subst, inl, inr, ⊎_elim, min, max, arith, eq-eqb, eqb-true}
 use Rattle.std.specs.Prelude.{nat_lt, if◌then◌else◌}
 use Rattle.std.proofs.lemmas.Bool.{ltb-true, lt-ltb, and_parts, and_from, both_ways, false_from_ne_true, cases_lt, cases_Bool}
-use Rattle.rbf_map.specs.Map.{ClusterMap, mark, MarkedFrom, IsFirstClear, IsFreeInMap, BeginsRun, BeginsFreeRun}
+use Rattle.rbf_model.specs.ClusterMap.{ClusterMap, mark, MarkedFrom, IsFirstClear, IsFreeInMap, BeginsRun, BeginsFreeRun}
 use Rattle.rbf_map.specs.Runs.{is_clear_below, is_clear, AreFree, IsBestRun, BeginsBestRun}
 use Rattle.rbf_map.specs.Search.{IsFirstMarked, IsNextRun, IsAlone, IsLongestWith}
 use Rattle.rbf_map.specs.declared.runs.Run.{Run}

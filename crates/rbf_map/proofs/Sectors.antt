@@ -3,7 +3,7 @@ use Rattle.std.proofs.Common.{◌≡◌, ℕ, ◌+◌, ◌-◌, ◌*◌, ◌<◌
 use Rattle.std.specs.Prelude.{replicate}
 use Rattle.std.proofs.lemmas.Bool.{cases_lt}
 use Rattle.std.proofs.lemmas.List.{get_or-take, get_or-drop, get_or-replicate, get_or_append_left, get_or-append_right, get_or_past, length-drop, length-replicate, length-take-le}
-use Rattle.rbf_map.specs.Map.{IsSectorOf}
+use Rattle.rbf_model.specs.ClusterMap.{IsSectorOf}
 
 module _ (bytes : List ℕ) (n start count : ℕ) (begins : start ≡ min (length bytes) (256 * n)) (ends : count ≡ min (length (take (length bytes - start) (drop start bytes))) 256) where
   abbrev rest : List ℕ

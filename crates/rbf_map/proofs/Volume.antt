@@ -10,7 +10,7 @@ use Rattle.rbf_model.specs.Space.{is_whole, is_marked, map_byte, cluster_count}
 use Rattle.rbf_model.specs.Volume.{DiskVolume, Sound, is_free, free_clusters}
 use Rattle.rbf_model.proofs.Free.{is_free_is}
 use Rattle.rbf_model.proofs.Owners.{cluster_positive}
-use Rattle.rbf_map.specs.Map.{ClusterMap, mark, IsFreeInMap, map_free_clusters}
+use Rattle.rbf_model.specs.ClusterMap.{ClusterMap, mark, IsFreeInMap, map_free_clusters}
 use Rattle.rbf_map.proofs.Marks.{mark-set_or_clear}
 
 -- the mark of a cluster in the map is the disk's if its byte is

@@ -1,7 +1,7 @@
 -- The fields in which an `RbfMap` keeps its map.
 use Rattle.std.specs.Prelude.{◌≡◌, ℕ, ◌+◌, ◌*◌, ◌<◌, ◌≤◌, length}
 use Rattle.rbf_map.specs.declared.map.RbfMap.TheInside.{Inside}
-use Rattle.rbf_map.specs.Map.{ClusterMap, mark, map_free_clusters}
+use Rattle.rbf_model.specs.ClusterMap.{ClusterMap, mark, map_free_clusters}
 use Rattle.rbf_map.specs.Runs.{is_clear, AreFree}
 
 abbrev pub map_of : Inside → ClusterMap

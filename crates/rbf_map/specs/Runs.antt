@@ -1,6 +1,6 @@
 -- Runs of free clusters, and the chosen one. The choice is ours: the manual leaves it open.
 use Rattle.std.specs.Prelude.{◌≡◌, ℕ, ◌+◌, ◌<◌, ◌≤◌, ◌==◌, ◌&&◌, nat_lt, Bool, true, List, Option}
-use Rattle.rbf_map.specs.Map.{ClusterMap, mark, NextIsUsed}
+use Rattle.rbf_model.specs.ClusterMap.{ClusterMap, mark, NextIsUsed}
 
 -- a cluster below the end is not in use
 abbrev pub is_clear_below : List ℕ → ℕ → ℕ → Bool

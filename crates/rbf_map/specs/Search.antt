@@ -1,6 +1,6 @@
 -- The result of a search for a run.
 use Rattle.std.specs.Prelude.{◌≡◌, ◌⊎◌, ℕ, max, ◌+◌, ◌<◌, ◌≤◌, Bool, false, List}
-use Rattle.rbf_map.specs.Map.{mark, MarkedFrom}
+use Rattle.rbf_model.specs.ClusterMap.{mark, MarkedFrom}
 use Rattle.rbf_map.specs.Runs.{is_clear_below, AreFree}
 use Rattle.rbf_map.specs.declared.runs.Run.{Run}
 

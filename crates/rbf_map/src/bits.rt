@@ -1,5 +1,5 @@
 ghost use Rattle.std.specs.Prelude.{◌≡◌, ◌≢◌, ℕ, ◌+◌, ◌-◌, ◌*◌, ◌/◌, ◌<◌, ◌≤◌, length, slice_index, MatchBool, MatchOption};
-ghost use Rattle.rbf_map.specs.Map.{mark, clear_below, MarkedFrom, IsFirstClear, ChangesMark};
+ghost use Rattle.rbf_model.specs.ClusterMap.{mark, clear_below, MarkedFrom, IsFirstClear, ChangesMark};
 ghost use Rattle.rbf_map.specs.Search.{IsFirstMarked};
 
 // Whether this cluster is in use.

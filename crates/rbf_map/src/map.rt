@@ -1,7 +1,7 @@
 ghost use Rattle.std.specs.Prelude.{◌≡◌, ◌≢◌, ℕ, ◌+◌, ◌-◌, ◌*◌, ◌/◌, ◌<◌, ◌≤◌, ◌↔◌, ◌==◌, length, IsNone, IfNone, IfSome, IsTrue, MatchOption};
 ghost use Rattle.rbf_map.specs.Runs.{is_clear, is_clear_below, BeginsBestRun, IsChosenCluster};
 ghost use Rattle.rbf_map.specs.Search.{IsLongestWith};
-ghost use Rattle.rbf_map.specs.Map.{mark, map_free_clusters, IsFreeInMap, BeginsRun, NextIsUsed, IsNextFree, BeginsFreeRun, NoneIsFree, MayTake, Marks, IsSectorOf};
+ghost use Rattle.rbf_model.specs.ClusterMap.{mark, map_free_clusters, IsFreeInMap, BeginsRun, NextIsUsed, IsNextFree, BeginsFreeRun, NoneIsFree, MayTake, Marks, IsSectorOf};
 
 use crate::bits::{clear_mark, count_clear, first_clear, is_marked, set_mark};
 use crate::runs::{best_run, is_alone};
@@ -24,7 +24,7 @@ pub struct RbfMap {
 }
 
 impl Model for RbfMap {
-    ghost use Rattle.rbf_map.specs.Map.{ClusterMap};
+    ghost use Rattle.rbf_model.specs.ClusterMap.{ClusterMap};
 
     ghost Value = { ClusterMap };
 

@@ -1,5 +1,5 @@
 ghost use Rattle.std.specs.Prelude.{◌≡◌, ◌*◌, ◌<◌, ◌≤◌, nat_lt, length, if◌then◌else◌, IfNone, IfSome, IsTrue};
-ghost use Rattle.rbf_map.specs.Map.{MarkedFrom};
+ghost use Rattle.rbf_model.specs.ClusterMap.{MarkedFrom};
 ghost use Rattle.rbf_map.specs.Runs.{is_clear_below, IsBestRun};
 ghost use Rattle.rbf_map.specs.Search.{IsNextRun, IsAlone};
 

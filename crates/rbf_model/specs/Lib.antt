@@ -14,3 +14,4 @@ pub mod Keeps
 pub mod Walk
 pub mod Writes
 pub mod Laws
+pub mod ClusterMap

@@ -19,7 +19,7 @@ use Rattle.rbf_model.specs.Volume.{DiskVolume, Vol, is_free}
 use Rattle.rbf_model.proofs.Free.{free_parts}
 use Rattle.rbf_model.proofs.Owners.{cluster_positive}
 use Rattle.rbf_model.proofs.Unique.{vol_is_unique}
-use Rattle.rbf_map.specs.Map.{mark, map_free_clusters}
+use Rattle.rbf_model.specs.ClusterMap.{mark, map_free_clusters}
 use Rattle.rbf_change.specs.Agrees.{Agrees}
 use Rattle.rbf_change.specs.Calls.{shape, cluster_size, is_free_in, free_total, replaced}
 use Rattle.rbf_change.specs.Contents.{sector_span}

@@ -1,5 +1,5 @@
 use Rattle.std.proofs.Common.{◌≡◌, ◌∙◌, ℕ, None, ap, refl, subst, sym}
-use Rattle.file_state.specs.Context.{beside}
+use Rattle.file_state.specs.Context.{on_drives}
 use Rattle.os9_base.specs.declared.registers.Regs.{Regs}
 use Rattle.proc_model.specs.Processes.{regs_at, with_regs_of}
 use Rattle.io_model.specs.Io.{Io, with_call}
@@ -27,7 +27,7 @@ returns-clause-call c now views terms m was tied stands kinds =
     let at : c.long_of.result ≡ long_of (regs_at m p) = c.long_of.ensures ∙ ap (λ (r : Regs). long_of r) same in
     let old = c.args.machine.now in
     let new = c.answer_at.new.machine in
-    attempts-in m was now p c.answer_at.result (beside old views) (beside new views) terms Call.Seek
+    attempts-in m was now p c.answer_at.result (on_drives old views) (on_drives new views) terms Call.Seek
     (done (regs_at m p) (with_io was (moved_to was.io opened (long_of (regs_at m p)))))
     (seek-step asker was found it.found) 0 0 refl
     (subst (λ (files : FileState). EndsFileAttempt (done (regs_at m p) (with_io was (moved_to was.io opened (long_of (regs_at m p))))) 0 m was now p c.answer_at.result

@@ -1,9 +1,10 @@
+use Rattle.proc_state.proofs.Entered.{some-machine}
 use Rattle.std.proofs.Common.{◌≡◌, ◌∙◌, refl, sym}
 use Rattle.file_rules.specs.Attempts.{asker_of}
 use Rattle.file_state.specs.declared.state.FileState.{FileState}
 use Rattle.proc_model.specs.Processes.{user_at}
 use Rattle.proc_state.proofs.Living.{IsProcess-living}
-use Rattle.load_calls.proofs.TieLemmas.{names-seen, same-processes, same-user, some-machine}
+use Rattle.load_calls.proofs.TieLemmas.{names-seen, same-processes, same-user}
 use Rattle.load_calls.proofs.RouteLemmas.{arrived-reads, walk-arrives, walk-ends}
 use Rattle.load_calls.proofs.reading.read_along.Goals as goal
 

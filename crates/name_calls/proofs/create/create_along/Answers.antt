@@ -1,3 +1,4 @@
+use Rattle.proc_state.proofs.Entered.{some-machine}
 use Rattle.std.proofs.Common.{◌≡◌, ◌∙◌, ℕ, Option, List, [], refl, ap, subst}
 use Rattle.os9_base.specs.declared.call.CallEnd.TheVariants.{Error}
 use Rattle.device_paths.specs.Standing.{NamesFrom}
@@ -11,7 +12,7 @@ use Rattle.proc_model.specs.Processes.{cells_at}
 use Rattle.name_calls.proofs.CreateLemmas.{along-named, along-nameless, create-walk-stays, last-proper, names-some}
 use Rattle.name_calls.proofs.MakeLemmas.{last-there}
 use Rattle.name_calls.proofs.OpenEndLemmas.{refused-at_once}
-use Rattle.name_calls.proofs.SameLemmas.{some-machine, some-names}
+use Rattle.name_calls.proofs.SameLemmas.{some-names}
 use Rattle.name_calls.proofs.WalkLemmas.{finds, found-at, read-there, walk-ends, walk-goes, walker-tied}
 use Rattle.name_calls.specs.OpenCalls.{new_file_calls}
 use Rattle.name_calls.specs.Steps.{creates_along}

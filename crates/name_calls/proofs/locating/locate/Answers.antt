@@ -1,3 +1,4 @@
+use Rattle.proc_state.proofs.Entered.{some-machine}
 use Rattle.std.proofs.Common.{◌<◌, refl, vec_len}
 use Rattle.proc_model.specs.Processes.{cells_at}
 use Rattle.guest_memory.specs.Tie.{cells_of}
@@ -9,7 +10,7 @@ use Rattle.name_calls.specs.ListCalls.{located_calls}
 use Rattle.name_calls.specs.Locating.{IsLocated, locates}
 use Rattle.name_calls.proofs.LocatingLemmas.{along-located, has-along, locates-device, locates-refused, names-along, reached-file, starts-along}
 use Rattle.name_calls.proofs.LookLemmas.{refused-there}
-use Rattle.name_calls.proofs.SameLemmas.{is-same-then, some-machine, some-names, user-is}
+use Rattle.name_calls.proofs.SameLemmas.{is-same-then, some-names, user-is}
 use Rattle.name_calls.proofs.locating.locate.Goals as goal
 
 pub returns-in-Err-clause-locates : goal.returns-in-Err-clause-locates

@@ -1,3 +1,4 @@
+use Rattle.proc_state.proofs.Entered.{some-machine}
 use Rattle.std.proofs.Common.{ℕ, ◌<◌, Option, refl, subst, vec_len}
 use Rattle.proc_model.specs.Processes.{cells_at}
 use Rattle.guest_memory.specs.Tie.{cells_of}
@@ -11,7 +12,7 @@ use Rattle.name_calls.specs.Naming.{IsNameLocated, names_last}
 use Rattle.name_calls.proofs.LocatingLemmas.{has-along, starts-along}
 use Rattle.name_calls.proofs.LookLemmas.{refused-there}
 use Rattle.name_calls.proofs.NamingLemmas.{along-named, along-unnamed, has-last, names-along, names-device, names-refused, reached-directory}
-use Rattle.name_calls.proofs.SameLemmas.{is-same-then, some-machine, some-names, user-is}
+use Rattle.name_calls.proofs.SameLemmas.{is-same-then, some-names, user-is}
 use Rattle.name_calls.proofs.naming.locate_last.Goals as goal
 
 pub returns-in-Err-clause-locates : goal.returns-in-Err-clause-locates

@@ -1,3 +1,4 @@
+use Rattle.proc_state.proofs.Entered.{some-machine}
 use Rattle.std.proofs.Common.{◌∙◌, None, Some, ap, refl}
 use Rattle.os9_base.specs.declared.call.CallEnd.TheVariants.{Error}
 use Rattle.file_rules.specs.Attempts.{asker_of}
@@ -11,7 +12,7 @@ use Rattle.rbf_access.specs.Reading.{IsFdOf}
 use Rattle.name_calls.proofs.OpenEndLemmas.{late-ends, read-ends}
 use Rattle.name_calls.proofs.OpenLemmas.{found-stays, late-found, opens_there, walk-stays}
 use Rattle.name_calls.proofs.ReadLemmas.{fault-does, of-found, read-on}
-use Rattle.name_calls.proofs.SameLemmas.{some-machine, some-names}
+use Rattle.name_calls.proofs.SameLemmas.{some-names}
 use Rattle.name_calls.proofs.WalkLemmas.{finds, found-at, read-there, walk-ends, walk-goes, walker-tied}
 use Rattle.name_calls.proofs.open.open_along.Goals as goal
 

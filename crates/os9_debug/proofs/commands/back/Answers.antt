@@ -1,6 +1,6 @@
 use Rattle.std.proofs.Common.{◌≡◌, ◌-◌, List, ℕ, subst, sym, arith}
 use Rattle.os9_kernel.specs.Outside.{outside}
-use Rattle.debug_run.specs.declared.command.Command.TheVariants.{To, Back}
+use Rattle.os9_debug.specs.declared.command.Command.TheVariants.{To, Back}
 use Rattle.os9_debug.specs.Moves.{HasShown}
 use Rattle.os9_debug.proofs.Going.{may-back, moves-as, moves-not, shown-any}
 use Rattle.os9_debug.proofs.commands.back.Goals as goal

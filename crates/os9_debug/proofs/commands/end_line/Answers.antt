@@ -1,5 +1,5 @@
 use Rattle.std.proofs.Common.{◌++◌, ap, ◌∙◌}
-use Rattle.debug_run.specs.Show.{end_line}
+use Rattle.os9_debug.specs.Show.{end_line}
 use Rattle.os9_debug.proofs.commands.end_line.Goals as goal
 
 pub returns : goal.returns

@@ -1,7 +1,7 @@
 use Rattle.std.proofs.Common.{◌++◌, ap, ◌∙◌}
-use Rattle.debug_run.specs.Course.{state_at}
-use Rattle.debug_run.specs.Disassembly.{dis_lines}
-use Rattle.debug_run.specs.Show.{shown_cells}
+use Rattle.os9_debug.specs.Course.{state_at}
+use Rattle.os9_debug.specs.Disassembly.{dis_lines}
+use Rattle.os9_debug.specs.Show.{shown_cells}
 use Rattle.os9_debug.proofs.commands.instruction_lines.Goals as goal
 
 pub returns : goal.returns

@@ -1,6 +1,6 @@
 use Rattle.std.proofs.Common.{◌++◌, ap, ◌∙◌}
-use Rattle.debug_run.specs.Course.{state_at}
-use Rattle.debug_run.specs.Show.{mem_line, shown_cells}
+use Rattle.os9_debug.specs.Course.{state_at}
+use Rattle.os9_debug.specs.Show.{mem_line, shown_cells}
 use Rattle.os9_debug.proofs.commands.memory_line.Goals as goal
 
 pub returns : goal.returns

@@ -1,9 +1,9 @@
 use Rattle.std.proofs.Common.{◌≡◌, subst, sym}
 use Rattle.std.specs.Prelude.{IfOk}
 use Rattle.os9_kernel.specs.Outside.{outside}
-use Rattle.debug_run.specs.Prints.{shows}
-use Rattle.debug_run.specs.declared.command.Command.{Command}
-use Rattle.debug_run.specs.declared.command.Command.TheVariants.{Regs, Mem, Dis}
+use Rattle.os9_debug.specs.Prints.{shows}
+use Rattle.os9_debug.specs.declared.command.Command.{Command}
+use Rattle.os9_debug.specs.declared.command.Command.TheVariants.{Regs, Mem, Dis}
 use Rattle.os9_debug.specs.Moves.{AtPosition, HasShown, MovesOn}
 use Rattle.os9_debug.proofs.Going.{moves-nowhere, moves-told, shown-instructions, shown-memory, shown-regs, shown-told}
 use Rattle.os9_debug.proofs.commands.obey.Goals as goal

@@ -1,6 +1,6 @@
 use Rattle.std.proofs.Common.{◌++◌, ap, ◌∙◌}
-use Rattle.debug_run.specs.Course.{state_at}
-use Rattle.debug_run.specs.Show.{regs_line, shown}
+use Rattle.os9_debug.specs.Course.{state_at}
+use Rattle.os9_debug.specs.Show.{regs_line, shown}
 use Rattle.os9_debug.proofs.commands.regs_line.Goals as goal
 
 pub returns : goal.returns

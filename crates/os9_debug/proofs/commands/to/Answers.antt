@@ -1,8 +1,8 @@
 use Rattle.std.proofs.Common.{◌≡◌, List, ℕ, subst, sym, ap, ◌∙◌}
 use Rattle.std.specs.Prelude.{IfOk}
 use Rattle.os9_kernel.specs.Outside.{outside}
-use Rattle.debug_run.specs.Show.{end_line}
-use Rattle.debug_run.specs.declared.command.Command.TheVariants.{To}
+use Rattle.os9_debug.specs.Show.{end_line}
+use Rattle.os9_debug.specs.declared.command.Command.TheVariants.{To}
 use Rattle.os9_debug.specs.Moves.{HasShown, MovesOn}
 use Rattle.os9_debug.proofs.Going.{moves-as, moves-not, moves-told, shown-end, shown-there, shown-told}
 use Rattle.os9_debug.proofs.commands.to.Goals as goal

@@ -1,7 +1,7 @@
 use Rattle.std.proofs.Common.{◌≡◌, ◌≢◌, ℕ, List, [], inr, subst, ◌+◌, ◌≤◌, ◌∷◌, drop, length, get_or, refl, ap, ◌∙◌, rules}
 use Rattle.std.proofs.lemmas.List.{drop_more}
 use Rattle.os9_outer.specs.Stream.{GainsPrefix, stream_with}
-use Rattle.debug_run.specs.declared.command.Command.TheVariants.{To}
+use Rattle.os9_debug.specs.declared.command.Command.TheVariants.{To}
 use Rattle.os9_kernel.specs.Outside.{outside}
 use Rattle.os9_words.proofs.NoteLemmas.{notes-kept}
 use Rattle.boot_run.specs.World.{world_of}

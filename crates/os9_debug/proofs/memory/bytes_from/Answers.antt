@@ -1,7 +1,7 @@
 use Rattle.std.proofs.Common.{◌+◌, ◌%◌, ◌++◌, length, refl, sym, ap, ◌∙◌, arith}
-use Rattle.debug_run.specs.Course.{state_at}
-use Rattle.debug_run.specs.Disassembly.{bytes_from}
-use Rattle.debug_run.specs.Show.{shown_cells}
+use Rattle.os9_debug.specs.Course.{state_at}
+use Rattle.os9_debug.specs.Disassembly.{bytes_from}
+use Rattle.os9_debug.specs.Show.{shown_cells}
 use Rattle.os9_debug.proofs.Bytes.{byte-more, byte-none, bytes-all}
 use Rattle.os9_debug.proofs.memory.bytes_from.Goals as goal
 

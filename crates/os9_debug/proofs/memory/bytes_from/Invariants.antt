@@ -1,7 +1,7 @@
 -- The bytes before the address are there, and the others follow.
 use Rattle.std.proofs.Common.{◌≡◌, ◌-◌, ◌++◌}
 use Rattle.arrayvec.specs.ArrayVec.{array_vec_len}
-use Rattle.debug_run.specs.Disassembly.{bytes_from}
+use Rattle.os9_debug.specs.Disassembly.{bytes_from}
 use Rattle.os9_debug.specs.Moves.{SeesCells}
 use Rattle.os9_debug.proofs.memory.bytes_from.Given as goal
 

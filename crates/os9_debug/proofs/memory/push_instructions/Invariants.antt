@@ -1,6 +1,6 @@
 -- The lines of the instructions before the address are put, and the others follow.
 use Rattle.std.proofs.Common.{◌≡◌, ◌-◌, ◌++◌}
-use Rattle.debug_run.specs.Disassembly.{dis_lines}
+use Rattle.os9_debug.specs.Disassembly.{dis_lines}
 use Rattle.os9_debug.specs.Moves.{SeesCells}
 use Rattle.os9_debug.proofs.memory.push_instructions.Given as goal
 

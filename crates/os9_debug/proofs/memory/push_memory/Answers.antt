@@ -1,6 +1,6 @@
 use Rattle.std.proofs.Common.{◌+◌, ◌%◌, refl, sym, ◌∙◌, append-nil, arith}
-use Rattle.debug_run.specs.Course.{state_at}
-use Rattle.debug_run.specs.Show.{shown_cells}
+use Rattle.os9_debug.specs.Course.{state_at}
+use Rattle.os9_debug.specs.Show.{shown_cells}
 use Rattle.os9_debug.proofs.Bytes.{line-end, seen-more}
 use Rattle.os9_debug.proofs.memory.push_memory.Goals as goal
 

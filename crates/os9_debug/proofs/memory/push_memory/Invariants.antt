@@ -2,7 +2,7 @@
 use Rattle.std.proofs.Common.{◌≡◌, ◌++◌, ◌%◌}
 use Rattle.std.specs.List.{flat_map, range_with_len}
 use Rattle.asm_model.specs.Numbers.{four_digits}
-use Rattle.debug_run.specs.Show.{byte_text}
+use Rattle.os9_debug.specs.Show.{byte_text}
 use Rattle.os9_debug.specs.Moves.{SeesCells}
 use Rattle.os9_debug.proofs.memory.push_memory.Given as goal
 

@@ -1,5 +1,5 @@
 use Rattle.std.proofs.Common.{◌<◌, arith}
-use Rattle.debug_run.specs.declared.command.Command.TheVariants.{To}
+use Rattle.os9_debug.specs.declared.command.Command.TheVariants.{To}
 use Rattle.os9_debug.proofs.Going.{may-any, moves-back, moves-not, moves-nowhere}
 use Rattle.os9_debug.proofs.moves.go_back.Goals as goal
 

@@ -1,9 +1,9 @@
 use Rattle.std.proofs.Common.{◌≡◌, Ok, subst}
 use Rattle.os9_kernel.specs.Outside.{outside}
-use Rattle.debug_run.specs.declared.command.Command.TheVariants.{To}
-use Rattle.debug_run.specs.Moves.{HasReachedEvent}
-use Rattle.debug_run.specs.declared.position.Step.{Step}
-use Rattle.debug_run.specs.declared.position.Step.TheVariants.{Event, End}
+use Rattle.os9_debug.specs.declared.command.Command.TheVariants.{To}
+use Rattle.os9_debug.specs.PositionMoves.{HasReachedEvent}
+use Rattle.os9_debug.specs.declared.position.Step.{Step}
+use Rattle.os9_debug.specs.declared.position.Step.TheVariants.{Event, End}
 use Rattle.os9_debug.specs.declared.machine.SessionFault.TheVariants.{NoMemory}
 use Rattle.os9_debug.proofs.Counted.{fell-gained, fell-then}
 use Rattle.os9_debug.proofs.Going.{at-end, moves-not, moves-on}

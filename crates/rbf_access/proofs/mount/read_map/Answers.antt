@@ -1,6 +1,6 @@
 use Rattle.std.proofs.Common.{◌≡◌, ◌-◌, ◌/◌, ap, ◌∙◌, arith}
 use Rattle.rbf_model.specs.Geometry.{map_sectors}
-use Rattle.rbf_map.specs.Map.{ClusterMap}
+use Rattle.rbf_model.specs.ClusterMap.{ClusterMap}
 use Rattle.rbf_sector.specs.Ident.{geometry_of}
 use Rattle.rbf_access.specs.Mounted.{map_bytes}
 use Rattle.rbf_access.proofs.Mounting.{sizes_of, bits_enough, cluster_count_is, map_agrees}

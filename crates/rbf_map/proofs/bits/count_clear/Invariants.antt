@@ -1,5 +1,5 @@
 use Rattle.std.proofs.Common.{◌≡◌, ◌≤◌, length}
-use Rattle.rbf_map.specs.Map.{clear_below}
+use Rattle.rbf_model.specs.ClusterMap.{clear_below}
 use Rattle.rbf_map.proofs.bits.count_clear.Given as goal
 
 abbrev pub invariant-loop-cluster : goal.invariant-loop-cluster

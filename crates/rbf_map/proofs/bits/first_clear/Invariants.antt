@@ -1,4 +1,4 @@
-use Rattle.rbf_map.specs.Map.{MarkedFrom}
+use Rattle.rbf_model.specs.ClusterMap.{MarkedFrom}
 use Rattle.rbf_map.proofs.bits.first_clear.Given as goal
 
 abbrev pub invariant-loop-cluster : goal.invariant-loop-cluster

@@ -1,9 +1,9 @@
+use Rattle.proc_state.proofs.Entered.{some-machine}
 use Rattle.std.proofs.Common.{◌<◌, length, sym, ap, ◌∙◌, subst}
 use Rattle.proc_model.specs.declared.record.Record.{Record}
 use Rattle.proc_model.specs.Records.{IsLiving, record_at}
 use Rattle.proc_model.specs.Processes.{Processes}
 use Rattle.os9_kernel.proofs.Columns.{living-within, record-put}
-use Rattle.os9_kernel.proofs.Represented.{some-machine}
 use Rattle.os9_kernel.proofs.kernel.Kernel.break_off.Goals as goal
 
 pub returns-in-Some-clause-files : goal.returns-in-Some-clause-files

@@ -1,3 +1,4 @@
+use Rattle.proc_state.proofs.Entered.{some-machine}
 use Rattle.std.proofs.Common.{◌≡◌, ◌<◌, ℕ, Some, false, None, Result, List, length, refl, sym, ap, ◌∙◌, subst, arith}
 use Rattle.std.specs.Prelude.{slice_index_or}
 use Rattle.proc_model.specs.declared.own.Own.{Own}
@@ -27,7 +28,7 @@ use Rattle.os9_kernel.proofs.Counting.{leaves-drives}
 use Rattle.os9_kernel.proofs.Delivering.{broken-own, broken-record, broken-tick, call-is, delivered-quiet, delivery-tick, done-so, ends-so, files-ended-so, files-goes-so, goes-so, signal-is}
 use Rattle.os9_kernel.proofs.Marking.{forgets, never-known}
 use Rattle.os9_kernel.proofs.Pending.{delivery-pending, nothing-pending, pending-is}
-use Rattle.os9_kernel.proofs.Represented.{some-machine, tick-kept}
+use Rattle.os9_kernel.proofs.Represented.{tick-kept}
 use Rattle.os9_kernel.proofs.Standing.{ended-so}
 use Rattle.os9_kernel.proofs.kernel.Kernel.deliver.Goals as goal
 use Rattle.os9_kernel.proofs.kernel.Kernel.deliver.Goals.{After-deliver}

@@ -1,3 +1,4 @@
+use Rattle.proc_state.proofs.Entered.{some-machine}
 use Rattle.std.proofs.Common.{◌≡◌, ◌≤◌, ◌<◌, ◌+◌, ◌-◌, ◌*◌, ℕ, Option, Some, List, inr, refl, sym, ap, ◌∙◌, subst, arith}
 use Rattle.os9_base.specs.declared.registers.Regs.{Regs}
 use Rattle.cpu_model.specs.declared.stop.Stop.{Stop}
@@ -22,7 +23,7 @@ use Rattle.os9_kernel.proofs.Columns.{processes_at}
 use Rattle.os9_kernel.proofs.Looking.{looked-still, looks_again, never-looked}
 use Rattle.os9_kernel.proofs.Marking.{forgets, known-still, never-known}
 use Rattle.os9_kernel.proofs.Pending.{at_most-three, pending-is}
-use Rattle.os9_kernel.proofs.Represented.{some-machine, tick-kept}
+use Rattle.os9_kernel.proofs.Represented.{tick-kept}
 use Rattle.machine_model.proofs.Ticks.{ended-tick}
 use Rattle.os9_kernel.proofs.Turning.{all-done, some-left, turn-next, turn-call, turn-abort}
 use Rattle.os9_kernel.proofs.kernel.Kernel.execute.Goals as goal

@@ -9,7 +9,7 @@ use Rattle.proc_model.specs.Attempts.{after_attempt}
 use Rattle.proc_model.specs.Processes.{Processes, no_own}
 use Rattle.file_rules.specs.Attempts.{asker_of}
 use Rattle.file_rules.specs.Files.{Files}
-use Rattle.file_state.specs.Attempt.{Standing}
+use Rattle.file_state.specs.Attempt.{MachineOnDrives}
 use Rattle.file_state.specs.Context.{machine_seen}
 use Rattle.file_state.specs.Counted.{CalledAtMost}
 use Rattle.file_state.specs.Tie.{RepresentsFiles}
@@ -49,8 +49,8 @@ begin-requires-clause-begins g c is done =
     let p = c.args.p.0 in
     let new = c.try_load-end.new.self in
     let terms = vec_len c.args.devices.now.terms in
-    let before : Standing = machine_seen (λ box. (g.dyn-1.0.entry box.vtable).1) old.machine c.args.devices.now in
-    let after : Standing = machine_seen (λ box. (g.dyn-1.0.entry box.vtable).1) new.machine c.try_load-end.new.devices in
+    let before : MachineOnDrives = machine_seen (λ box. (g.dyn-1.0.entry box.vtable).1) old.machine c.args.devices.now in
+    let after : MachineOnDrives = machine_seen (λ box. (g.dyn-1.0.entry box.vtable).1) new.machine c.try_load-end.new.devices in
     let (s, tied) = c.requires.stands in
     let (time, is_time) = some-time old _ s tied in
     let it = c.try_load-end.ensures.call time s.processes s.files tied.processes tied.files tied.run.locked.state.running.kinds in (
@@ -118,8 +118,8 @@ returns-clause-event g c =
       memory = λ out. absurd (never-wants first.result (over ∙ out));
       waits = λ is.
           let waiting : end ≡ Wait = waits-so end (sym c.event_end.ensures ∙ is) in
-          let standing_before : Standing = machine_seen (λ box. (g.dyn-1.0.entry box.vtable).1) old.machine c.args.devices.now in
-          let standing_after : Standing = machine_seen (λ box. (g.dyn-1.0.entry box.vtable).1) tried.machine c.try_load-end.new.devices in
+          let standing_before : MachineOnDrives = machine_seen (λ box. (g.dyn-1.0.entry box.vtable).1) old.machine c.args.devices.now in
+          let standing_after : MachineOnDrives = machine_seen (λ box. (g.dyn-1.0.entry box.vtable).1) tried.machine c.try_load-end.new.devices in
           let at_wait : LoadsSo c.args.call s0.processes s0.files time0 (vec_len terms) p.0 Wait standing_before
           standing_after = subst (λ (end : CallEnd). LoadsSo c.args.call s0.processes s0.files time0 (vec_len terms)
           p.0 end standing_before standing_after) waiting first in record {

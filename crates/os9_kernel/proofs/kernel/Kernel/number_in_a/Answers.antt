@@ -1,8 +1,8 @@
+use Rattle.proc_state.proofs.Entered.{some-machine}
 use Rattle.std.proofs.Common.{ap, ◌∙◌}
 use Rattle.os9_base.specs.declared.registers.Regs.{Regs}
 use Rattle.proc_model.specs.Processes.{Processes}
 use Rattle.os9_kernel.specs.Paths.{number_in_a}
-use Rattle.os9_kernel.proofs.Represented.{some-machine}
 use Rattle.os9_kernel.proofs.kernel.Kernel.number_in_a.Goals as goal
 
 pub returns-clause-number : goal.returns-clause-number

@@ -1,3 +1,4 @@
+use Rattle.proc_state.proofs.Entered.{some-machine}
 use Rattle.std.proofs.Common.{◌≡◌, Option, Some, refl, sym, ap, ◌∙◌, subst}
 use Rattle.std.specs.Prelude.{IfSome, slice_index_or}
 use Rattle.os9_base.specs.declared.call.CallEnd.{CallEnd}
@@ -27,7 +28,7 @@ use Rattle.os9_kernel.proofs.Counting.{leaves-drives}
 use Rattle.os9_kernel.proofs.Marking.{known-still}
 use Rattle.os9_kernel.proofs.PathCalls.{some-time}
 use Rattle.os9_kernel.proofs.Pending.{attempt-lowers}
-use Rattle.os9_kernel.proofs.Represented.{some-machine, tick-kept, no-call}
+use Rattle.os9_kernel.proofs.Represented.{tick-kept, no-call}
 use Rattle.os9_kernel.proofs.Serving.{process-served, serves-plain}
 use Rattle.os9_kernel.proofs.Waiting.{code-held, rests-so, waits-so}
 use Rattle.os9_kernel.proofs.kernel.Kernel.process_call.Goals as goal

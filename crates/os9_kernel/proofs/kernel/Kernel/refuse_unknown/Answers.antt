@@ -1,3 +1,4 @@
+use Rattle.proc_state.proofs.Entered.{some-machine}
 use Rattle.std.proofs.Common.{refl, sym, subst}
 use Rattle.os9_base.specs.declared.errors.TheConstants.{E_UNKSVC}
 use Rattle.proc_model.specs.Attempts.{after_attempt, goes_on, refused_regs}
@@ -12,7 +13,7 @@ use Rattle.os9_kernel.proofs.Counting.{leaves-drives}
 use Rattle.os9_kernel.proofs.Marking.{known-still}
 use Rattle.os9_kernel.proofs.PathCalls.{some-time}
 use Rattle.os9_kernel.proofs.Pending.{attempt-lowers}
-use Rattle.os9_kernel.proofs.Represented.{some-machine, tick-kept, no-call}
+use Rattle.os9_kernel.proofs.Represented.{tick-kept, no-call}
 use Rattle.os9_kernel.proofs.kernel.Kernel.refuse_unknown.Goals as goal
 
 pub returns-clause-event : goal.returns-clause-event

@@ -1,6 +1,6 @@
 use Rattle.std.proofs.Common.{ℕ, ◌≡◌, ◌<◌, ◌≤◌, List, subst, sym, min, ⊎_elim, arith}
 use Rattle.std.proofs.lemmas.Bool.{cases_lt}
-use Rattle.rbf_map.specs.Map.{ClusterMap, mark, MarkedFrom, IsFirstClear, BeginsFreeRun}
+use Rattle.rbf_model.specs.ClusterMap.{ClusterMap, mark, MarkedFrom, IsFirstClear, BeginsFreeRun}
 use Rattle.rbf_map.specs.Runs.{is_clear, is_clear_below, IsBestRun, BeginsBestRun}
 use Rattle.rbf_map.specs.Inside.{map_of, HoldsMap}
 use Rattle.rbf_map.specs.declared.map.RbfMap.TheInside.{Inside}

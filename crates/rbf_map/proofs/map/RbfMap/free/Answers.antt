@@ -1,7 +1,7 @@
 use Rattle.std.proofs.Common.{◌≡◌, ◌∙◌, ap, subst, arith}
 use Rattle.rbf_map.specs.Runs.{is_clear_below}
 use Rattle.rbf_map.specs.Search.{IsLongestWith}
-use Rattle.rbf_map.specs.Map.{ClusterMap, mark}
+use Rattle.rbf_model.specs.ClusterMap.{ClusterMap, mark}
 use Rattle.rbf_map.proofs.Marks.{clear_below-cleared, length-clear_below}
 use Rattle.rbf_map.proofs.Changed.{given_back, part_given_back}
 use Rattle.rbf_map.proofs.map.RbfMap.free.Goals as goal

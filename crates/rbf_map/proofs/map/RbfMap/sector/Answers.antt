@@ -1,6 +1,6 @@
 use Rattle.std.proofs.Common.{◌∙◌, ◌++◌, ◌*◌, ◌-◌, ℕ, List, min, length, take, drop, ap, sym, subst, arith, ◌≡◌}
 use Rattle.std.specs.Prelude.{replicate}
-use Rattle.rbf_map.specs.Map.{ClusterMap, IsSectorOf}
+use Rattle.rbf_model.specs.ClusterMap.{ClusterMap, IsSectorOf}
 use Rattle.rbf_map.proofs.Sectors.{sector_is}
 use Rattle.rbf_map.proofs.map.RbfMap.sector.Goals as goal
 

@@ -1,5 +1,5 @@
 use Rattle.std.proofs.Common.{◌≡◌, ◌<◌, ◌∙◌, ap, arith}
-use Rattle.rbf_map.specs.Map.{ClusterMap, mark}
+use Rattle.rbf_model.specs.ClusterMap.{ClusterMap, mark}
 use Rattle.rbf_map.proofs.Marks.{clear_below-set}
 use Rattle.rbf_map.proofs.Changed.{taken}
 use Rattle.rbf_map.proofs.map.RbfMap.take.Goals as goal

@@ -1,5 +1,0 @@
-use Rattle.debug_run.proofs.Courses.{course-one, course-some}
-use Rattle.debug_run.proofs.course.a_machine_without_images_has_one_course.Goals as goal
-
-pub returns : goal.returns
-returns c = record { one = course-one; some = course-some }

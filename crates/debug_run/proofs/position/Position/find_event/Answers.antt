@@ -1,6 +1,0 @@
-use Rattle.debug_run.proofs.Positions.{found-here, positive}
-use Rattle.debug_run.proofs.position.Position.find_event.Goals as goal
-
-pub returns-else-self-eq0-clause-found : goal.returns-else-self-eq0-clause-found
-returns-else-self-eq0-clause-found g c =
-    found-here c.args.slices.now c.args.self.now _ c.requires (positive c.args.self.now.slice (λ e. c.if-self-eq0.false e))

@@ -1,4 +1,0 @@
-use Rattle.debug_run.proofs.position.Position.process.Goals as goal
-
-pub returns-clause-shown : goal.returns-clause-shown
-returns-clause-shown c = λ course last slices devices at. at.process

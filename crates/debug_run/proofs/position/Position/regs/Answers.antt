@@ -1,5 +1,0 @@
-use Rattle.debug_run.proofs.Positions.{regs-shown}
-use Rattle.debug_run.proofs.position.Position.regs.Goals as goal
-
-pub returns : goal.returns
-returns c = λ course last slices devices at. regs-shown course last slices c.args.self.now devices at c.regs.result (λ s tied. c.regs.ensures devices s tied)
