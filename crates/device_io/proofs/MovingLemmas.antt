@@ -6,7 +6,6 @@ use Rattle.std.proofs.lemmas.Bool.{false≢true}
 use Rattle.os9_base.specs.Cells.{Cells}
 use Rattle.os9_base.specs.declared.registers.Regs.{Regs}
 use Rattle.guest_memory.specs.Tie.{cells_of}
-use Rattle.proc_model.specs.Processes.{Processes, regs_at}
 use Rattle.io_model.specs.Path.{slot_of, desc_of}
 use Rattle.io_model.specs.declared.pending.PendingCall.{PendingCall}
 use Rattle.io_model.specs.declared.path.Desc.{Desc}
@@ -24,20 +23,11 @@ use Rattle.io_model.specs.Again.{IsAgain, IsPending, KeepsCount, path_number}
 use Rattle.io_state.proofs.HeldLemmas.{slot-held}
 use Rattle.io_state.proofs.WaitLemmas.{none-some, some-same}
 use Rattle.io_state.specs.Sound.{IsIo, MayWait, read_kind, read_kind_of, target_at}
-use Rattle.proc_state.specs.Tie.{RepresentsProcesses}
 use Rattle.proc_state.specs.declared.state.ProcState.{ProcState}
 use Rattle.proc_model.specs.Records.{record_at}
 use Rattle.io_state.specs.Context.{InCall}
 use Rattle.io_state.specs.declared.requester.Requester.{Requester}
 use Rattle.device_io.specs.Moving.{MayAttemptIo, PendingReadIsAllowed, StaysIfPending}
-
--- the registers of the processes are those of the machine
-pub regs-tied : (s : ProcState) (m : Processes) (p : ℕ) → RepresentsProcesses s m → (record_at s.table p).regs ≡ regs_at m p
-regs-tied s m p tied = ap (λ (i : Processes). regs_at i p) (sym tied.is)
-
--- the registers at a call are those of the machine
-pub called-regs : (by : Requester) (s : ProcState) (m : Processes) → InCall by s → RepresentsProcesses s m → by.regs ≡ regs_at m by.p.0
-called-regs by s m calls tied = calls.regs ∙ regs-tied s m by.p.0 tied
 
 -- what is not there is nothing
 pub none-of : {A : Type 0} (o : Option A) (there : Bool) → there ≡ is_some o → there ≡ false → is_none o ≡ true

@@ -7,7 +7,7 @@ ghost use Rattle.io_model.specs.Io.{Io, pending_at, with_call};
 ghost use Rattle.io_model.specs.Step.{IoEnd, leaves};
 ghost use Rattle.io_state.specs.Sound.{IsIo, MayWait, ReadsNoTerminal};
 ghost use Rattle.proc_model.specs.Records.{IsLiving};
-ghost use Rattle.proc_model.specs.Processes.{Processes, with_regs_of};
+ghost use Rattle.proc_model.specs.Processes.{Processes};
 ghost use Rattle.device_io.specs.Leaving.{IsTold};
 ghost use Rattle.proc_state.specs.Tie.{ReturnsCallEnd, RepresentsProcesses};
 
@@ -44,17 +44,6 @@ pub(crate) fn moved_on(call: PendingCall, count: u16) -> PendingCall
     PendingCall { moved, ..call }
 }
 
-/// Refuses the call with this number. It is not pending.
-pub(crate) fn refuse(io: &mut IoState, p: Pid, number: u8) -> CallEnd
-    requires process { p.0 < 33 }
-    requires no_read { ReadsNoTerminal io.old p.0 }
-    ensures end { result ≡ CallEnd.Error number }
-    ensures io { io.new ≡ with_call io.old p.0 None }
-{
-    io.keep(p, None);
-    CallEnd::Error(number)
-}
-
 /// The call waits, and is pending.
 pub(crate) fn keep(io: &mut IoState, p: Pid, call: PendingCall) -> CallEnd
     requires process { p.0 < 33 }
@@ -76,20 +65,6 @@ pub(crate) fn finish(io: &mut IoState, p: Pid) -> CallEnd
 {
     io.keep(p, None);
     CallEnd::Done
-}
-
-/// The call is done, and its process has these registers. It is not pending.
-pub(crate) fn answer(s: &mut ProcState, io: &mut IoState, p: Pid, regs: Regs) -> CallEnd
-    requires lives { IsLiving s.old.table p.0 }
-    requires no_read { ReadsNoTerminal io.old p.0 }
-    ensures end { result ≡ CallEnd.Done }
-    ensures tied { (m : Processes) → RepresentsProcesses s.old m
-        → RepresentsProcesses s.new (with_regs_of m p.0 regs) }
-    ensures io { io.new ≡ with_call io.old p.0 None }
-    ensures lives { IsLiving s.new.table p.0 }
-{
-    s.set_regs(p, regs);
-    finish(io, p)
 }
 
 /// Tells the process of an attempt that stored nothing how it ended: it has these registers if the

@@ -4,7 +4,6 @@
 mod ends;
 pub mod keys;
 mod lines;
-mod modes;
 mod moving;
 mod pipe_reads;
 mod pipe_writes;

@@ -18,11 +18,12 @@ ghost use Rattle.proc_state.specs.Tie.{RepresentsProcesses};
 ghost use Rattle.io_state.specs.Context.{InCall};
 ghost use Rattle.device_io.specs.Leaving.{LeavesIoState};
 
-use crate::ends::{answer, keep, moved_on, refuse};
+use crate::ends::{keep, moved_on};
 use crate::lines::has_return;
 use io_model::io_call::Direction;
 use io_model::pending::PendingCall;
 use io_model::pipe::{PIPE_BYTES, PipeAns};
+use io_state::ends::{answer, refuse};
 use io_state::requester::Requester;
 use io_state::state::IoState;
 use os9_base::call::CallEnd;

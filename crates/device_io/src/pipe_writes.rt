@@ -10,10 +10,11 @@ ghost use Rattle.io_state.specs.Sound.{MayWait, ReadsNoTerminal};
 ghost use Rattle.io_model.specs.declared.io_call.Direction.TheVariants as Direction;
 ghost use Rattle.device_io.specs.Leaving.{Settles};
 
-use crate::ends::{finish, keep, moved_on, refuse};
+use crate::ends::{finish, keep, moved_on};
 use io_model::io_call::Direction;
 use io_model::pending::PendingCall;
 use io_model::pipe::PipeAns;
+use io_state::ends::refuse;
 use io_state::state::IoState;
 use os9_base::call::CallEnd;
 use os9_base::errors::{E_EOF, E_WRITE};

@@ -9,13 +9,13 @@ ghost use Rattle.device_io.specs.Sending.{IsLineFirst, IsLineOf, IsPut, IsPutAns
 ghost use Rattle.device_io.specs.Streams.{streams};
 ghost use Rattle.io_state.specs.Sound.{ReadsNoTerminal};
 
-use crate::ends::{call_now, finish, refuse};
-use crate::modes::can_write;
+use crate::ends::{call_now, finish};
 use crate::pipe_writes::write_pipe;
 use device_table::devices::Devices;
-use io_model::modes::STANDARD_ERROR;
+use io_model::modes::{STANDARD_ERROR, can_write};
 use io_model::path::Target;
 use io_model::terminal::Progress;
+use io_state::ends::refuse;
 use io_state::requester::Requester;
 use io_state::state::IoState;
 use os9_base::call::CallEnd;

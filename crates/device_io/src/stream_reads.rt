@@ -9,13 +9,14 @@ ghost use Rattle.device_io.specs.Moving.{MayAttemptIo, read_step};
 ghost use Rattle.device_io.specs.Streams.{streams};
 ghost use Rattle.device_io.specs.Trying.{IoAttemptedFrom, TriesIoStepFrom, WantsMemoryFrom};
 
-use crate::ends::{answer, call_now, refuse};
-use crate::modes::can_read;
+use crate::ends::call_now;
 use crate::pipe_reads::{read_pipe, read_pipe_line};
 use crate::terminals::read_terminal;
 use device_table::devices::Devices;
+use io_model::modes::can_read;
 use io_model::path::Target;
 use io_model::terminal::ReadKind;
+use io_state::ends::{answer, refuse};
 use io_state::requester::Requester;
 use io_state::state::IoState;
 use io_state::terminal_calls::AttemptedRead;

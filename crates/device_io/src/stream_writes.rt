@@ -14,10 +14,11 @@ ghost use Rattle.device_io.specs.Reading.{AreWriteBytesRead};
 ghost use Rattle.device_io.specs.Streams.{streams};
 ghost use Rattle.device_io.specs.Trying.{IoAttemptedFrom, WantsMemoryFrom};
 
-use crate::ends::{refuse, tell};
+use crate::ends::tell;
 use crate::moving::read_moving;
 use crate::sending::{ToWrite, WriteKind, send};
 use device_table::devices::Devices;
+use io_state::ends::refuse;
 use io_state::requester::Requester;
 use io_state::state::IoState;
 use os9_base::call::CallEnd;

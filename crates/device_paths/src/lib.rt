@@ -2,7 +2,6 @@
 //! duplicate and close path numbers, and ask for the status of a path.
 #![tactic(auto)]
 
-pub mod ends;
 pub mod list;
 mod lists;
 pub mod named;

@@ -13,8 +13,8 @@ ghost use Rattle.io_state.specs.Attempt.{IoAttempted};
 ghost use Rattle.device_paths.specs.Quiet.{EndsIoAttempt};
 ghost use Rattle.proc_state.specs.Tie.{RepresentsProcesses};
 
-use crate::ends::{answer, refuse};
 use io_model::path::PathsFull;
+use io_state::ends::{answer, refuse};
 use io_state::state::IoState;
 use os9_base::call::CallEnd;
 use os9_base::errors::{E_BPNUM, E_PTHFUL};

@@ -18,12 +18,12 @@ ghost use Rattle.device_paths.specs.Quiet.{EndsIoAttempt};
 ghost use Rattle.device_paths.specs.Listed.{listed};
 ghost use Rattle.proc_state.specs.Tie.{RepresentsProcesses, AreProcessesSame};
 
-use crate::ends::{answer, refuse};
 use crate::list::Listed;
 use crate::lists::read_list;
 use crate::places::{Place, Search, place_of};
 use device_table::devices::Devices;
 use io_model::path::PathsFull;
+use io_state::ends::{answer, refuse};
 use io_state::state::IoState;
 use os9_base::call::CallEnd;
 use os9_base::errors::{E_BMODE, E_BPADDR, E_BPNAM, E_PTHFUL};

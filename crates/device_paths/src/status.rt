@@ -13,9 +13,9 @@ ghost use Rattle.io_state.specs.Sound.{IsThere};
 ghost use Rattle.device_paths.specs.Quiet.{EndsIoAttempt};
 ghost use Rattle.proc_state.specs.Tie.{RepresentsProcesses};
 
-use crate::ends::{answer, refuse};
 use io_model::path::Target;
 use io_model::status::{OPTION_BYTES, SS_EOF, SS_OPT, SS_READY};
+use io_state::ends::{answer, refuse};
 use io_state::state::IoState;
 use os9_base::call::CallEnd;
 use os9_base::errors::{E_BPADDR, E_BPNUM, E_NOTRDY, E_UNKSVC};

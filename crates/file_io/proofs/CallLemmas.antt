@@ -26,12 +26,12 @@ use Rattle.file_rules.specs.Seek.{i_seek, long_of, seeks_nothing}
 use Rattle.file_rules.specs.Step.{done, needs, refuses}
 use Rattle.file_rules.specs.Write.{i_write, i_writln, f_perr, line_moved, sends_bytes, writes_bytes}
 use Rattle.lock_model.specs.declared.lock.Request.{Request}
+use Rattle.proc_state.proofs.Tied.{regs-tied}
 use Rattle.file_state.proofs.ReachedLemmas.{on-volume}
 use Rattle.file_state.specs.Tie.{RepresentsFiles}
 use Rattle.file_state.specs.declared.state.FileState.{FileState}
 use Rattle.file_state.specs.declared.state.OpenFile as kernel
 use Rattle.file_io.proofs.OpenedLemmas.{named-of, open-file}
-use Rattle.file_io.proofs.TryingLemmas.{regs-tied}
 use Rattle.file_io.specs.Opened.{IsOpenedPath, found_on}
 use Rattle.file_io.specs.Reading.{read_file, read_named, read_opened}
 use Rattle.file_io.specs.Writing.{line_of, write_file}

@@ -6,10 +6,9 @@ use Rattle.os9_base.specs.declared.call.CallEnd.{CallEnd}
 use Rattle.os9_base.specs.declared.registers.Regs.{Regs}
 use Rattle.os9_base.specs.declared.registers.TimePacket.{TimePacket}
 use Rattle.os9_outer.specs.TerminalState.{TerminalState}
-use Rattle.proc_model.specs.Processes.{Processes, regs_at}
+use Rattle.proc_model.specs.Processes.{Processes}
 use Rattle.io_model.specs.Io.{Io, with_call}
 use Rattle.io_model.specs.Step.{answers}
-use Rattle.proc_model.specs.Records.{record_at}
 use Rattle.proc_state.specs.Tie.{RepresentsProcesses}
 use Rattle.proc_state.specs.declared.state.ProcState.{ProcState}
 use Rattle.file_drives.specs.Drives.{DriveView}
@@ -29,10 +28,6 @@ use Rattle.file_state.specs.declared.state.FileState.{FileState}
 use Rattle.file_io.specs.Ending.{IsCallDone, IsCallRefused}
 use Rattle.file_state.specs.Ends.{EndsFileAttempt, EndsOrLacks, EndsUnentered}
 use Rattle.file_state.specs.Lacks.{AttemptsOrLacks}
-
--- the registers of the processes are those of the machine
-pub regs-tied : (s : ProcState) (m : Processes) (p : ℕ) → RepresentsProcesses s m → (record_at s.table p).regs ≡ regs_at m p
-regs-tied s m p tied = ap (λ (i : Processes). regs_at i p) (sym tied.is)
 
 -- what is not there is nothing
 pub none-of : {A : Type 0} (o : Option A) (there : Bool) → there ≡ is_some o → there ≡ false → is_none o ≡ true

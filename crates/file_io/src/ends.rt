@@ -1,47 +1,19 @@
 //! The ends of calls.
 
-ghost use Rattle.std.specs.Prelude.{◌≡◌, ◌<◌, None};
+ghost use Rattle.std.specs.Prelude.{◌≡◌, None};
 ghost use Rattle.file_state.specs.Context.{InFileCall};
 ghost use Rattle.proc_model.specs.Processes.{Processes, with_regs_of};
 ghost use Rattle.file_io.specs.Opened.{IsPathOf, moved_to};
 ghost use Rattle.io_model.specs.Io.{with_call};
 ghost use Rattle.proc_model.specs.Records.{IsLiving};
 ghost use Rattle.proc_state.specs.Tie.{RepresentsProcesses};
-ghost use Rattle.io_state.specs.Sound.{ReadsNoTerminal};
 
 use file_state::machine::Machine;
 use file_state::state::OpenFile;
+use io_state::ends::answer;
 use io_state::requester::Requester;
-use io_state::state::IoState;
 use os9_base::call::CallEnd;
-use os9_base::registers::{Pid, Regs};
-use proc_state::state::ProcState;
-
-/// Refuses the call with this number. Nothing is kept of the call.
-pub(crate) fn refuse(io: &mut IoState, p: Pid, number: u8) -> CallEnd
-    requires process { p.0 < 33 }
-    requires no_read { ReadsNoTerminal io.old p.0 }
-    ensures end { result ≡ CallEnd.Error number }
-    ensures io { io.new ≡ with_call io.old p.0 None }
-{
-    io.keep(p, None);
-    CallEnd::Error(number)
-}
-
-/// Ends the call as done, with these registers of its process. Nothing is kept of the call.
-pub(crate) fn answer(s: &mut ProcState, io: &mut IoState, p: Pid, regs: Regs) -> CallEnd
-    requires lives { IsLiving s.old.table p.0 }
-    requires no_read { ReadsNoTerminal io.old p.0 }
-    ensures end { result ≡ CallEnd.Done }
-    ensures tied { (m : Processes) → RepresentsProcesses s.old m
-        → RepresentsProcesses s.new (with_regs_of m p.0 regs) }
-    ensures io { io.new ≡ with_call io.old p.0 None }
-    ensures lives { IsLiving s.new.table p.0 }
-{
-    s.set_regs(p, regs);
-    io.keep(p, None);
-    CallEnd::Done
-}
+use os9_base::registers::Regs;
 
 /// Ends the call as done, with these registers of its process and this position of its path.
 /// Nothing is kept of the call.

@@ -1,24 +1,9 @@
 //! What a path's mode allows.
 
 ghost use Rattle.std.specs.Prelude.{◌≡◌};
-ghost use Rattle.io_model.specs.Modes.{can_read as can_read_model, can_write as can_write_model};
 ghost use Rattle.file_rules.specs.Locking.{is_for_update as is_for_update_model};
 
-use io_model::modes::{MODE_EXECUTE, MODE_READ, MODE_WRITE};
-
-/// May a path of this mode be read?
-pub(crate) fn can_read(mode: u8) -> bool
-    ensures { result ≡ can_read_model mode }
-{
-    mode & (MODE_READ + MODE_EXECUTE) != 0
-}
-
-/// May a path of this mode be written?
-pub(crate) fn can_write(mode: u8) -> bool
-    ensures { result ≡ can_write_model mode }
-{
-    mode & MODE_WRITE != 0
-}
+use io_model::modes::{MODE_READ, MODE_WRITE};
 
 /// May a path of this mode be read and written? Then its reads request records, and it may hold
 /// one.

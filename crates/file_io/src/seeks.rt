@@ -1,12 +1,11 @@
 //! I$Seek (System Programmer's Manual, I$Seek).
 
 ghost use Rattle.file_state.specs.Context.{InFileCall, on_drives};
-ghost use Rattle.std.specs.Prelude.{◌≡◌, List};
+ghost use Rattle.std.specs.Prelude.{List};
 ghost use Rattle.proc_model.specs.Processes.{Processes};
 ghost use Rattle.file_io.specs.Calls.{i_seek_calls};
 ghost use Rattle.file_io.specs.Opened.{IsOpenedPath};
 ghost use Rattle.file_drives.specs.Drives.{DriveView};
-ghost use Rattle.file_rules.specs.Seek as model;
 ghost use Rattle.file_rules.specs.Seek.{seeks_nothing};
 ghost use Rattle.file_rules.specs.declared.path_call.PathCall.TheVariants as Call;
 ghost use Rattle.file_state.specs.Counted.{AttemptsWithin};
@@ -18,14 +17,16 @@ ghost use Rattle.proc_model.specs.Records.{IsLiving};
 ghost use Rattle.proc_state.specs.Tie.{RepresentsProcesses};
 ghost use Rattle.io_state.specs.Sound.{ReadsNoTerminal};
 
-use crate::ends::{answer, answer_at, refuse};
+use crate::ends::answer_at;
+use file_state::long::long_of;
 use file_state::machine::Machine;
 use file_state::state::OpenFile;
+use io_state::ends::{answer, refuse};
 use io_state::requester::Requester;
 use io_state::state::IoState;
 use os9_base::call::CallEnd;
 use os9_base::errors::E_BPNUM;
-use os9_base::registers::{Pid, Regs};
+use os9_base::registers::Pid;
 use proc_state::state::ProcState;
 
 /// I$Seek on a file or a directory, on the path that the number in A names (System Programmer's
@@ -40,13 +41,6 @@ pub fn seek(machine: &mut Machine, by: Requester, opened: &OpenFile) -> CallEnd
     ensures lives { IsLiving machine.new.processes.table by.p.0 }
 {
     answer_at(machine, by, by.regs, opened, long_of(by.regs))
-}
-
-/// The number in X, its high half, and U.
-fn long_of(regs: Regs) -> u32
-    ensures { result ≡ model.long_of regs }
-{
-    65_536 * u32::from(regs.x) + u32::from(regs.u)
 }
 
 /// I$Seek on a terminal or a pipe, which has no position: it does nothing.

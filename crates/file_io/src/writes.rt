@@ -28,13 +28,14 @@ ghost use Rattle.os9_outer.specs.TerminalState.{TerminalState};
 ghost use Rattle.proc_model.specs.Records.{IsLiving};
 ghost use Rattle.proc_state.specs.Tie.{AreProcessesSame, RepresentsProcesses};
 
-use crate::ends::{answer, answer_at, refuse};
-use crate::modes::can_write;
+use crate::ends::answer_at;
 use device_table::devices::Devices;
 use file_rules::claim::Claim;
 use file_state::asking::range_of;
 use file_state::machine::Machine;
 use file_state::state::{FileState, OpenFile};
+use io_model::modes::can_write;
+use io_state::ends::{answer, refuse};
 use io_state::requester::Requester;
 use lock_model::lock::{Held, Request};
 use os9_base::call::CallEnd;

@@ -13,6 +13,7 @@ use crate::state::{FileState, OpenFile};
 use file_rules::claim::Claim;
 use io_model::path::SysPath;
 use io_model::pending::PendingCall;
+use io_state::ends::refuse;
 use lock_model::lock::{Grant, Held, Range, Request};
 use os9_base::call::CallEnd;
 use os9_base::errors::{E_DEADLK, E_LOCK};
@@ -80,8 +81,8 @@ impl FileState {
     {
         match self.answer(p, request, tick) {
             Grant::Granted => None,
-            Grant::Locked => Some(self.refuse(p, E_LOCK)),
-            Grant::Deadlock => Some(self.refuse(p, E_DEADLK)),
+            Grant::Locked => Some(refuse(&mut self.io, p, E_LOCK)),
+            Grant::Deadlock => Some(refuse(&mut self.io, p, E_DEADLK)),
             Grant::Wait => Some(self.wait(p, request)),
         }
     }
@@ -101,17 +102,6 @@ impl FileState {
         } else {
             self.records.again(p, tick)
         }
-    }
-
-    /// The call of a process is refused with this number. It is not pending.
-    fn refuse(&mut self, p: Pid, number: u8) -> CallEnd
-        requires process { p.0 < 33 }
-        requires no_read { ReadsNoTerminal self.old.io p.0 }
-        ensures end { result ≡ CallEnd.Error number }
-        ensures state { self.new ≡ record self.old { io = with_call self.old.io p.0 None } }
-    {
-        self.io.keep(p, None);
-        CallEnd::Error(number)
     }
 
     /// The call of a process waits in its request.

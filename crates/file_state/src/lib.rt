@@ -2,5 +2,6 @@
 #![tactic(auto)]
 
 pub mod asking;
+pub mod long;
 pub mod machine;
 pub mod state;

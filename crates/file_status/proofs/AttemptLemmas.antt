@@ -10,6 +10,7 @@ use Rattle.io_model.specs.Status.{i_getstt as gets_of_device, i_setstt as sets_o
 use Rattle.proc_model.specs.Records.{record_at}
 use Rattle.proc_state.specs.Tie.{RepresentsProcesses}
 use Rattle.proc_state.specs.declared.state.ProcState.{ProcState}
+use Rattle.proc_state.proofs.Tied.{regs-tied}
 use Rattle.file_rules.specs.Attempts.{asker_of, file_step}
 use Rattle.file_rules.specs.Files.{Files, OpenFile, open_file}
 use Rattle.file_rules.specs.OnFile.{by_kind}
@@ -26,10 +27,7 @@ use Rattle.file_state.specs.declared.state.OpenFile.{OpenFile as KernelFile}
 use Rattle.file_status.proofs.OpenLemmas.{open-of}
 use Rattle.file_status.specs.Status.{IsNamedInA, RepresentsOpenFile, calls_by_code, i_setstt_calls}
 
--- the registers and the user that the kernel has of a process
-pub regs-tied : (processes : ProcState) (m : Processes) (p : ℕ) → RepresentsProcesses processes m → (record_at processes.table p).regs ≡ regs_at m p
-regs-tied processes m p tied = sym (ap (λ (i : Processes). regs_at i p) tied.is)
-
+-- the user that the kernel has of a process
 pub user-tied : (processes : ProcState) (m : Processes) (p user : ℕ) → RepresentsProcesses processes m → user ≡ (record_at processes.table p).user → user ≡ user_at m p
 user-tied processes m p user tied is = is ∙ sym (ap (λ (i : Processes). user_at i p) tied.is)
 

@@ -48,6 +48,10 @@ stands-uncalled state views files p stands = record {
   mounted = stands.mounted;
 }
 
+-- nothing is kept of it in input and output
+pub uncalled-by : (state : FileState) (p : ℕ) {io : Io} → io ≡ with_call state.io p None → let new : FileState = record state { io = io } in new ≡ uncalled state p
+uncalled-by state p is = ap (λ (io : Io). let new : FileState = record state { io = io } in new) is
+
 -- what is kept of the volumes has changed
 abbrev pub with_disks : FileState → List (Option Volume) → FileState
 with_disks state disks = record state { disks = disks }

@@ -6,7 +6,6 @@ ghost use Rattle.io_model.specs.Status.{options};
 ghost use Rattle.rbf_access.specs.Reading.{IsFdOf};
 ghost use Rattle.rbf_model.specs.File.{DiskFile};
 ghost use Rattle.file_rules.specs.Files.{place_of_target};
-ghost use Rattle.file_rules.specs.Seek.{long_of as long_of_model};
 ghost use Rattle.file_rules.specs.Status.{descriptor_front as descriptor_front_model, long_bytes as long_bytes_model, long_regs as long_regs_model};
 
 use file_rules::status::DESCRIPTOR_BYTES;
@@ -27,13 +26,6 @@ pub(crate) fn long_regs(regs: Regs, number: u32) -> Regs
         u: (number % 65536) as u16,
         ..regs
     }
-}
-
-/// The number in X, the high half, and U (System Programmer's Manual, I$SetStt, SS.Size).
-pub(crate) fn long_of(regs: Regs) -> u32
-    ensures { result ≡ long_of_model regs }
-{
-    65536 * u32::from(regs.x) + u32::from(regs.u)
 }
 
 /// The four bytes of a number, the highest first.

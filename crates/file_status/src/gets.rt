@@ -15,13 +15,13 @@ ghost use Rattle.file_state.specs.Tie.{AreSoundFiles};
 ghost use Rattle.file_state.specs.declared.state.OpenFile.{OpenFile as KernelFile};
 ghost use Rattle.file_status.specs.Status.{EndsPathCall, IsNamedInA, gets_by_code, gets_options as gets_options_model, getting_calls, i_getstt_calls};
 
-use crate::ends::{answer, refuse};
 use crate::front::{descriptor_front, file_options, long_regs};
 use device_table::devices::Devices;
 use file_rules::status::{DESCRIPTOR_BYTES, SS_FD, SS_POS, SS_SIZE};
 use file_state::machine::Machine;
 use file_state::state::OpenFile;
 use io_model::status::{OPTION_BYTES, SS_EOF, SS_OPT, SS_READY};
+use io_state::ends::{answer, refuse};
 use io_state::requester::Requester;
 use os9_base::call::CallEnd;
 use os9_base::errors::{E_BPADDR, E_EOF, E_UNKSVC};
@@ -77,12 +77,18 @@ fn get_status_of(
     let regs = by.regs;
     match regs.b {
         SS_OPT => get_options(machine, by),
-        SS_READY => answer(machine, by, Regs { b: 0, ..regs }),
+        SS_READY => {
+            let regs = Regs { b: 0, ..regs };
+            answer(&mut machine.processes, &mut machine.files.io, by.p, regs)
+        }
         SS_SIZE => get_size(machine, devices, by, opened),
-        SS_POS => answer(machine, by, long_regs(regs, opened.desc.at)),
+        SS_POS => {
+            let regs = long_regs(regs, opened.desc.at);
+            answer(&mut machine.processes, &mut machine.files.io, by.p, regs)
+        }
         SS_EOF => get_end(machine, devices, by, opened),
         SS_FD => get_descriptor(machine, devices, by, opened),
-        _ => refuse(&mut machine.files, by.p, E_UNKSVC),
+        _ => refuse(&mut machine.files.io, by.p, E_UNKSVC),
     }
 }
 
@@ -99,10 +105,10 @@ fn get_options(machine: &mut Machine, by: Requester) -> CallEnd
         .processes
         .is_named(by.p, regs.x, OPTION_BYTES as u16)
     {
-        return refuse(&mut machine.files, by.p, E_BPADDR);
+        return refuse(&mut machine.files.io, by.p, E_BPADDR);
     }
     machine.processes.store(by.p, regs.x, &file_options());
-    answer(machine, by, regs)
+    answer(&mut machine.processes, &mut machine.files.io, by.p, regs)
 }
 
 /// SS.Size: returns the size in X and U.
@@ -122,8 +128,11 @@ fn get_size(
     ensures kept { SameTerminals by machine.new.processes devices.old devices.new }
 {
     match machine.files.disks.fd(devices, opened.place) {
-        Ok(fd) => answer(machine, by, long_regs(by.regs, fd.size)),
-        Err(fault) => refuse(&mut machine.files, by.p, fault.number()),
+        Ok(fd) => {
+            let regs = long_regs(by.regs, fd.size);
+            answer(&mut machine.processes, &mut machine.files.io, by.p, regs)
+        }
+        Err(fault) => refuse(&mut machine.files.io, by.p, fault.number()),
     }
 }
 
@@ -146,11 +155,12 @@ fn get_end(
     match machine.files.disks.fd(devices, opened.place) {
         Ok(fd) => {
             if fd.size <= opened.desc.at {
-                return refuse(&mut machine.files, by.p, E_EOF);
+                return refuse(&mut machine.files.io, by.p, E_EOF);
             }
-            answer(machine, by, Regs { b: 0, ..by.regs })
+            let regs = Regs { b: 0, ..by.regs };
+            answer(&mut machine.processes, &mut machine.files.io, by.p, regs)
         }
-        Err(fault) => refuse(&mut machine.files, by.p, fault.number()),
+        Err(fault) => refuse(&mut machine.files.io, by.p, fault.number()),
     }
 }
 
@@ -173,16 +183,16 @@ fn get_descriptor(
     let regs = by.regs;
     let count = asked_count(regs.y);
     if !machine.processes.is_named(by.p, regs.x, count) {
-        return refuse(&mut machine.files, by.p, E_BPADDR);
+        return refuse(&mut machine.files.io, by.p, E_BPADDR);
     }
     match machine.files.disks.fd(devices, opened.place) {
         Ok(fd) => {
             machine
                 .processes
                 .store(by.p, regs.x, &descriptor_front(&fd)[..count as usize]);
-            answer(machine, by, regs)
+            answer(&mut machine.processes, &mut machine.files.io, by.p, regs)
         }
-        Err(fault) => refuse(&mut machine.files, by.p, fault.number()),
+        Err(fault) => refuse(&mut machine.files.io, by.p, fault.number()),
     }
 }
 

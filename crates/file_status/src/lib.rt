@@ -1,7 +1,6 @@
 //! I$GetStt and I$SetStt of files and directories.
 #![tactic(auto)]
 
-mod ends;
 mod front;
 pub mod gets;
 pub mod sets;

@@ -22,15 +22,15 @@ ghost use Rattle.file_state.specs.Opened.{IsPathOf};
 ghost use Rattle.file_state.specs.Tie.{AreSoundFiles};
 ghost use Rattle.file_status.specs.Status.{EndsPathCall, EndsSized, IsNamedInA, SetsGranted, SetsOn, calls_by_code, granted_size_calls, i_setstt_calls, sets_by_code, setting_calls, sizes_granted, unlocked};
 
-use crate::ends::{answer, refuse};
-use crate::front::long_of;
 use device_table::devices::Devices;
 use file_rules::claim::Claim;
 use file_rules::status::{SS_ATTR, SS_LOCK, SS_SIZE, SS_TICKS, WHOLE_FILE};
 use file_state::asking::range_of;
+use file_state::long::long_of;
 use file_state::machine::Machine;
 use file_state::state::OpenFile;
-use io_model::modes::{MODE_READ, MODE_WRITE};
+use io_model::modes::{MODE_READ, can_write};
+use io_state::ends::{answer, refuse};
 use io_state::requester::Requester;
 use lock_model::lock::{Held, Range};
 use os9_base::call::CallEnd;
@@ -100,15 +100,8 @@ fn set_status_of(
         SS_TICKS => set_ticks(machine, by, opened),
         SS_LOCK => set_lock(machine, devices, by, opened),
         SS_ATTR => set_attributes(machine, devices, by, opened),
-        _ => refuse(&mut machine.files, by.p, E_UNKSVC),
+        _ => refuse(&mut machine.files.io, by.p, E_UNKSVC),
     }
-}
-
-/// May a path of this mode be written?
-fn can_write(mode: u8) -> bool
-    ensures { result ≡ can_write_model mode }
-{
-    mode & MODE_WRITE != 0
 }
 
 /// May a path of this mode be read and written? Then it may hold a lock.
@@ -136,11 +129,11 @@ fn set_size(
     ensures kept { SameTerminals by machine.new.processes devices.old devices.new }
 {
     if !can_write(opened.desc.mode) {
-        return refuse(&mut machine.files, by.p, E_BMODE);
+        return refuse(&mut machine.files.io, by.p, E_BMODE);
     }
     let old = match machine.files.disks.fd(devices, opened.place) {
         Ok(fd) => fd.size,
-        Err(fault) => return refuse(&mut machine.files, by.p, fault.number()),
+        Err(fault) => return refuse(&mut machine.files.io, by.p, fault.number()),
     };
     let range = Range {
         start: old.min(long_of(by.regs)),
@@ -202,7 +195,7 @@ fn size_granted(
     let disks = &mut machine.files.disks;
     match disks.set_size(devices, opened.place, size, by.time) {
         Ok(()) => enter_size(machine, by, opened, sizing),
-        Err(fault) => refuse(&mut machine.files, by.p, fault.number()),
+        Err(fault) => refuse(&mut machine.files.io, by.p, fault.number()),
     }
 }
 
@@ -231,7 +224,7 @@ fn enter_size(
     if records.write(opened.path.0, lock, &[]).is_err() {
         return CallEnd::NoMemory;
     }
-    answer(machine, by, by.regs)
+    answer(&mut machine.processes, &mut machine.files.io, by.p, by.regs)
 }
 
 /// Ends the lock of a path, if it holds one, and answers the call with the registers as they are.
@@ -245,7 +238,7 @@ fn end_lock(machine: &mut Machine, by: Requester, opened: &OpenFile) -> CallEnd
     ensures lives { IsLiving machine.new.processes.table by.p.0 }
 {
     machine.files.records.drop_lock(opened.path.0);
-    answer(machine, by, by.regs)
+    answer(&mut machine.processes, &mut machine.files.io, by.p, by.regs)
 }
 
 /// SS.Lock: the path holds the bytes from its position on, as many as X and U say; of none its lock
@@ -267,7 +260,7 @@ fn set_lock(
     ensures kept { SameTerminals by machine.new.processes devices.old devices.new }
 {
     if !is_for_update(opened.desc.mode) {
-        return refuse(&mut machine.files, by.p, E_BMODE);
+        return refuse(&mut machine.files.io, by.p, E_BMODE);
     }
     let count = long_of(by.regs);
     if count == 0 {
@@ -275,7 +268,7 @@ fn set_lock(
     }
     let size = match machine.files.disks.fd(devices, opened.place) {
         Ok(fd) => fd.size,
-        Err(fault) => return refuse(&mut machine.files, by.p, fault.number()),
+        Err(fault) => return refuse(&mut machine.files.io, by.p, fault.number()),
     };
     let claim = status_claim(range_locked(size, opened.desc.at, count));
     let tick = machine.processes.tick;
@@ -287,7 +280,7 @@ fn set_lock(
     if records.hold(opened.path.0, request.lock, &[]).is_err() {
         return CallEnd::NoMemory;
     }
-    answer(machine, by, by.regs)
+    answer(&mut machine.processes, &mut machine.files.io, by.p, by.regs)
 }
 
 /// The bytes that SS.Lock asks for, of a file of this size: `count` from a position on, or the
@@ -313,7 +306,7 @@ fn set_ticks(machine: &mut Machine, by: Requester, opened: &OpenFile) -> CallEnd
         (on_drives machine.old views) (on_drives machine.new views) }
     ensures lives { IsLiving machine.new.processes.table by.p.0 }
 {
-    let end = answer(machine, by, by.regs);
+    let end = answer(&mut machine.processes, &mut machine.files.io, by.p, by.regs);
     machine.files.io.set_ticks(opened.path, by.regs.x);
     end
 }
@@ -341,7 +334,7 @@ fn set_attributes(
     };
     let disks = &mut machine.files.disks;
     match disks.set_attr(devices, opened.place, asked) {
-        Ok(()) => answer(machine, by, by.regs),
-        Err(error) => refuse(&mut machine.files, by.p, error.number()),
+        Ok(()) => answer(&mut machine.processes, &mut machine.files.io, by.p, by.regs),
+        Err(error) => refuse(&mut machine.files.io, by.p, error.number()),
     }
 }

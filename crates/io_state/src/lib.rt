@@ -2,6 +2,7 @@
 //! kernel keeps them.
 #![tactic(auto)]
 
+pub mod ends;
 mod files;
 mod processes;
 pub mod requester;

@@ -1,9 +1,7 @@
 -- The kernel's processes, and those of the machine that they are.
-use Rattle.std.proofs.Common.{◌≡◌, ◌∙◌, ◌<◌, ℕ, Option, List, ap, sym, subst}
+use Rattle.std.proofs.Common.{◌≡◌, ◌∙◌, ◌<◌, ℕ, Option, List, ap, subst}
 use Rattle.os9_base.specs.Cells.{Cells}
-use Rattle.io_state.specs.Context.{InCall}
-use Rattle.io_state.specs.declared.requester.Requester.{Requester}
-use Rattle.proc_model.specs.Processes.{Processes, cells_at, regs_at, user_at}
+use Rattle.proc_model.specs.Processes.{Processes, cells_at, user_at}
 use Rattle.guest_memory.specs.Tie.{cells_of}
 use Rattle.guest_memory.proofs.Seen.{cells_of-seen}
 use Rattle.device_paths.specs.Standing.{NamesFrom}
@@ -26,10 +24,6 @@ same-processes before mid after one other = record {
 -- the user of a process
 pub same-user : (s : ProcState) (m : Processes) (p : ℕ) → RepresentsProcesses s m → user_at m p ≡ (record_at s.table p).user
 same-user s m p tied = ap (λ (i : Processes). user_at i p) tied.is
-
--- the registers at a call
-pub regs-are : (by : Requester) (s : ProcState) (m : Processes) → InCall by s → RepresentsProcesses s m → by.regs ≡ regs_at m by.p.0
-regs-are by s m calls tied = calls.regs ∙ ap (λ (m : Processes). regs_at m by.p.0) (sym tied.is)
 
 -- names that stand in its memory
 pub names-seen : (s : ProcState) (m : Processes) (p : ℕ) (first : Option ℕ) (names : List (List ℕ)) → p < 33

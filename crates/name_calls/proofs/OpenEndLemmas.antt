@@ -33,9 +33,6 @@ use Rattle.name_calls.proofs.OpenCallLemmas.{calls-reached}
 use Rattle.name_calls.specs.Ends.{EndsQuietly, HasReadIn}
 
 -- who calls, as the kernel has it
-pub regs-tied : (s : ProcState) (m : Processes) (p : ℕ) → RepresentsProcesses s m → (record_at m.records p).regs ≡ (record_at s.table p).regs
-regs-tied s m p tied = ap (λ (it : Processes). (record_at it.records p).regs) tied.is
-
 pub user-tied : (s : ProcState) (m : Processes) (p : ℕ) → RepresentsProcesses s m → user_at m p ≡ (record_at s.table p).user
 user-tied s m p tied = ap (λ (it : Processes). user_at it p) tied.is
 

@@ -24,12 +24,13 @@ use Rattle.file_rules.specs.Step.{Deed, FileEffect, FileStep, MayBeLeft, Step, c
 use Rattle.file_rules.specs.Route.{Found, list_of, reads_list, walk_ends, walks, route_of}
 use Rattle.file_rules.specs.Route as Rule
 use Rattle.lock_model.specs.declared.place.FilePlace.{FilePlace}
+use Rattle.proc_state.proofs.Tied.{regs-tied}
 use Rattle.file_routes.proofs.RouteLemmas.{leads-on, mode-tested}
 use Rattle.file_routes.specs.Routes.{IsRoute, Led, leads, mode_refusal, next_step, route_for, route_on}
 use Rattle.file_routes.specs.declared.route.Route.{Route}
 use Rattle.file_routes.specs.declared.route.Course.{Course}
 use Rattle.file_routes.specs.declared.route.Purpose.TheVariants.{Existing}
-use Rattle.name_calls.proofs.OpenEndLemmas.{regs-tied, user-tied}
+use Rattle.name_calls.proofs.OpenEndLemmas.{user-tied}
 use Rattle.name_calls.specs.Steps.{begins}
 
 -- ---- what it does is done where no drive failed
@@ -145,7 +146,7 @@ module _ (asker : Asker) (files : Files) (list : PathList) (found : Found) where
 
 module _ (s : ProcState) (m : Processes) (p : ℕ) (tied : RepresentsProcesses s m) (regs : Regs) (regs_are : regs ≡ (record_at s.table p).regs) where
   pub mode-tied : (regs_at m p).a ≡ regs.a
-  mode-tied = ap (λ (regs : Regs). regs.a) (regs-tied s m p tied ∙ sym regs_are)
+  mode-tied = ap (λ (regs : Regs). regs.a) (sym (regs_are ∙ regs-tied s m p tied))
 
   pub may-tied : (file : DiskFile) (user : ℕ) → user ≡ (record_at s.table p).user → may_open file (user_at m p) (regs_at m p).a ≡ may_open file user regs.a
   may-tied file user user_is =

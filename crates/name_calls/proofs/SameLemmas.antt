@@ -1,7 +1,6 @@
 -- Processes and their memory, as the calls on names of files need them.
 use Rattle.std.proofs.Common.{◌≡◌, ◌∙◌, ℕ, ◌<◌, Option, ap, sym, subst}
-use Rattle.io_state.specs.declared.requester.Requester.{Requester}
-use Rattle.proc_model.specs.Processes.{Processes, cells_at, regs_at, user_at}
+use Rattle.proc_model.specs.Processes.{Processes, cells_at, user_at}
 use Rattle.guest_memory.proofs.Seen.{cells_of-seen}
 use Rattle.guest_memory.specs.Tie.{cells_of}
 use Rattle.os9_base.specs.Cells.{Cells}
@@ -25,10 +24,6 @@ is-same-then first middle last was is = record {
 -- the user of a process
 pub user-is : (s : ProcState) (m : Processes) (p user : ℕ) → RepresentsProcesses s m → user ≡ (record_at s.table p).user → user_at m p ≡ user
 user-is s m p user tied is = ap (λ (m : Processes). user_at m p) tied.is ∙ sym is
-
--- the registers at a call
-pub regs-are : (by : Requester) (s : ProcState) (m : Processes) → by.regs ≡ (record_at s.table by.p.0).regs → RepresentsProcesses s m → by.regs ≡ regs_at m by.p.0
-regs-are by s m same tied = same ∙ ap (λ (m : Processes). regs_at m by.p.0) (sym tied.is)
 
 -- a machine sees some names of a list, if the kernel does
 pub some-names : (s : ProcState) (p : ℕ) (first : Option ℕ) → p < 33 → (m : Processes) (tied : RepresentsProcesses s m) → SomeFrom (cells_of s.memory p) first → SomeFrom (cells_at m p) first

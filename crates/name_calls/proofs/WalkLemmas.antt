@@ -24,6 +24,7 @@ use Rattle.file_rules.specs.Files.{Files, volume_at, with_drives}
 use Rattle.file_rules.specs.Step.{FileDoes, FileStep, MayBeLeft, deed_of, drive_of, reaches, refuses_so}
 use Rattle.file_rules.specs.Route.{Found, walks, IsFoundAt}
 use Rattle.lock_model.specs.declared.place.FilePlace.{FilePlace}
+use Rattle.proc_state.proofs.Tied.{regs-tied}
 use Rattle.file_drives.specs.Drives.{DriveView, drive_states}
 use Rattle.file_drives.specs.Mounted.{HasFileAt}
 use Rattle.file_state.proofs.CountLemmas.{called-read}
@@ -37,7 +38,7 @@ use Rattle.file_routes.specs.Reached.{FindsFilePlace}
 use Rattle.file_routes.specs.Walks.{WalksAlongNames}
 use Rattle.file_routes.specs.declared.walk.Walker.{Walker}
 use Rattle.name_calls.proofs.OpenCallLemmas.{walk-found, walk-within}
-use Rattle.name_calls.proofs.OpenEndLemmas.{broken, ends-as, read-ends, read-more, regs-tied, user-tied, well-refused}
+use Rattle.name_calls.proofs.OpenEndLemmas.{broken, ends-as, read-ends, read-more, user-tied, well-refused}
 use Rattle.file_routes.specs.Calls.{walk_and}
 use Rattle.name_calls.specs.Ends.{HasReadIn}
 use Rattle.name_calls.specs.Steps.{walker_at}
@@ -188,7 +189,7 @@ pub record IsWalkerOf (m : Processes) (p : ℕ) (walker : Walker) : Type 0 where
 pub walker-tied : (s : ProcState) (m : Processes) (p : Pid) (walker : Walker) → RepresentsProcesses s m → walker ≡ walker_at s p → IsWalkerOf m p.0 walker
 walker-tied s m p walker tied is = subst (IsWalkerOf m p.0) (sym is) (record {
   user = user-tied s m p.0 tied;
-  execute = ap (λ (regs : Regs). is_for_execution regs.a) (sym (regs-tied s m p.0 tied));
+  execute = ap (λ (regs : Regs). is_for_execution regs.a) (regs-tied s m p.0 tied);
   stand = λ first names stand. stand;
   names = λ first names from. from;
 })

@@ -15,9 +15,9 @@ ghost use Rattle.io_state.specs.Files.{IsOnDisk};
 ghost use Rattle.os9_base.specs.declared.registers.TimePacket.{TimePacket};
 ghost use Rattle.proc_state.specs.Tie.{RepresentsProcesses};
 
-use device_paths::ends::{answer, refuse};
 use file_state::machine::Machine;
 use io_model::path::{PathsFull, Target};
+use io_state::ends::{answer, refuse};
 use io_state::requester::Requester;
 use os9_base::call::CallEnd;
 use os9_base::errors::E_PTHFUL;

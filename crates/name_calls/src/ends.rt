@@ -14,8 +14,8 @@ ghost use Rattle.os9_outer.specs.TerminalState.{TerminalState};
 ghost use Rattle.proc_model.specs.Records.{IsLiving};
 ghost use Rattle.proc_state.specs.Tie.{RepresentsProcesses};
 
-use device_paths::ends::{answer, refuse};
 use file_state::machine::Machine;
+use io_state::ends::{answer, refuse};
 use io_state::requester::Requester;
 use os9_base::call::CallEnd;
 use os9_base::registers::Regs;

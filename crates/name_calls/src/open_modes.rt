@@ -2,12 +2,12 @@
 
 ghost use Rattle.std.specs.Prelude.{◌≡◌, ◌<◌, false};
 ghost use Rattle.file_rules.specs.Open.{is_for_execution as is_for_execution_model, may_open as may_open_model, opens_kind as opens_kind_model, says_directory as says_directory_model};
-ghost use Rattle.io_model.specs.Modes.{can_write as can_write_model, is_mode as is_mode_model};
+ghost use Rattle.io_model.specs.Modes.{is_mode as is_mode_model};
 ghost use Rattle.rbf_access.specs.Reading.{IsFdOf};
 ghost use Rattle.rbf_model.specs.File.{DiskFile, is_directory as is_directory_model};
 
 use file_rules::status::DIRECTORY;
-use io_model::modes::{MODE_EXECUTE, MODE_READ, MODE_WRITE};
+use io_model::modes::{MODE_EXECUTE, MODE_READ, MODE_WRITE, can_write};
 use rbf_sector::Fd;
 use rbf_walk::may;
 
@@ -23,13 +23,6 @@ pub(crate) fn is_mode(mode: u8) -> bool
     ensures { result ≡ is_mode_model mode }
 {
     mode & (MODE_READ + MODE_WRITE + MODE_EXECUTE) != 0
-}
-
-/// May a file that is opened with this mode be written?
-pub(crate) fn can_write(mode: u8) -> bool
-    ensures { result ≡ can_write_model mode }
-{
-    mode & MODE_WRITE != 0
 }
 
 /// Is the file of a descriptor a directory?

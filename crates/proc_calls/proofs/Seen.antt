@@ -1,14 +1,10 @@
 -- What the processes of the machine see and have.
-use Rattle.std.proofs.Common.{◌≡◌, ℕ, ◌<◌, sym, ap}
+use Rattle.std.proofs.Common.{◌≡◌, ℕ, ◌<◌}
 use Rattle.guest_memory.specs.Tie.{cells_of}
 use Rattle.guest_memory.proofs.Seen.{cells_of-seen}
-use Rattle.proc_model.specs.Processes.{Processes, cells_at, regs_at}
-use Rattle.proc_model.specs.Records.{record_at}
+use Rattle.proc_model.specs.Processes.{Processes, cells_at}
 use Rattle.proc_state.specs.declared.state.ProcState.{ProcState}
 use Rattle.proc_state.specs.Tie.{RepresentsProcesses}
 
 pub cells_seen : (s : ProcState) (p : ℕ) → p < 33 → (m : Processes) → RepresentsProcesses s m → cells_of s.memory p ≡ cells_at m p
 cells_seen s p within m tied = cells_of-seen s.memory p within m.memory tied.memory
-
-pub regs_seen : (s : ProcState) (p : ℕ) (m : Processes) → RepresentsProcesses s m → (record_at s.table p).regs ≡ regs_at m p
-regs_seen s p m tied = sym (ap (λ (i : Processes). regs_at i p) tied.is)

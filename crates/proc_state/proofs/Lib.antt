@@ -11,3 +11,4 @@ pub mod UserBytes
 pub mod FreeNumbers
 mod Choosing
 mod Registers
+pub mod Tied

@@ -6,11 +6,11 @@ use Rattle.call_dispatch.proofs.Quiet.{is-first}
 use Rattle.io_model.specs.declared.io_call.IoCall.TheVariants as Device
 use Rattle.io_state.proofs.OpenedLemmas.{opened-slot}
 use Rattle.proc_model.specs.Records.{record_at}
+use Rattle.io_state.proofs.RequesterLemmas.{called-regs}
 use Rattle.file_rules.specs.Files.{open_file}
 use Rattle.file_rules.specs.declared.path_call.PathCall.TheVariants as Call
 use Rattle.file_state.proofs.KeepLemmas.{ends-attempt}
 use Rattle.file_state.specs.Opened.{path_of}
-use Rattle.file_io.proofs.TryingLemmas.{regs-tied}
 use Rattle.call_dispatch.proofs.Closing.{close-file-ends}
 use Rattle.call_dispatch.proofs.Lifting.{tries-of}
 use Rattle.call_dispatch.proofs.OnPaths.{closes-on-device, nothing-kept, something-kept}
@@ -32,7 +32,7 @@ close_file-requires-clause-there g c = c.in-Some.ensures.path.place
 pub returns-in-Some-clause-call : goal.returns-in-Some-clause-call
 returns-in-Some-clause-call g c now m was tied stands kinds =
     let p = c.args.by.p.0 in
-    let same : c.args.by.regs ≡ regs_at m p = c.requires.calls.regs ∙ regs-tied c.args.machine.now.processes m p tied in
+    let same : c.args.by.regs ≡ regs_at m p = called-regs c.args.by c.args.machine.now.processes m c.requires.calls tied in
     tries-of Call.Close m was now p CallEnd.Done _ _ _ _
     (ends-attempt 0 Call.Close m was now p CallEnd.Done _ _ _
     (close-file-ends m was now p c.set_regs.new.self c.args.machine.now.files c.close_file.new.self _ _ c.in-Some.opened c.args.by.regs stands
@@ -42,6 +42,6 @@ returns-in-Some-clause-call g c now m was tied stands kinds =
 pub returns-in-None-clause-call : goal.returns-in-None-clause-call
 returns-in-None-clause-call g c now m was tied stands kinds =
     let p = c.args.by.p.0 in
-    let same : c.args.by.regs ≡ regs_at m p = c.requires.calls.regs ∙ regs-tied c.args.machine.now.processes m p tied in
+    let same : c.args.by.regs ≡ regs_at m p = called-regs c.args.by c.args.machine.now.processes m c.requires.calls tied in
     let none : open_file was p (regs_at m p).a ≡ None = subst (λ (r : Regs). open_file was p r.a ≡ None) same (c.in-None.ensures.file _ was stands kinds) in
     c.attempt_on_device.ensures.call Call.Close m was now tied stands (closes-on-device m was now p 0 [] none)

@@ -3,9 +3,9 @@ use denote.Enum.Bare.{same_true}
 use Rattle.os9_base.specs.declared.registers.Regs.{Regs}
 use Rattle.io_model.specs.Again.{path_number}
 use Rattle.proc_model.specs.Records.{record_at}
+use Rattle.io_state.proofs.RequesterLemmas.{called-regs}
 use Rattle.call_dispatch.specs.contracts.path_use.PathUse.{the_type}
 use Rattle.call_dispatch.specs.declared.path_use.PathUse.TheVariants as Use
-use Rattle.file_io.proofs.TryingLemmas.{regs-tied}
 use Rattle.call_dispatch.proofs.Lifting.{tries-or}
 use Rattle.call_dispatch.proofs.OnPaths.{none-named, not-false, on-device-as, something-kept, status-first}
 use Rattle.call_dispatch.specs.Uses.{call_of, device_of}
@@ -20,7 +20,7 @@ pub returns-after-is_none-clause-call : goal.returns-after-is_none-clause-call
 returns-after-is_none-clause-call g c time is m was tied stands kinds =
     let p = c.args.by.p.0 in
     let none = none-named was p (device_of c.args.call) m c.args.by.regs c.path_number.result
-    c.path_number.ensures (c.requires.calls.regs ∙ regs-tied c.args.machine.now.processes m p tied)
+    c.path_number.ensures (called-regs c.args.by c.args.machine.now.processes m c.requires.calls tied)
     (c.in-None.ensures.file _ was stands kinds) in
     c.attempt_on_device.ensures.call (call_of c.args.call) m was time tied stands (on-device-as m was time p _ _ c.args.call c.on_device.result c.on_device.ensures none)
 

@@ -3,8 +3,8 @@ use Rattle.os9_base.specs.declared.errors.TheConstants.{E_EOF, E_WRITE}
 use Rattle.io_model.specs.declared.pipe.PipeAns.TheVariants.{Done, Wait, End, NoReader}
 use Rattle.io_model.specs.Io.{Io}
 use Rattle.io_state.specs.Sound.{MayWait}
+use Rattle.io_state.proofs.RequesterLemmas.{called-regs}
 use Rattle.device_io.proofs.LeavingLemmas.{leaves-answer, leaves-refusal, leaves-wait, read-leaves}
-use Rattle.device_io.proofs.MovingLemmas.{called-regs}
 use Rattle.device_io.proofs.pipe_reads.read_pipe.Goals as goal
 
 pub keep-requires-clause-may : goal.keep-requires-clause-may

@@ -13,9 +13,9 @@ use Rattle.io_model.specs.Pipes.{count_regs, line_end}
 use Rattle.io_model.specs.Step.{answers, keeps, stores}
 use Rattle.io_state.specs.Sound.{MayWait}
 use Rattle.proc_state.proofs.Living.{IsProcess-living}
+use Rattle.io_state.proofs.RequesterLemmas.{called-regs}
 use Rattle.device_io.specs.Leaving.{LeavesIoState}
 use Rattle.device_io.proofs.LeavingLemmas.{fits-behind, leaves-answer, leaves-refusal, leaves-wait, line-leaves, may-wait-on}
-use Rattle.device_io.proofs.MovingLemmas.{called-regs}
 use Rattle.device_io.proofs.pipe_reads.read_pipe_line.Goals as goal
 
 pub store-requires-clause-fits : goal.store-requires-clause-fits

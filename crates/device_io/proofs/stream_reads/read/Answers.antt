@@ -11,7 +11,8 @@ use Rattle.io_model.specs.Io.{OpenPath, pending_at}
 use Rattle.io_model.specs.Read.{pipe_read, reads_target, IsReadAllowed}
 use Rattle.io_model.specs.Step.{comes, done, refused}
 use Rattle.io_state.specs.Sound.{IsNoRead}
-use Rattle.device_io.proofs.MovingLemmas.{called-read, called-regs, kept-none, stays-read}
+use Rattle.io_state.proofs.RequesterLemmas.{called-regs}
+use Rattle.device_io.proofs.MovingLemmas.{called-read, kept-none, stays-read}
 use Rattle.device_io.proofs.PassingLemmas.{reads-nothing, reads-on, unnamed, unopened, unreadable}
 use Rattle.device_io.proofs.TryingLemmas.{tries-comes, tries-done, tries-refused, tries-same}
 use Rattle.device_io.specs.Moving.{read_step}

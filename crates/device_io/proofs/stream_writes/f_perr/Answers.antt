@@ -4,8 +4,8 @@ use Rattle.io_model.specs.Line.{line_length}
 use Rattle.io_model.specs.Attempts.{caller_of}
 use Rattle.io_model.specs.Write as model
 use Rattle.io_model.specs.declared.io_call.IoCall.TheVariants as Call
+use Rattle.io_state.proofs.RequesterLemmas.{called-regs}
 use Rattle.device_io.proofs.LineLemmas.{error-whole}
-use Rattle.device_io.proofs.MovingLemmas.{called-regs}
 use Rattle.device_io.proofs.SendingLemmas.{error-tries}
 use Rattle.device_io.proofs.TryingLemmas.{attempts-of, wants-of}
 use Rattle.device_io.proofs.stream_writes.f_perr.Goals as goal

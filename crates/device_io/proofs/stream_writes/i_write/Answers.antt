@@ -11,8 +11,8 @@ use Rattle.io_model.specs.Transfer.{on_path, unless_nothing}
 use Rattle.io_model.specs.Write as model
 use Rattle.io_model.specs.Write.{sends_on, sent_bytes}
 use Rattle.io_model.specs.declared.io_call.IoCall.TheVariants as Call
+use Rattle.io_state.proofs.RequesterLemmas.{called-regs}
 use Rattle.device_io.proofs.LineLemmas.{user-length}
-use Rattle.device_io.proofs.MovingLemmas.{called-regs}
 use Rattle.device_io.proofs.ReadingLemmas.{read-none, read-some, sends-read}
 use Rattle.device_io.proofs.SendingLemmas.{bytes-tries}
 use Rattle.device_io.proofs.TryingLemmas.{attempts-of, tries-needs-none, tries-refused, wants-of}

@@ -13,12 +13,13 @@ use Rattle.io_model.specs.Write as model
 use Rattle.io_model.specs.Write.{line_bytes, sends_on, sent_line}
 use Rattle.io_model.specs.declared.io_call.IoCall.TheVariants as Call
 use Rattle.device_io.proofs.LineLemmas.{IsSentLine, sent-line}
-use Rattle.device_io.proofs.MovingLemmas.{called-regs, regs-tied}
 use Rattle.device_io.proofs.ReadingLemmas.{read-none, read-some, sends-read}
 use Rattle.device_io.proofs.SendingLemmas.{kept-same, line-tries}
 use Rattle.device_io.proofs.TryingLemmas.{attempts-of, tries-needs-none, tries-refused, wants-of}
 use Rattle.io_model.specs.Line.{line_length}
 use Rattle.io_model.specs.declared.pending.PendingCall.{PendingCall}
+use Rattle.io_state.proofs.RequesterLemmas.{called-regs}
+use Rattle.proc_state.proofs.Tied.{regs-tied}
 use Rattle.device_io.specs.Reading.{AreWriteBytesRead}
 use Rattle.device_io.specs.declared.sending.WriteKind.TheVariants.{Line}
 use Rattle.device_io.proofs.stream_writes.i_writln.Goals as goal

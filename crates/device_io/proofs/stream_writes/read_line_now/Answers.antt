@@ -7,7 +7,7 @@ use Rattle.io_model.specs.declared.pending.PendingCall.{PendingCall}
 use Rattle.io_model.specs.Attempts.{caller_of}
 use Rattle.io_model.specs.Io.{pending_at}
 use Rattle.io_model.specs.Write.{line_bytes}
-use Rattle.device_io.proofs.MovingLemmas.{called-regs}
+use Rattle.io_state.proofs.RequesterLemmas.{called-regs}
 use Rattle.device_io.proofs.ReadingLemmas.{read-all}
 use Rattle.device_io.proofs.stream_writes.read_line_now.Goals as goal
 

@@ -8,8 +8,8 @@ use Rattle.io_model.specs.Attempts.{caller_of}
 use Rattle.io_model.specs.Terminals.{read_ends}
 use Rattle.io_state.specs.Terminals.{count_of}
 use Rattle.proc_state.specs.Tie.{RepresentsProcesses}
+use Rattle.io_state.proofs.RequesterLemmas.{called-regs}
 use Rattle.device_io.specs.Trying.{EndsBy}
-use Rattle.device_io.proofs.MovingLemmas.{called-regs}
 use Rattle.device_io.proofs.terminals.end_read.Goals as goal
 
 pub returns-in-Done-clause-ends : goal.returns-in-Done-clause-ends

@@ -1,8 +1,8 @@
 use Rattle.io_model.specs.Step.{TerminalRead}
 use Rattle.std.proofs.Common.{take}
 use Rattle.io_state.specs.Terminals.{count_of}
+use Rattle.io_state.proofs.RequesterLemmas.{called-regs}
 use Rattle.device_io.proofs.DeviceLemmas.{tries-read}
-use Rattle.device_io.proofs.MovingLemmas.{called-regs}
 use Rattle.device_io.proofs.terminals.read_terminal.Goals as goal
 
 pub returns-clause-call : goal.returns-clause-call

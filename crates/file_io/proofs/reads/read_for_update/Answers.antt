@@ -21,10 +21,10 @@ use Rattle.file_state.specs.declared.state.FileState.{FileState}
 use Rattle.file_io.proofs.ClaimLemmas.{as-fault, counts, file-stays, goes-on}
 use Rattle.file_io.proofs.ReadingLemmas.{begins, not-le}
 use Rattle.file_io.proofs.RequestingLemmas.{read-request, reading-asks, reading-ends, reading-fails, reading-goes}
-use Rattle.file_io.proofs.TryingLemmas.{regs-tied}
 use Rattle.file_io.specs.Opened.{IsPathOf, found_on}
 use Rattle.file_io.proofs.reads.read_for_update.Goals as goal
 use Rattle.io_state.specs.Sound.{ReadsNoTerminal}
+use Rattle.io_state.proofs.RequesterLemmas.{called-regs}
 
 pub returns-in-Err-clause-call : goal.returns-in-Err-clause-call
 returns-in-Err-clause-call g c now m was v file terms tied stands is there =
@@ -85,7 +85,7 @@ returns-in-Some-clause-call g c now m was v file terms tied stands is there =
     let tick_is : m.tick ≡ tick = ap (λ (i : Processes). i.tick) tied.is in
     let request = c.request_now-request.result in
     let grant = answer_in locks p tick request in
-    let y_is : (regs_at m p).y ≡ c.args.by.regs.y = ap (λ (r : Regs). r.y) (sym (c.requires.calls.calls.regs ∙ regs-tied c.args.machine.now.processes m p tied)) in
+    let y_is : (regs_at m p).y ≡ c.args.by.regs.y = ap (λ (r : Regs). r.y) (sym (called-regs c.args.by c.args.machine.now.processes m c.requires.calls.calls tied)) in
     let same : request_now asker was found (read_claim kind asker found start) ≡ request =
     read-request kind m was now c.args.by.p opened v file c.code_of.result c.in-Ok.size c.position-at.result start c.args.by.regs.y c.from.result
     c.range_of.result locks tick request c.code_of.ensures y_is locks_are tick_is
@@ -159,7 +159,7 @@ returns-clause-call g c now m was v file terms tied stands is there =
     let tick_is : m.tick ≡ tick = ap (λ (i : Processes). i.tick) tied.is in
     let request = c.request_now-request.result in
     let grant = answer_in locks p tick request in
-    let y_is : (regs_at m p).y ≡ c.args.by.regs.y = ap (λ (r : Regs). r.y) (sym (c.requires.calls.calls.regs ∙ regs-tied c.args.machine.now.processes m p tied)) in
+    let y_is : (regs_at m p).y ≡ c.args.by.regs.y = ap (λ (r : Regs). r.y) (sym (called-regs c.args.by c.args.machine.now.processes m c.requires.calls.calls tied)) in
     let same : request_now asker was found (read_claim kind asker found start) ≡ request =
     read-request kind m was now c.args.by.p opened v file c.code_of.result c.in-Ok.size c.position-at.result start c.args.by.regs.y c.from.result
     c.range_of.result locks tick request c.code_of.ensures y_is locks_are tick_is

@@ -6,13 +6,13 @@ use Rattle.rbf_access.specs.Reading.{read_calls}
 use Rattle.rbf_change.specs.Contents.{bytes_from}
 use Rattle.rbf_model.specs.File.{DiskFile}
 use Rattle.rbf_model.specs.Volume.{DiskVolume}
+use Rattle.io_state.proofs.RequesterLemmas.{called-regs}
 use Rattle.file_state.proofs.CountLemmas.{called-more, called-read}
 use Rattle.file_state.proofs.ReachedLemmas.{file-there, has-read}
 use Rattle.file_state.proofs.RequestLemmas.{IsFault, fault-of, stands-restored}
 use Rattle.file_state.specs.declared.state.FileState.{FileState}
 use Rattle.file_io.proofs.ClaimLemmas.{as-fault}
 use Rattle.file_io.proofs.ReadingLemmas.{granted-broken, granted-gives, room-stays}
-use Rattle.file_io.proofs.TryingLemmas.{regs-tied}
 use Rattle.file_io.specs.Ending.{GivesLocked}
 use Rattle.file_io.specs.Reading.{part_of}
 use Rattle.file_io.proofs.reads.read_granted.Goals as goal
@@ -25,7 +25,7 @@ returns-in-Ok-clause-call g c now m was v file terms tied stands is there =
     let kind = c.args.reading.kind in
     let at = lock.range.start in
     let s = c.load.new.s in
-    let same : c.args.by.regs ≡ regs_at m p = c.requires.calls.calls.regs ∙ regs-tied c.args.machine.now.processes m p tied in
+    let same : c.args.by.regs ≡ regs_at m p = called-regs c.args.by c.args.machine.now.processes m c.requires.calls.calls tied in
     let old : FileState = record c.args.machine.now.files { records = was.records } in
     let mid : FileState = record c.args.machine.now.files { disks = c.load.new.disks } in
     let read_state : FileState = record mid { records = was.records } in
@@ -50,7 +50,7 @@ returns-in-Err-clause-call g c now m was v file terms tied stands is there =
     let opened = c.args.opened.now in
     let lock = c.args.reading.lock in
     let at = lock.range.start in
-    let same : c.args.by.regs ≡ regs_at m p = c.requires.calls.calls.regs ∙ regs-tied c.args.machine.now.processes m p tied in
+    let same : c.args.by.regs ≡ regs_at m p = called-regs c.args.by c.args.machine.now.processes m c.requires.calls.calls tied in
     let old : FileState = record c.args.machine.now.files { records = was.records } in
     let mid : FileState = record c.args.machine.now.files { disks = c.load.new.disks } in
     let read_state : FileState = record mid { records = was.records } in

@@ -7,11 +7,12 @@ use Rattle.proc_model.specs.Processes.{regs_at, with_regs_of}
 use Rattle.io_model.specs.Io.{Io}
 use Rattle.io_model.specs.Modes.{can_read}
 use Rattle.proc_state.specs.Tie.{RepresentsProcesses}
+use Rattle.io_state.proofs.RequesterLemmas.{called-regs}
 use Rattle.file_rules.specs.Attempts.{asker_of}
 use Rattle.file_rules.specs.Step.{done}
 use Rattle.file_state.specs.declared.state.FileState.{FileState}
 use Rattle.file_io.proofs.ReadingLemmas.{buffer-lacks, buffer-there, read-behind, where-lacks, where-named, where-readable, where-some}
-use Rattle.file_io.proofs.TryingLemmas.{ends-if-true, ends-refuses-true, regs-tied, tries-done, tries-refused}
+use Rattle.file_io.proofs.TryingLemmas.{ends-if-true, ends-refuses-true, tries-done, tries-refused}
 use Rattle.file_io.specs.Opened.{found_on}
 use Rattle.file_io.specs.Reading.{read_file, read_named}
 use Rattle.file_io.proofs.reads.read_opened.Goals as goal
@@ -20,7 +21,7 @@ pub returns-then-not-is_named-clause-call : goal.returns-then-not-is_named-claus
 returns-then-not-is_named-clause-call g c now m was v file terms tied stands is there =
     let p = c.args.by.p.0 in
     let old = c.args.machine.now in
-    let same : c.args.by.regs ≡ regs_at m p = c.requires.calls.calls.regs ∙ regs-tied old.processes m p tied in
+    let same : c.args.by.regs ≡ regs_at m p = called-regs c.args.by old.processes m c.requires.calls.calls tied in
     let new : FileState = record old.files { io = c.refuse.new.io } in
     where-lacks c.args.kind m was now p c.args.opened.now v file c.refuse.result old.processes new _ _ _ terms
     (buffer-lacks m p c.args.by.regs c.is_named.result same (c.is_named.ensures.there m tied) c.if-not-is_named.true)
@@ -32,7 +33,7 @@ returns-then-not-can_read-clause-call g c now m was v file terms tied stands is 
     let p = c.args.by.p.0 in
     let old = c.args.machine.now in
     let end = c.refuse-then-not-can_read.result in
-    let same : c.args.by.regs ≡ regs_at m p = c.requires.calls.calls.regs ∙ regs-tied old.processes m p tied in
+    let same : c.args.by.regs ≡ regs_at m p = called-regs c.args.by old.processes m c.requires.calls.calls tied in
     let new : FileState = record old.files { io = c.refuse-then-not-can_read.new.io } in
     where-named c.args.kind m was now p c.args.opened.now v file end old.processes new _ _ _ terms
     (buffer-there m p c.args.by.regs c.is_named.result same (c.is_named.ensures.there m tied) c.if-not-is_named.false)
@@ -46,7 +47,7 @@ returns-then-regs-eq0-clause-call g c now m was v file terms tied stands is ther
     let p = c.args.by.p.0 in
     let old = c.args.machine.now in
     let end = c.answer.result in
-    let same : c.args.by.regs ≡ regs_at m p = c.requires.calls.calls.regs ∙ regs-tied old.processes m p tied in
+    let same : c.args.by.regs ≡ regs_at m p = called-regs c.args.by old.processes m c.requires.calls.calls tied in
     let none : (regs_at m p).y ≡ 0 = subst (λ (r : Regs). r.y ≡ 0) same c.if-regs-eq0.true in
     let new : FileState = record old.files { io = c.answer.new.io } in
     where-readable c.args.kind m was now p c.args.opened.now v file end c.answer.new.s new _ _ _ terms
@@ -70,7 +71,7 @@ pub returns-then-is_for_update-clause-call : goal.returns-then-is_for_update-cla
 returns-then-is_for_update-clause-call g c now m was v file terms tied stands is there =
     let p = c.args.by.p.0 in
     let left = c.read_for_update.new.machine in
-    let same : c.args.by.regs ≡ regs_at m p = c.requires.calls.calls.regs ∙ regs-tied c.args.machine.now.processes m p tied in
+    let same : c.args.by.regs ≡ regs_at m p = called-regs c.args.by c.args.machine.now.processes m c.requires.calls.calls tied in
     where-some c.args.kind m was now p c.args.opened.now v file c.read_for_update.result left.processes left.files _ _ _ terms
     (buffer-there m p c.args.by.regs c.is_named.result same (c.is_named.ensures.there m tied) c.if-not-is_named.false)
     (sym c.can_read.ensures ∙ c.if-not-can_read.false)
@@ -91,7 +92,7 @@ returns-in-Ok-clause-call g c now m was v file terms tied stands is there =
     let opened = c.args.opened.now in
     let old = c.args.machine.now in
     let left = c.give.new.machine in
-    let same : c.args.by.regs ≡ regs_at m p = c.requires.calls.calls.regs ∙ regs-tied old.processes m p tied in
+    let same : c.args.by.regs ≡ regs_at m p = called-regs c.args.by old.processes m c.requires.calls.calls tied in
     where-some c.args.kind m was now p opened v file c.give.result left.processes left.files _ _ _ terms
     (buffer-there m p c.args.by.regs c.is_named.result same (c.is_named.ensures.there m tied) c.if-not-is_named.false)
     (sym c.can_read.ensures ∙ c.if-not-can_read.false)
@@ -109,7 +110,7 @@ returns-in-Err-clause-call g c now m was v file terms tied stands is there =
     let end = c.refuse-in-Err.result in
     let s = c.load.new.s in
     let new : FileState = record old.files { disks = c.load.new.disks; io = c.refuse-in-Err.new.io } in
-    let same : c.args.by.regs ≡ regs_at m p = c.requires.calls.calls.regs ∙ regs-tied old.processes m p tied in
+    let same : c.args.by.regs ≡ regs_at m p = called-regs c.args.by old.processes m c.requires.calls.calls tied in
     where-some c.args.kind m was now p opened v file end s new _ _ _ terms
     (buffer-there m p c.args.by.regs c.is_named.result same (c.is_named.ensures.there m tied) c.if-not-is_named.false)
     (sym c.can_read.ensures ∙ c.if-not-can_read.false)

@@ -4,6 +4,7 @@ use Rattle.os9_base.specs.declared.registers.Regs.{Regs}
 use Rattle.proc_model.specs.Processes.{regs_at, with_regs_of}
 use Rattle.io_model.specs.Io.{Io, with_call}
 use Rattle.proc_state.specs.Tie.{RepresentsProcesses}
+use Rattle.io_state.proofs.RequesterLemmas.{called-regs}
 use Rattle.file_rules.specs.Attempts.{asker_of}
 use Rattle.file_rules.specs.Files.{with_io}
 use Rattle.file_rules.specs.Seek.{long_of}
@@ -12,7 +13,7 @@ use Rattle.file_rules.specs.declared.path_call.PathCall.TheVariants as Call
 use Rattle.file_state.specs.Ends.{EndsFileAttempt}
 use Rattle.file_state.specs.declared.state.FileState.{FileState}
 use Rattle.file_io.proofs.CallLemmas.{known-a, seek-step}
-use Rattle.file_io.proofs.TryingLemmas.{attempts-in, ends-done, regs-tied}
+use Rattle.file_io.proofs.TryingLemmas.{attempts-in, ends-done}
 use Rattle.file_io.specs.Opened.{found_on, moved_to}
 use Rattle.file_io.proofs.seeks.seek.Goals as goal
 
@@ -23,7 +24,7 @@ returns-clause-call c now views terms m was tied stands kinds =
     let opened = c.args.opened.now in
     let it = known-a c.args.machine.now.files views was p opened stands kinds c.args.machine.now.processes m c.args.by.regs c.requires.calls.calls.regs tied c.requires.opened in
     let found = found_on opened it.volume it.file in
-    let same : c.args.by.regs ≡ regs_at m p = c.requires.calls.calls.regs ∙ regs-tied c.args.machine.now.processes m p tied in
+    let same : c.args.by.regs ≡ regs_at m p = called-regs c.args.by c.args.machine.now.processes m c.requires.calls.calls tied in
     let at : c.long_of.result ≡ long_of (regs_at m p) = c.long_of.ensures ∙ ap (λ (r : Regs). long_of r) same in
     let old = c.args.machine.now in
     let new = c.answer_at.new.machine in

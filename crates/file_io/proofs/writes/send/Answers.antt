@@ -7,10 +7,11 @@ use Rattle.proc_model.specs.Processes.{regs_at, with_regs_of}
 use Rattle.io_model.specs.Io.{Io}
 use Rattle.io_model.specs.Modes.{can_write}
 use Rattle.proc_state.specs.Tie.{RepresentsProcesses}
+use Rattle.io_state.proofs.RequesterLemmas.{called-regs}
 use Rattle.file_rules.specs.Attempts.{asker_of}
 use Rattle.file_rules.specs.Step.{done}
 use Rattle.file_state.specs.declared.state.FileState.{FileState}
-use Rattle.file_io.proofs.TryingLemmas.{ends-if-false, ends-if-true, ends-refuses-false, ends-refuses-true, regs-tied, tries-done, tries-refused}
+use Rattle.file_io.proofs.TryingLemmas.{ends-if-false, ends-if-true, ends-refuses-false, ends-refuses-true, tries-done, tries-refused}
 use Rattle.file_io.proofs.WritingLemmas.{ends-writes}
 use Rattle.file_io.specs.Opened.{found_on}
 use Rattle.file_io.specs.Writing.{write_file, write_opened}
@@ -34,7 +35,7 @@ returns-then-regs-eq0-clause-call g c m was v file terms tied stands is there =
     let asker = asker_of m p c.args.by.time in
     let found = found_on c.args.opened.now v file in
     let bytes : List ℕ = take c.args.sent.count c.args.machine.now.processes.buffer.items in
-    let same : c.args.by.regs ≡ regs_at m p = c.requires.calls.calls.regs ∙ regs-tied c.args.machine.now.processes m p tied in
+    let same : c.args.by.regs ≡ regs_at m p = called-regs c.args.by c.args.machine.now.processes m c.requires.calls.calls tied in
     let none : (regs_at m p).y ≡ 0 = subst (λ (r : Regs). r.y ≡ 0) same c.if-regs-eq0.true in
     let new : FileState = record c.args.machine.now.files { io = c.answer.new.io } in
     ends-refuses-false m was c.args.by.time p c.answer.result c.answer.new.s new _ terms
@@ -69,7 +70,7 @@ returns-clause-call g c m was v file terms tied stands is there =
     let asker = asker_of m p c.args.by.time in
     let found = found_on c.args.opened.now v file in
     let bytes : List ℕ = take c.args.sent.count c.args.machine.now.processes.buffer.items in
-    let same : c.args.by.regs ≡ regs_at m p = c.requires.calls.calls.regs ∙ regs-tied c.args.machine.now.processes m p tied in
+    let same : c.args.by.regs ≡ regs_at m p = called-regs c.args.by c.args.machine.now.processes m c.requires.calls.calls tied in
     let some : (regs_at m p).y ≡ 0 → ⊥ = subst (λ (r : Regs). r.y ≡ 0 → ⊥) same c.if-regs-eq0.false in
     let long : length bytes ≡ c.args.sent.count = length-take-le c.args.sent.count c.args.machine.now.processes.buffer.items (omega arith) in
     let answered : c.args.sent.done ≡ record (regs_at m p) { y = length bytes } =

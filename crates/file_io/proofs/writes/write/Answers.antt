@@ -13,10 +13,11 @@ use Rattle.file_rules.specs.declared.path_call.PathCall.TheVariants as Call
 use Rattle.file_state.specs.declared.state.FileState.{FileState}
 use Rattle.io_model.specs.declared.io_call.IoCall.TheVariants as Device
 use Rattle.os9_base.specs.declared.calls.TheConstants.{I_WRITE}
+use Rattle.io_state.proofs.RequesterLemmas.{called-regs}
 use Rattle.file_io.proofs.AgainLemmas.{again-no_read, may-ask}
 use Rattle.file_io.proofs.CallLemmas.{above, known-a, with-own-y, write-step}
 use Rattle.file_io.proofs.OpenedLemmas.{is-named, may-be-written}
-use Rattle.file_io.proofs.TryingLemmas.{ends-needs-none, ends-needs-some, regs-tied, tries-in, tries-refused}
+use Rattle.file_io.proofs.TryingLemmas.{ends-needs-none, ends-needs-some, tries-in, tries-refused}
 use Rattle.file_io.specs.Calls.{writing_attempt_calls}
 use Rattle.file_io.specs.Opened.{found_on}
 use Rattle.file_io.specs.Writing.{write_opened}
@@ -52,7 +53,7 @@ returns-then-not-read_bytes-clause-call g c terms m was tied stands kinds =
     let found = found_on c.args.opened.now it.volume it.file in
     let s = c.read_bytes.new.self in
     let new : FileState = record c.args.machine.now.files { io = c.refuse.new.io } in
-    let same : c.args.by.regs ≡ regs_at m p = c.requires.calls.regs ∙ regs-tied c.args.machine.now.processes m p tied in
+    let same : c.args.by.regs ≡ regs_at m p = called-regs c.args.by c.args.machine.now.processes m c.requires.calls tied in
     let none : user_bytes (cells_at m p) c.args.by.regs.x c.args.by.regs.y ≡ None =
     c.read_bytes.ensures.read m tied ∙ ap (λ (b : Bool). bytes_read b c.args.by.regs.y s.buffer.items) c.if-not-read_bytes.true in
     let absent : user_bytes (cells_at m p) (regs_at m p).x (regs_at m p).y ≡ None = subst (λ (r : Regs). user_bytes (cells_at m p) r.x r.y ≡ None) same none in
@@ -77,7 +78,7 @@ returns-clause-call g c terms m was tied stands kinds =
     let found = found_on c.args.opened.now it.volume it.file in
     let s = c.read_bytes.new.self in
     let bytes : List ℕ = take c.args.by.regs.y s.buffer.items in
-    let same : c.args.by.regs ≡ regs_at m p = c.requires.calls.regs ∙ regs-tied c.args.machine.now.processes m p tied in
+    let same : c.args.by.regs ≡ regs_at m p = called-regs c.args.by c.args.machine.now.processes m c.requires.calls tied in
     let some : user_bytes (cells_at m p) c.args.by.regs.x c.args.by.regs.y ≡ Some bytes =
     c.read_bytes.ensures.read m tied ∙ ap (λ (b : Bool). bytes_read b c.args.by.regs.y s.buffer.items) c.if-not-read_bytes.false in
     let present : user_bytes (cells_at m p) (regs_at m p).x (regs_at m p).y ≡ Some bytes = subst (λ (r : Regs). user_bytes (cells_at m p) r.x r.y ≡ Some bytes) same some in

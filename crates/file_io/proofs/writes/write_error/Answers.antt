@@ -13,10 +13,11 @@ use Rattle.file_rules.specs.declared.path_call.PathCall.TheVariants as Call
 use Rattle.file_state.specs.declared.state.FileState.{FileState}
 use Rattle.io_model.specs.declared.io_call.IoCall.TheVariants as Device
 use Rattle.os9_base.specs.declared.calls.TheConstants.{F_PERR}
+use Rattle.io_state.proofs.RequesterLemmas.{called-regs}
 use Rattle.file_io.proofs.AgainLemmas.{again-no_read, may-ask}
 use Rattle.file_io.proofs.CallLemmas.{error-step, known}
 use Rattle.file_io.proofs.OpenedLemmas.{is-named, may-be-written}
-use Rattle.file_io.proofs.TryingLemmas.{ends-refuses-false, ends-refuses-true, regs-tied, tries-in, tries-refused}
+use Rattle.file_io.proofs.TryingLemmas.{ends-refuses-false, ends-refuses-true, tries-in, tries-refused}
 use Rattle.file_io.proofs.WritingLemmas.{ends-write_file}
 use Rattle.file_io.specs.Calls.{writing_attempt_calls}
 use Rattle.file_io.specs.Opened.{found_on}
@@ -72,7 +73,7 @@ returns-clause-call g c terms m was tied stands kinds =
     let asker = asker_of m p now in
     let it = known c.args.machine.now.files _ was p c.args.opened.now stands kinds STANDARD_ERROR c.requires.opened in
     let found = found_on c.args.opened.now it.volume it.file in
-    let same : c.args.by.regs ≡ regs_at m p = c.requires.calls.regs ∙ regs-tied c.args.machine.now.processes m p tied in
+    let same : c.args.by.regs ≡ regs_at m p = called-regs c.args.by c.args.machine.now.processes m c.requires.calls tied in
     let next = write_file F_PERR (error_line (regs_at m p).b) (regs_at m p) asker was found in
     tries-in m was now p c.write_file.result _ _ terms Call.PErr
     (refuses (not (can_write c.args.opened.now.desc.mode)) E_BMODE next) (error-step asker was found it.found)

@@ -8,6 +8,7 @@ use Rattle.proc_model.specs.Processes.{cells_at, regs_at}
 use Rattle.io_model.specs.declared.io_call.IoCall.TheVariants as Device
 use Rattle.lock_model.specs.Locks.{request_of}
 use Rattle.lock_model.specs.Records.{Records}
+use Rattle.io_state.proofs.RequesterLemmas.{called-regs}
 use Rattle.file_rules.specs.Attempts.{asker_of}
 use Rattle.file_rules.specs.Files.{OpenFile, open_file}
 use Rattle.file_rules.specs.Locking.{pending_request}
@@ -18,7 +19,7 @@ use Rattle.file_state.specs.declared.state.FileState.{FileState}
 use Rattle.file_io.proofs.AgainLemmas.{again-no_read, may-ask}
 use Rattle.file_io.proofs.CallLemmas.{known-a, line-moved, write_line-step}
 use Rattle.file_io.proofs.OpenedLemmas.{is-named, may-be-written}
-use Rattle.file_io.proofs.TryingLemmas.{ends-needs-none, ends-needs-some, regs-tied, tries-in, tries-refused}
+use Rattle.file_io.proofs.TryingLemmas.{ends-needs-none, ends-needs-some, tries-in, tries-refused}
 use Rattle.file_io.specs.Calls.{line_count, writing_attempt_calls}
 use Rattle.file_io.specs.Opened.{found_on}
 use Rattle.file_io.specs.Writing.{line_of, write_opened}
@@ -64,7 +65,7 @@ returns-in-None-clause-call g c terms m was tied stands kinds =
     let s = c.line_count.new.s in
     let request = request_of c.args.machine.now.files.records.locks p in
     let new : FileState = record c.args.machine.now.files { io = c.refuse.new.io } in
-    let same : c.args.by.regs ≡ regs_at m p = c.requires.calls.regs ∙ regs-tied c.args.machine.now.processes m p tied in
+    let same : c.args.by.regs ≡ regs_at m p = called-regs c.args.by c.args.machine.now.processes m c.requires.calls tied in
     let line = line_moved asker (pending_request asker was) in
     let absent : line ≡ None =
     line-moved asker was found request (ap (λ (records : Records). request_of records.locks p) stands.records)
@@ -91,7 +92,7 @@ returns-in-Some-clause-call g c terms m was tied stands kinds =
     let count = c.in-Some.count in
     let bytes : List ℕ = take count s.buffer.items in
     let request = request_of c.args.machine.now.files.records.locks p in
-    let same : c.args.by.regs ≡ regs_at m p = c.requires.calls.regs ∙ regs-tied c.args.machine.now.processes m p tied in
+    let same : c.args.by.regs ≡ regs_at m p = called-regs c.args.by c.args.machine.now.processes m c.requires.calls tied in
     let line = line_moved asker (pending_request asker was) in
     let present : line ≡ Some bytes =
     line-moved asker was found request (ap (λ (records : Records). request_of records.locks p) stands.records)

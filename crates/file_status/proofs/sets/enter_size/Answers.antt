@@ -4,6 +4,7 @@ use Rattle.lock_model.specs.Records.{Records}
 use Rattle.file_rules.specs.Seek.{long_of}
 use Rattle.file_state.specs.declared.state.FileState.{FileState}
 use Rattle.file_status.proofs.SizingLemmas.{if-err, if-ok, other-done, other-lacks, same-done}
+use Rattle.file_status.proofs.StandLemmas.{uncalled-by}
 use Rattle.file_status.proofs.sets.enter_size.Goals as goal
 
 pub returns-then-size_before-long_of-clause-call : goal.returns-then-size_before-long_of-clause-call
@@ -30,8 +31,9 @@ returns-clause-call c m tied =
     let regs = c.args.by.regs in
     let other : c.args.sizing.size_before ≢ long_of regs = λ e. c.if-size_before-long_of.false (e ∙ sym c.long_of.ensures) in
     let entered = if-ok c.write.result c.write.ensures.ok (sym c.is_err.ensures.value ∙ c.if-is_err.false) in
-    other-done c.args.sizing.size_before c.args.sizing.lock regs c.args.opened.now m p c.args.machine.now.files c.answer.new.machine.files c.answer.result c.answer.new.machine.processes
+    other-done c.args.sizing.size_before c.args.sizing.lock regs c.args.opened.now m p c.args.machine.now.files _ c.answer.result c.answer.new.s
     other c.answer.ensures.end
     (c.answer.ensures.tied m tied)
-    (c.answer.ensures.files ∙ ap (λ (records : Records). let left : FileState = record c.args.machine.now.files
+    (uncalled-by (record c.args.machine.now.files { records = c.write.new.self }) p c.answer.ensures.io
+    ∙ ap (λ (records : Records). let left : FileState = record c.args.machine.now.files
     { io = with_call c.args.machine.now.files.io p None; records = records } in left) entered)

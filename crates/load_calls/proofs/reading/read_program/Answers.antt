@@ -7,7 +7,8 @@ use Rattle.os9_base.specs.Cells.{Cells}
 use Rattle.os9_base.specs.declared.errors.TheConstants.{E_FNA}
 use Rattle.os9_base.specs.declared.registers.Regs.{Regs}
 use Rattle.proc_model.specs.Processes.{cells_at}
-use Rattle.load_calls.proofs.TieLemmas.{regs-are, same-processes}
+use Rattle.io_state.proofs.RequesterLemmas.{called-regs}
+use Rattle.load_calls.proofs.TieLemmas.{same-processes}
 use Rattle.load_calls.proofs.RouteLemmas.{as-many, program-along, program-nowhere, program-refused, route-along, route-device, route-names}
 use Rattle.load_calls.proofs.reading.read_program.Goals as goal
 
@@ -24,7 +25,7 @@ returns-in-Err-clause-call g c m was now tied stands =
     (program-refused asker was terms c.args.refusal c.in-Err.number
     (c.in-Err.ensures.route m now was true _ tied (record {
       cells_are = refl;
-      at_is = ap (λ (regs : Regs). regs.x) (sym (regs-are c.args.by c.args.machine.now.processes m c.requires.calls tied));
+      at_is = ap (λ (regs : Regs). regs.x) (sym (called-regs c.args.by c.args.machine.now.processes m c.requires.calls tied));
       directory_is = sym (c.directory.ensures.directory _ was stands);
       mounted = stands.mounted;
       as_many = as-many c.args.machine.now.files _ was stands ∙ length-map _ _ ∙ sym c.args.devices.now.drives.ok.0;
@@ -38,7 +39,7 @@ returns-in-Device-clause-call g c m was now tied stands =
     (route-device (cells_at m c.args.by.p.0) asker was terms c.args.refusal c.in-Ok.route
     (c.in-Ok.ensures.route m now was true _ tied (record {
       cells_are = refl;
-      at_is = ap (λ (regs : Regs). regs.x) (sym (regs-are c.args.by c.args.machine.now.processes m c.requires.calls tied));
+      at_is = ap (λ (regs : Regs). regs.x) (sym (called-regs c.args.by c.args.machine.now.processes m c.requires.calls tied));
       directory_is = sym (c.directory.ensures.directory _ was stands);
       mounted = stands.mounted;
       as_many = as-many c.args.machine.now.files _ was stands ∙ length-map _ _ ∙ sym c.args.devices.now.drives.ok.0;
@@ -51,7 +52,7 @@ returns-in-Along-clause-call g c m was now tied stands =
     let it =
     c.in-Ok.ensures.route m now was true _ tied (record {
       cells_are = refl;
-      at_is = ap (λ (regs : Regs). regs.x) (sym (regs-are c.args.by c.args.machine.now.processes m c.requires.calls tied));
+      at_is = ap (λ (regs : Regs). regs.x) (sym (called-regs c.args.by c.args.machine.now.processes m c.requires.calls tied));
       directory_is = sym (c.directory.ensures.directory _ was stands);
       mounted = stands.mounted;
       as_many = as-many c.args.machine.now.files _ was stands ∙ length-map _ _ ∙ sym c.args.devices.now.drives.ok.0;

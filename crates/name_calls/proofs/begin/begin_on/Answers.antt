@@ -1,16 +1,18 @@
-use Rattle.std.proofs.Common.{◌∙◌, ap, sym}
+use Rattle.std.proofs.Common.{◌∙◌, ap}
 use Rattle.io_model.specs.Io.{Io, pending_at, with_paths, new_desc}
+use Rattle.io_state.proofs.RequesterLemmas.{called-regs, none-reads-none}
 use Rattle.name_calls.proofs.BeginLemmas.{begun-quietly, full-quietly, paths-full}
-use Rattle.name_calls.proofs.OpenEndLemmas.{regs-tied}
 use Rattle.name_calls.proofs.begin.begin_on.Goals as goal
 
-pub refuse-requires-clause-first : goal.refuse-requires-clause-first
-refuse-requires-clause-first c =
-    ap (λ (io : Io). pending_at io c.args.by.p.0) c.begin_on_disk.ensures.io ∙ c.requires.calls.none_pending
+pub refuse-requires-clause-no_read : goal.refuse-requires-clause-no_read
+refuse-requires-clause-no_read c =
+    none-reads-none c.begin_on_disk.new.self c.args.by.p.0
+    (ap (λ (io : Io). pending_at io c.args.by.p.0) c.begin_on_disk.ensures.io ∙ c.requires.calls.none_pending)
 
-pub answer-requires-clause-first : goal.answer-requires-clause-first
-answer-requires-clause-first c =
-    ap (λ (io : Io). pending_at io c.args.by.p.0) c.begin_on_disk.ensures.io ∙ c.requires.calls.none_pending
+pub answer-requires-clause-no_read : goal.answer-requires-clause-no_read
+answer-requires-clause-no_read c =
+    none-reads-none c.begin_on_disk.new.self c.args.by.p.0
+    (ap (λ (io : Io). pending_at io c.args.by.p.0) c.begin_on_disk.ensures.io ∙ c.requires.calls.none_pending)
 
 pub returns-in-Err-clause-begins : goal.returns-in-Err-clause-begins
 returns-in-Err-clause-begins c m was now list views tied stands next =
@@ -24,4 +26,4 @@ pub returns-in-Ok-clause-begins : goal.returns-in-Ok-clause-begins
 returns-in-Ok-clause-begins c m was now list views tied stands next =
     begun-quietly m was now c.args.by.p.0 list c.args.target c.args.machine.now.files views stands c.answer.result c.answer.new.s c.begin_on_disk.new.self c.answer.new.io c.answer.ensures.io
     c.in-Ok.a c.args.next c.in-Ok.ensures.number next c.answer.ensures.end
-    c.args.by.regs (c.requires.calls.calls.regs ∙ sym (regs-tied c.args.machine.now.processes m c.args.by.p.0 tied)) c.begin_on_disk.ensures.io (c.answer.ensures.tied m tied)
+    c.args.by.regs (called-regs c.args.by c.args.machine.now.processes m c.requires.calls.calls tied) c.begin_on_disk.ensures.io (c.answer.ensures.tied m tied)

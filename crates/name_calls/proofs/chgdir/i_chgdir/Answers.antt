@@ -1,6 +1,7 @@
 use Rattle.std.proofs.Common.{◌≡◌, ◌∙◌, ◌%◌, ap, length, refl, sym, vec_len}
 use Rattle.os9_base.specs.declared.registers.Regs.{Regs}
 use Rattle.proc_model.specs.Processes.{regs_at}
+use Rattle.io_state.proofs.RequesterLemmas.{called-regs}
 use Rattle.file_rules.specs.Attempts.{asker_of}
 use Rattle.file_rules.specs.ChgDir.{i_chgdir}
 use Rattle.file_rules.specs.Files.{directories_at, with_directories_of, with_directory}
@@ -11,7 +12,6 @@ use Rattle.file_routes.specs.Routes.{next_step}
 use Rattle.name_calls.specs.ListCalls.{i_chgdir_calls}
 use Rattle.name_calls.specs.ChgDir.{goes_there, looks_for_directory}
 use Rattle.name_calls.specs.Locating.{IsLocated}
-use Rattle.name_calls.proofs.SameLemmas.{regs-are}
 use Rattle.name_calls.proofs.AttemptLemmas.{ends-refused}
 use Rattle.name_calls.proofs.ChgDirLemmas.{chgdir-parts, gone-there, told-past}
 use Rattle.name_calls.proofs.ListEndLemmas.{ends-found}
@@ -48,7 +48,7 @@ returns-in-Ok-clause-call g c now terms many m was tied stands kinds =
     (locates-same (looks_for_directory asker was terminals) look (i_chgdir_calls asker was terminals) most _ was _
     _ _ (ap (looks_for_directory asker was) (sym many)) (ap (i_chgdir_calls asker was) (sym many))
     (c.in-Ok.ensures.finds m was now tied stands)) in
-    let regs_is : c.args.by.regs ≡ regs_at m p = regs-are c.args.by c.args.machine.now.processes m c.requires.calls.calls.regs tied in
+    let regs_is : c.args.by.regs ≡ regs_at m p = called-regs c.args.by c.args.machine.now.processes m c.requires.calls.calls tied in
     let regs : Regs = record (regs_at m p) { x = loc.it.list.next % 65536 } in
     ends-attempt most Call.ChgDir m was now p c.answer-end.result terms _ _
     (ends-found (IsLocated look was) look (goes_there asker was) most m was now p terms c.in-Ok.located mid _ _ loc (i_chgdir asker was (length terms)) regs

@@ -8,7 +8,6 @@ use Rattle.file_rules.specs.Open.{says_directory}
 use Rattle.lock_model.specs.declared.place.FilePlace.{FilePlace}
 use Rattle.file_drives.specs.Drives.{drive_states, drive_views}
 use Rattle.file_state.specs.declared.state.FileState.{FileState}
-use Rattle.name_calls.proofs.SameLemmas.{regs-are}
 use Rattle.name_calls.proofs.CreateLemmas.{creates-directory, makes-full, makes_there}
 use Rattle.name_calls.proofs.OpenCallLemmas.{sum-within, within-sum}
 use Rattle.name_calls.proofs.OpenEndLemmas.{read-ends, read-more, refused-ends, well-refused}
@@ -18,6 +17,7 @@ use Rattle.name_calls.proofs.WalkLemmas.{walker-tied}
 use Rattle.name_calls.specs.OpenCalls.{calls_at_place, new_file_calls}
 use Rattle.name_calls.specs.Steps.{creates_there}
 use Rattle.io_model.specs.Path.{new_number}
+use Rattle.io_state.proofs.RequesterLemmas.{called-regs}
 use Rattle.rbf_walk.specs.declared.error.DirError.TheVariants.{File}
 use Rattle.file_rules.specs.Files.{with_drives, with_volume}
 use Rattle.name_calls.proofs.create.create_in.Goals as goal
@@ -28,7 +28,7 @@ returns-then-says_directory-clause-creates g c m was list dir most before tied r
     let now = c.args.by.time in
     let asker = asker_of m p now in
     let name : List ℕ = c.args.located.last.name in
-    let bits : (regs_at m p).b ≡ c.args.by.regs.b = ap (λ (r : Regs). r.b) (sym (regs-are c.args.by c.args.machine.now.processes m c.requires.calls.calls.regs tied)) in
+    let bits : (regs_at m p).b ≡ c.args.by.regs.b = ap (λ (r : Regs). r.b) (sym (called-regs c.args.by c.args.machine.now.processes m c.requires.calls.calls tied)) in
     let says : says_directory (regs_at m p).b ≡ true = ap says_directory bits ∙ sym c.says_directory.ensures.says ∙ c.if-says_directory.true in
     let all : ℕ = new_file_calls asker name dir.volume dir.file in
     read-ends m p c.args.machine.now.files _ c.refuse.result c.args.machine.now.processes c.refuse.new.io c.refuse.ensures.io _
@@ -49,7 +49,7 @@ returns-in-Err-clause-creates g c m was list dir most before tied read found nex
     let new : FileState = record c.args.machine.now.files { disks = c.find_place.new.self } in
     let views = drive_views (λ box. (g.dyn-1.0.entry box.vtable).1) c.find_place.new.devices.drives.items in
     let who = walker-tied c.args.machine.now.processes m c.args.by.p walker tied c.walker_of-walker.ensures.walker in
-    let bits : (regs_at m p).b ≡ c.args.by.regs.b = ap (λ (r : Regs). r.b) (sym (regs-are c.args.by c.args.machine.now.processes m c.requires.calls.calls.regs tied)) in
+    let bits : (regs_at m p).b ≡ c.args.by.regs.b = ap (λ (r : Regs). r.b) (sym (called-regs c.args.by c.args.machine.now.processes m c.requires.calls.calls tied)) in
     let says : says_directory (regs_at m p).b ≡ false = ap says_directory bits ∙ sym c.says_directory.ensures.says ∙ c.if-says_directory.false in
     let after = read-on was place dir found c.args.machine.now.files new before _ views most read _ _ refl refl refl c.in-Err.ensures.drive in
     let answer = of-found was place dir found c.args.machine.now.files new before _ views most read
@@ -76,7 +76,7 @@ returns-in_default-clause-creates g c m was list dir most before tied read found
     let mid : FileState = record c.args.machine.now.files { disks = c.find_place.new.self } in
     let here = drive_views (λ box. (g.dyn-1.0.entry box.vtable).1) c.find_place.new.devices.drives.items in
     let who = walker-tied c.args.machine.now.processes m c.args.by.p walker tied c.walker_of-walker.ensures.walker in
-    let bits : c.args.by.regs.b ≡ (regs_at m p).b = ap (λ (r : Regs). r.b) (regs-are c.args.by c.args.machine.now.processes m c.requires.calls.calls.regs tied) in
+    let bits : c.args.by.regs.b ≡ (regs_at m p).b = ap (λ (r : Regs). r.b) (called-regs c.args.by c.args.machine.now.processes m c.requires.calls.calls tied) in
     let says : says_directory (regs_at m p).b ≡ false = ap says_directory (sym bits) ∙ sym c.says_directory.ensures.says ∙ c.if-says_directory.false in
     let after = read-on was place dir found c.args.machine.now.files mid before _ here most read None _ refl refl refl c.in-Ok.ensures.drive in
     let answer = of-found was place dir found c.args.machine.now.files mid before _ here most read
@@ -103,7 +103,7 @@ returns-in-Err-create_at-clause-creates g c m was list dir most before tied read
     let mid : FileState = record c.args.machine.now.files { disks = c.find_place.new.self } in
     let here = drive_views (λ box. (g.dyn-1.0.entry box.vtable).1) c.find_place.new.devices.drives.items in
     let who = walker-tied c.args.machine.now.processes m c.args.by.p walker tied c.walker_of-walker.ensures.walker in
-    let bits : c.args.by.regs.b ≡ (regs_at m p).b = ap (λ (r : Regs). r.b) (regs-are c.args.by c.args.machine.now.processes m c.requires.calls.calls.regs tied) in
+    let bits : c.args.by.regs.b ≡ (regs_at m p).b = ap (λ (r : Regs). r.b) (called-regs c.args.by c.args.machine.now.processes m c.requires.calls.calls tied) in
     let says : says_directory (regs_at m p).b ≡ false = ap says_directory (sym bits) ∙ sym c.says_directory.ensures.says ∙ c.if-says_directory.false in
     let after = read-on was place dir found c.args.machine.now.files mid before _ here most read None _ refl refl refl c.in-Ok.ensures.drive in
     let answer = of-found was place dir found c.args.machine.now.files mid before _ here most read
@@ -137,7 +137,7 @@ returns-in-Ok-create_at-clause-creates g c m was list dir most before tied read 
     let mid : FileState = record c.args.machine.now.files { disks = c.find_place.new.self } in
     let here = drive_views (λ box. (g.dyn-1.0.entry box.vtable).1) c.find_place.new.devices.drives.items in
     let who = walker-tied c.args.machine.now.processes m c.args.by.p walker tied c.walker_of-walker.ensures.walker in
-    let bits : c.args.by.regs.b ≡ (regs_at m p).b = ap (λ (r : Regs). r.b) (regs-are c.args.by c.args.machine.now.processes m c.requires.calls.calls.regs tied) in
+    let bits : c.args.by.regs.b ≡ (regs_at m p).b = ap (λ (r : Regs). r.b) (called-regs c.args.by c.args.machine.now.processes m c.requires.calls.calls tied) in
     let says : says_directory (regs_at m p).b ≡ false = ap says_directory (sym bits) ∙ sym c.says_directory.ensures.says ∙ c.if-says_directory.false in
     let after = read-on was place dir found c.args.machine.now.files mid before _ here most read None _ refl refl refl c.in-Ok.ensures.drive in
     let answer = of-found was place dir found c.args.machine.now.files mid before _ here most read

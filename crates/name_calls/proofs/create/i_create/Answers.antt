@@ -3,6 +3,7 @@ use Rattle.os9_base.specs.declared.registers.Regs.{Regs}
 use Rattle.proc_model.specs.Processes.{cells_at, regs_at}
 use Rattle.io_model.specs.Modes.{can_write}
 use Rattle.io_model.specs.declared.io_call.IoCall.TheVariants as IoCall
+use Rattle.io_state.proofs.RequesterLemmas.{called-regs}
 use Rattle.file_rules.specs.Attempts.{asker_of}
 use Rattle.file_rules.specs.Create.{creates_on_device, i_create}
 use Rattle.file_rules.specs.Open.{is_for_execution}
@@ -11,7 +12,6 @@ use Rattle.file_rules.specs.declared.path_call.PathCall.TheVariants as Call
 use Rattle.file_routes.specs.Routes.{NamesOn, mode_refusal}
 use Rattle.file_routes.specs.declared.route.Course.{Course}
 use Rattle.file_routes.specs.declared.route.Course.TheVariants.{Along, Device}
-use Rattle.name_calls.proofs.SameLemmas.{regs-are}
 use Rattle.name_calls.proofs.OpenCallLemmas.{create-calls}
 use Rattle.name_calls.proofs.DeviceLemmas.{as-many, device-ends, views-many}
 use Rattle.name_calls.proofs.OpenEndLemmas.{attempts-by, refused-at_once}
@@ -27,7 +27,7 @@ returns-in-Err-clause-call g c terms many m was tied stands kinds =
     let asker = asker_of m p now in
     let count = vec_len c.args.devices.now.terms in
     let number = c.in-Err.number in
-    let same = regs-are c.args.by c.args.machine.now.processes m c.requires.calls.calls.regs tied in
+    let same = called-regs c.args.by c.args.machine.now.processes m c.requires.calls.calls tied in
     let refusal_is : c.mode_refusal-refusal.result ≡ mode_refusal (can_write (regs_at m p).a) =
     c.mode_refusal-refusal.ensures ∙ ap mode_refusal (c.can_write.ensures ∙ ap (λ (r : Regs). can_write r.a) same) in
     let execute_is : c.is_for_execution-execute.result ≡ is_for_execution (regs_at m p).a = c.is_for_execution-execute.ensures ∙ ap (λ (r : Regs). is_for_execution r.a) same in
@@ -45,7 +45,7 @@ returns-in-Device-clause-call g c terms many m was tied stands kinds =
     let p = c.args.by.p.0 in
     let asker = asker_of m p now in
     let count = vec_len c.args.devices.now.terms in
-    let same = regs-are c.args.by c.args.machine.now.processes m c.requires.calls.calls.regs tied in
+    let same = called-regs c.args.by c.args.machine.now.processes m c.requires.calls.calls tied in
     let refusal_is : c.mode_refusal-refusal.result ≡ mode_refusal (can_write (regs_at m p).a) =
     c.mode_refusal-refusal.ensures ∙ ap mode_refusal (c.can_write.ensures ∙ ap (λ (r : Regs). can_write r.a) same) in
     let execute_is : c.is_for_execution-execute.result ≡ is_for_execution (regs_at m p).a = c.is_for_execution-execute.ensures ∙ ap (λ (r : Regs). is_for_execution r.a) same in
@@ -64,7 +64,7 @@ returns-in-Along-clause-call g c terms many m was tied stands kinds =
     let p = c.args.by.p.0 in
     let asker = asker_of m p now in
     let count = vec_len c.args.devices.now.terms in
-    let same = regs-are c.args.by c.args.machine.now.processes m c.requires.calls.calls.regs tied in
+    let same = called-regs c.args.by c.args.machine.now.processes m c.requires.calls.calls tied in
     let start = c.in-Along.start in
     let refusal_is : c.mode_refusal-refusal.result ≡ mode_refusal (can_write (regs_at m p).a) =
     c.mode_refusal-refusal.ensures ∙ ap mode_refusal (c.can_write.ensures ∙ ap (λ (r : Regs). can_write r.a) same) in

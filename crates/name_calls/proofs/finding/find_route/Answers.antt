@@ -2,9 +2,9 @@ use Rattle.std.proofs.Common.{◌≡◌, ◌∙◌, IfOk, length, refl, ap, sym,
 use Rattle.std.proofs.lemmas.List.{length-map}
 use Rattle.os9_base.specs.Cells.{Cells}
 use Rattle.os9_base.specs.declared.registers.Regs.{Regs}
+use Rattle.io_state.proofs.RequesterLemmas.{called-regs}
 use Rattle.file_routes.specs.Routes.{HasCourseNames}
 use Rattle.name_calls.proofs.DeviceLemmas.{as-many}
-use Rattle.name_calls.proofs.SameLemmas.{regs-are}
 use Rattle.name_calls.proofs.finding.find_route.Goals as goal
 
 pub returns-clause-route : goal.returns-clause-route
@@ -12,7 +12,7 @@ returns-clause-route g c m was now tied stands =
     let many : length was.drives ≡ length c.args.devices.now.drives.items = as-many c.args.files.now _ was stands ∙ length-map _ _ in
     c.call_route.ensures.route m now was c.args.search.lookup.execute _ tied (record {
       cells_are = refl;
-      at_is = ap (λ (regs : Regs). regs.x) (sym (regs-are c.args.by c.args.s.now m c.requires.calls.regs tied));
+      at_is = ap (λ (regs : Regs). regs.x) (sym (called-regs c.args.by c.args.s.now m c.requires.calls tied));
       directory_is = sym (c.directory.ensures.directory _ was stands);
       mounted = stands.mounted;
       as_many = omega (arith, many, c.args.devices.now.drives.ok.0);

@@ -1,5 +1,6 @@
 use Rattle.std.proofs.Common.{false, None, ap, refl, sym, vec_len}
 use Rattle.os9_base.specs.declared.registers.Regs.{Regs}
+use Rattle.io_state.proofs.RequesterLemmas.{called-regs}
 use Rattle.file_rules.specs.Attempts.{asker_of}
 use Rattle.file_rules.specs.MakDir.{i_makdir}
 use Rattle.file_routes.specs.Routes.{next_step}
@@ -11,7 +12,7 @@ use Rattle.name_calls.proofs.ListCallLemmas.{named-seen, named-within}
 use Rattle.name_calls.proofs.LookLemmas.{found}
 use Rattle.name_calls.proofs.MakDirLemmas.{makdir-parts}
 use Rattle.name_calls.proofs.MakingLemmas.{makes-quiet}
-use Rattle.name_calls.proofs.SameLemmas.{regs-are, user-is}
+use Rattle.name_calls.proofs.SameLemmas.{user-is}
 use Rattle.name_calls.proofs.TryLemmas.{tries-more, tries-same, tries-unfound}
 use Rattle.name_calls.proofs.makdir.make_directory.Goals as goal
 
@@ -40,7 +41,7 @@ returns-in-Ok-clause-tries g c m was tied stands =
     (named-within New asker was terms false (making_calls asker.user) loc.it None loc.answer)
     (c.make_in.ensures.makes look seen asker was _ (record {
       user_is = user-is c.args.machine.now.processes m c.args.by.p.0 c.user-user.result tied c.user-user.ensures.user;
-      attributes_are = ap (λ (regs : Regs). regs.b) (sym (regs-are c.args.by c.args.machine.now.processes m c.requires.calls.regs tied));
+      attributes_are = ap (λ (regs : Regs). regs.b) (sym (called-regs c.args.by c.args.machine.now.processes m c.requires.calls tied));
       now_is = refl;
     })
     loc))

@@ -3,6 +3,7 @@ use Rattle.os9_base.specs.declared.registers.Regs.{Regs}
 use Rattle.proc_model.specs.Processes.{cells_at, regs_at}
 use Rattle.io_model.specs.Modes.{is_mode}
 use Rattle.io_model.specs.declared.io_call.IoCall.TheVariants as IoCall
+use Rattle.io_state.proofs.RequesterLemmas.{called-regs}
 use Rattle.file_rules.specs.Attempts.{asker_of}
 use Rattle.file_rules.specs.Open.{i_open, is_for_execution, opens_device}
 use Rattle.file_rules.specs.Step.{refused}
@@ -10,7 +11,6 @@ use Rattle.file_rules.specs.declared.path_call.PathCall.TheVariants as Call
 use Rattle.file_routes.specs.Routes.{NamesOn, mode_refusal}
 use Rattle.file_routes.specs.declared.route.Course.{Course}
 use Rattle.file_routes.specs.declared.route.Course.TheVariants.{Along, Device}
-use Rattle.name_calls.proofs.SameLemmas.{regs-are}
 use Rattle.name_calls.proofs.OpenCallLemmas.{open-calls}
 use Rattle.name_calls.proofs.DeviceLemmas.{as-many, device-ends, views-many}
 use Rattle.name_calls.proofs.OpenEndLemmas.{attempts-by, refused-at_once}
@@ -25,7 +25,7 @@ returns-in-Err-clause-call g c now terms many m was tied stands kinds =
     let asker = asker_of m p now in
     let count = vec_len c.args.devices.now.terms in
     let number = c.in-Err.number in
-    let same = regs-are c.args.by c.args.machine.now.processes m c.requires.calls.calls.regs tied in
+    let same = called-regs c.args.by c.args.machine.now.processes m c.requires.calls.calls tied in
     let refusal_is : c.mode_refusal-refusal.result ≡ mode_refusal (is_mode (regs_at m p).a) =
     c.mode_refusal-refusal.ensures ∙ ap mode_refusal (c.is_mode.ensures ∙ ap (λ (r : Regs). is_mode r.a) same) in
     let execute_is : c.is_for_execution-execute.result ≡ is_for_execution (regs_at m p).a = c.is_for_execution-execute.ensures ∙ ap (λ (r : Regs). is_for_execution r.a) same in
@@ -42,7 +42,7 @@ returns-in-Device-clause-call g c now terms many m was tied stands kinds =
     let p = c.args.by.p.0 in
     let asker = asker_of m p now in
     let count = vec_len c.args.devices.now.terms in
-    let same = regs-are c.args.by c.args.machine.now.processes m c.requires.calls.calls.regs tied in
+    let same = called-regs c.args.by c.args.machine.now.processes m c.requires.calls.calls tied in
     let refusal_is : c.mode_refusal-refusal.result ≡ mode_refusal (is_mode (regs_at m p).a) =
     c.mode_refusal-refusal.ensures ∙ ap mode_refusal (c.is_mode.ensures ∙ ap (λ (r : Regs). is_mode r.a) same) in
     let execute_is : c.is_for_execution-execute.result ≡ is_for_execution (regs_at m p).a = c.is_for_execution-execute.ensures ∙ ap (λ (r : Regs). is_for_execution r.a) same in
@@ -60,7 +60,7 @@ returns-in-Along-clause-call g c now terms many m was tied stands kinds =
     let p = c.args.by.p.0 in
     let asker = asker_of m p now in
     let count = vec_len c.args.devices.now.terms in
-    let same = regs-are c.args.by c.args.machine.now.processes m c.requires.calls.calls.regs tied in
+    let same = called-regs c.args.by c.args.machine.now.processes m c.requires.calls.calls tied in
     let start = c.in-Along.start in
     let refusal_is : c.mode_refusal-refusal.result ≡ mode_refusal (is_mode (regs_at m p).a) =
     c.mode_refusal-refusal.ensures ∙ ap mode_refusal (c.is_mode.ensures ∙ ap (λ (r : Regs). is_mode r.a) same) in

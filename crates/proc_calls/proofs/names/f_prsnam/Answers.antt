@@ -9,7 +9,8 @@ use Rattle.guest_memory.specs.Tie.{cells_of}
 use Rattle.proc_model.specs.Records.{AreProcessRecords, IsLiving, record_at}
 use Rattle.proc_state.specs.declared.state.ProcState.{ProcState}
 use Rattle.proc_state.specs.Tie.{RepresentsProcesses, ReturnsCallEnd}
-use Rattle.proc_calls.proofs.Seen.{cells_seen, regs_seen}
+use Rattle.proc_state.proofs.Tied.{regs-tied}
+use Rattle.proc_calls.proofs.Seen.{cells_seen}
 use Rattle.proc_calls.proofs.Turns.{process_within}
 use Rattle.proc_calls.proofs.names.f_prsnam.Goals as goal
 
@@ -24,7 +25,7 @@ parses_from : (s new : ProcState) (p x first : ℕ) → AreProcessRecords s.tabl
     → ReturnsCallEnd m p (parses_name m p (past_slash (cells_at m p) (regs_at m p).x)) end new
 parses_from s new p x first are lives same at m tied end comes =
     let cells = cells_seen s p (process_within s.table p are lives) m tied in
-    let regs = regs_seen s p m tied in
+    let regs = regs-tied s m p tied in
     let is : past_slash (cells_at m p) (regs_at m p).x ≡ first = sym (λ i. past_slash (cells i) ((regs i).x)) ∙ (sym (λ i. past_slash (cells_of s.memory p) (same i)) ∙ at) in
     subst (λ (k : ℕ). ReturnsCallEnd m p (parses_name m p k) end new) (sym is) comes
 

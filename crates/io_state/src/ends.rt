@@ -1,12 +1,13 @@
-//! How calls end.
+//! How calls end that nothing is kept of.
 
 ghost use Rattle.std.specs.Prelude.{◌≡◌, ◌<◌, None};
-ghost use Rattle.io_model.specs.Io.{pending_at, with_call};
-ghost use Rattle.proc_model.specs.Records.{IsLiving};
+ghost use Rattle.io_model.specs.Io.{with_call};
+ghost use Rattle.io_state.specs.Sound.{ReadsNoTerminal};
 ghost use Rattle.proc_model.specs.Processes.{Processes, with_regs_of};
+ghost use Rattle.proc_model.specs.Records.{IsLiving};
 ghost use Rattle.proc_state.specs.Tie.{RepresentsProcesses};
 
-use io_state::state::IoState;
+use crate::state::IoState;
 use os9_base::call::CallEnd;
 use os9_base::registers::{Pid, Regs};
 use proc_state::state::ProcState;
@@ -14,7 +15,7 @@ use proc_state::state::ProcState;
 /// Refuses the call with this number. Nothing is kept of it.
 pub fn refuse(io: &mut IoState, p: Pid, number: u8) -> CallEnd
     requires process { p.0 < 33 }
-    requires first { pending_at io.old p.0 ≡ None }
+    requires no_read { ReadsNoTerminal io.old p.0 }
     ensures end { result ≡ CallEnd.Error number }
     ensures io { io.new ≡ with_call io.old p.0 None }
 {
@@ -25,7 +26,7 @@ pub fn refuse(io: &mut IoState, p: Pid, number: u8) -> CallEnd
 /// The call is done, and its process has these registers. Nothing is kept of it.
 pub fn answer(s: &mut ProcState, io: &mut IoState, p: Pid, regs: Regs) -> CallEnd
     requires lives { IsLiving s.old.table p.0 }
-    requires first { pending_at io.old p.0 ≡ None }
+    requires no_read { ReadsNoTerminal io.old p.0 }
     ensures end { result ≡ CallEnd.Done }
     ensures tied { (m : Processes) → RepresentsProcesses s.old m
         → RepresentsProcesses s.new (with_regs_of m p.0 regs) }
