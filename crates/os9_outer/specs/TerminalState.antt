@@ -1,11 +1,7 @@
 -- What can be observed of the terminals of a machine, as lists that do not depend on the kind of their drivers.
-use Rattle.std.specs.Prelude.{◌≡◌, ℕ, ◌≤◌, Option, Some, Result, List, map, slice_get, slice_set, OnOk, OnErr}
-use Rattle.os9_base.specs.Count.{Rose}
-use Rattle.os9_outer.specs.Stream.{stream_with, GainsPart}
-use Rattle.os9_outer.specs.Terminal.{OnFault, UnlessFault}
+use Rattle.std.specs.Prelude.{◌≡◌, ℕ, Option, Some, List, map, slice_get, slice_set}
 use Rattle.os9_outer.specs.declared.terminal.CharDriver.{Ghosts}
 use Rattle.os9_outer.specs.declared.terminal.Key.{Key}
-use Rattle.os9_outer.specs.declared.terminal.PutFault.{PutFault}
 
 -- the state of a terminal, as far as it can be observed
 pub record TerminalState : Type 0 where
@@ -28,13 +24,3 @@ abbrev pub ChangesOneTerminal : (TerminalState → TerminalState → Type 0) →
 ChangesOneTerminal change n before now =
     (old : TerminalState) × (new : TerminalState) × (slice_get before n ≡ Some old) × (now ≡ slice_set before n new)
     × change old new
-
--- these bytes were put on the terminal, as far as the result says
-pub record PutsOnTerminal {Value : Type 0} (answer : Result Value PutFault) (bytes : List ℕ) (old new : TerminalState)
-    : Type 0 where
-  pub all : OnOk answer (new.put ≡ stream_with old.put bytes)
-  pub part : OnErr answer (GainsPart old.put bytes new.put)
-  pub fault_counted : OnFault answer (Rose old.faults new.faults)
-  pub faults_kept : UnlessFault answer (new.faults ≡ old.faults)
-  pub never_falls : old.faults ≤ new.faults
-  pub keys_kept : new.keys ≡ old.keys

@@ -25,14 +25,14 @@ pub fn write_marks(
     requires places { AreMapPlaces v.old.ident.cluster v.old.map segs.now range.first range.count }
     requires cached { IsCacheOf (media d.old) v.old.cache }
     ensures on { NewMarks (media d.old) (media d.new) (mounted_part v.old) written.old written.new }
-    ensures all { OnOk result (AllWritten (clusters_from v.old.ident.cluster segs.now range.first
-        range.count) written.new) }
+    ensures all { OnOk result (AllWritten
+        (clusters_from v.old.ident.cluster segs.now range.first range.count) written.new) }
     ensures device { OnErr result (IsSome (file_fault result)) }
     ensures volume_kept { mounted_part v.new ≡ mounted_part v.old }
     ensures cached { IsCacheOf (media d.new) v.new.cache }
     ensures counts { (wanted : ℕ → Bool) (n : ℕ) → AreWanted v.old.ident.cluster segs.now
-        range.first range.count wanted n → Counts BlockDriver-dyn (file_fault result) (min
-        range.count (unwritten wanted written.old n)) d.old d.new }
+        range.first range.count wanted n → Counts BlockDriver-dyn (file_fault result)
+        (min range.count (unwritten wanted written.old n)) d.old d.new }
 {
     let k = v.ident.cluster;
     for i in 0..range.count {
@@ -52,8 +52,8 @@ fn write_mark(
     requires marking { IsMarking (mounted_part volume.old) (media d.old) written.old }
     requires in_map { cluster < volume.old.map.whole }
     requires cached { IsCacheOf (media d.old) volume.old.cache }
-    ensures on { NewMarks (media d.old) (media d.new) (mounted_part volume.old) written.old
-        written.new }
+    ensures on { NewMarks (media d.old) (media d.new)
+        (mounted_part volume.old) written.old written.new }
     ensures there { OnOk result (is_written written.new cluster ≡ true) }
     ensures marked { OnOk result (written.new ≡ set written.old (cluster / 2048) true) }
     ensures device { OnErr result (IsSome (file_fault result)) }

@@ -24,7 +24,7 @@ use Rattle.rbf_model.proofs.ImageLaws.{describe_image}
 use Rattle.rbf_model.proofs.Pieces.{length-put_at}
 use Rattle.rbf_model.proofs.SectorBytes.{length_of_file}
 use Rattle.rbf_sector.specs.Parts.{KeepsBeside}
-use Rattle.rbf_sector.proofs.Written.{number_kept, byte_kept, bytes_kept}
+use Rattle.rbf_sector.proofs.Written.{number_kept, byte_kept, bytes_kept, puts_beside, puts_there}
 use Rattle.rbf_sector.specs.declared.fd.Fd.{Fd}
 use Rattle.rbf_change.specs.Calls.{replaced, minute_of, changed_attributes, with_attributes, SetsAttributes}
 use Rattle.rbf_change.specs.NewFiles.{owns_file}
@@ -43,29 +43,6 @@ use Rattle.rbf_entries.specs.Becomes.{Becomes}
 use Rattle.rbf_entries.specs.Attributes.{attributed, attribute_calls, with_new_attributes, AnswersOwner}
 use Rattle.rbf_entries.proofs.Stored.{IsStored}
 
--- bytes that are put leave those beside them
-put_keeps : (old bytes : List ℕ) (at : ℕ) → at + length bytes ≤ length old → KeepsBeside old (put_at old at bytes) at (length bytes)
-put_keeps old bytes at fits =
-    let front = take at old ++ bytes in
-    let first : length (take at old) ≡ at = omega (arith, length-take at old) in
-    let both : length (take at old ++ bytes) ≡ at + length bytes = omega (arith, length-append (take at old) bytes) in
-    record {
-      same_length = length-put_at old bytes at fits;
-      before = λ i low.
-          get_or_append_left (take at old ++ bytes) (drop (at + length bytes) old) 0 i (omega arith) ∙ get_or_append_left (take at old) bytes 0 i (omega arith) ∙ get_or-take at old i 0 low;
-      behind = λ i past.
-          let place : at + length bytes + (i - (at + length bytes)) ≡ i = omega arith in
-          get_or-append_right (take at old ++ bytes) (drop (at + length bytes) old) (at + length bytes) i 0 both past
-          ∙ get_or-drop (at + length bytes) old (i - (at + length bytes)) 0 ∙ ap (λ k. get_or old k 0) place;
-    }
-
-put_there : (old bytes : List ℕ) (at : ℕ) → at ≤ length old → take (length bytes) (drop at (put_at old at bytes)) ≡ bytes
-put_there old bytes at fits =
-    let joined : put_at old at bytes ≡ take at old ++ (bytes ++ drop (at + length bytes) old) = simp append_assoc in
-    ap (λ b. take (length bytes) (drop at b)) joined
-    ∙ ap (take (length bytes)) (drop_at (take at old) (bytes ++ drop (at + length bytes) old) at (omega (arith, length-take at old)))
-    ∙ take_at bytes (drop (at + length bytes) old) (length bytes) refl
-
 -- a descriptor with other attributes
 module _ (d : List ℕ) (attributes : ℕ) (now : TimePacket) (whole : length d ≡ 256) where
   abbrev value : ℕ
@@ -75,13 +52,13 @@ module _ (d : List ℕ) (attributes : ℕ) (now : TimePacket) (whole : length d 
   mid = put_at d 0 (value ∷ [])
 
   first : KeepsBeside d mid 0 1
-  first = put_keeps d (value ∷ []) 0 (omega arith)
+  first = puts_beside d mid (value ∷ []) 0 (omega arith) refl
 
   mid_whole : length mid ≡ 256
   mid_whole = length-put_at d (value ∷ []) 0 (omega arith) ∙ whole
 
   second : KeepsBeside mid (attributed d attributes now) 3 5
-  second = put_keeps mid (minute_of now) 3 (let size = mid_whole in omega arith)
+  second = puts_beside mid (attributed d attributes now) (minute_of now) 3 (let size = mid_whole in omega arith) refl
 
   pub attributed_whole : length (attributed d attributes now) ≡ 256
   attributed_whole = length-put_at mid (minute_of now) 3 (let size = mid_whole in omega arith) ∙ mid_whole
@@ -90,7 +67,7 @@ module _ (d : List ℕ) (attributes : ℕ) (now : TimePacket) (whole : length d 
   attributes_are = byte_kept mid (attributed d attributes now) 3 5 0 second (inl (omega arith))
 
   modified_are : modified_field (attributed d attributes now) ≡ minute_of now
-  modified_are = put_there mid (minute_of now) 3 (let size = mid_whole in omega arith)
+  modified_are = puts_there mid (attributed d attributes now) (minute_of now) 3 (let size = mid_whole in omega arith) refl
 
   owner_same : owner_field (attributed d attributes now) ≡ owner_field d
   owner_same = number_kept mid (attributed d attributes now) 3 5 1 2 second (inl (omega arith)) ∙ number_kept d mid 0 1 1 2 first (inr (omega arith))

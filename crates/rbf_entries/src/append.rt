@@ -28,13 +28,14 @@ pub fn append_entry(
     requires mounted { IsMounted v.old (media d.old) }
     requires read { IsDescriptorLoaded (media d.old) found.now.dir.number found.now.dir }
     requires place { MayAppend (media d.old) found.now.dir.number found.now.place entry.now }
-    ensures answer { OnVolumeFile (media d.old) found.now.dir.number (λ on file. AnswersEntry on
-        file (entry_at found.now entry.now now) (media d.old) (media d.new) result) }
+    ensures answer { OnVolumeFile (media d.old) found.now.dir.number (λ on file.
+        AnswersEntry on file (entry_at found.now entry.now now)
+        (media d.old) (media d.new) result) }
     ensures device { OnErr result (IsSome (file_fault result)) }
     ensures mounted { IsMounted v.new (media d.new) }
-    ensures counts { OnVolumeFile (media d.old) found.now.dir.number (λ on file. Counts
-        BlockDriver-dyn (file_fault result) (3 + place_clusters on file found.now.place) d.old
-        d.new) }
+    ensures counts { OnVolumeFile (media d.old) found.now.dir.number (λ on file.
+        Counts BlockDriver-dyn (file_fault result)
+        (3 + place_clusters on file found.now.place) d.old d.new) }
 {
     let segs = &found.dir.file.segs;
     let count = clusters_for_place(v.ident.cluster, segs, found.place);

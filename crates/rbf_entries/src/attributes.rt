@@ -10,11 +10,10 @@ ghost use Rattle.rbf_walk.specs.Walk.{directory_fault};
 ghost use Rattle.rbf_entries.specs.Attributes.{attributed, attribute_calls, with_new_attributes, AnswersOwner};
 ghost use Rattle.rbf_entries.specs.Becomes.{Becomes};
 
-use crate::laid::put_bytes;
 use os9_base::registers::TimePacket;
 use os9_outer::drive::BlockDriver;
 use rbf_access::{FileFault, Volume};
-use rbf_sector::{Fd, read_fd};
+use rbf_sector::{Fd, put_bytes, read_fd};
 use rbf_walk::DirError;
 
 /// A change of attributes that is asked for: the new attributes, the user who asks, and the

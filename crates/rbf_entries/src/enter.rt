@@ -34,8 +34,9 @@ pub fn enter_file(
     requires mounted { IsMounted v.old (media d.old) }
     requires read { IsDescriptorLoaded (media d.old) found.now.dir.number found.now.dir }
     requires place { MayEnter (media d.old) found.now.dir.number found.now.place entry.now }
-    ensures answer { OnVolumeFile (media d.old) found.now.dir.number (λ on file. AnswersEntry on
-        file (entry_at found.now entry.now now) (media d.old) (media d.new) result) }
+    ensures answer { OnVolumeFile (media d.old) found.now.dir.number (λ on file.
+        AnswersEntry on file (entry_at found.now entry.now now)
+        (media d.old) (media d.new) result) }
     ensures device { OnErr result (IsSome (file_fault result)) }
     ensures mounted { IsMounted v.new (media d.new) }
     ensures counts { OnVolumeFile (media d.old) found.now.dir.number (λ on file.
@@ -58,9 +59,9 @@ fn fill_place(
     requires mounted { IsMounted v.old (media d.old) }
     requires read { IsDescriptorLoaded (media d.old) found.now.dir.number found.now.dir }
     requires place { MayFill (media d.old) found.now.dir.number found.now.place entry.now }
-    ensures answer { (now : TimePacket) → OnVolumeFile (media d.old) found.now.dir.number (λ on
-        file. AnswersEntry on file (entry_at found.now entry.now now) (media d.old) (media d.new)
-        result) }
+    ensures answer { (now : TimePacket)
+        → OnVolumeFile (media d.old) found.now.dir.number (λ on file. AnswersEntry on file
+        (entry_at found.now entry.now now) (media d.old) (media d.new) result) }
     ensures device { OnErr result (IsSome (file_fault result)) }
     ensures mounted { IsMounted v.new (media d.new) }
     ensures counts { Counts BlockDriver-dyn (file_fault result) 2 d.old d.new }

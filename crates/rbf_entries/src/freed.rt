@@ -7,9 +7,9 @@ ghost use Rattle.rbf_access.specs.Mounted.{mounted_part, IsSoundMedia};
 ghost use Rattle.rbf_entries.specs.Becomes.{with_piece};
 
 use crate::deletion::Deletable;
-use crate::laid::put_bytes;
 use os9_outer::drive::BlockDriver;
 use rbf_access::{FileFault, Volume};
+use rbf_sector::put_bytes;
 
 /// Makes free an entry that [`crate::find_deletable`] has found: its first byte becomes 0, and the
 /// others are unchanged (OS-9 Technical Reference, Random Block File Manager, "Directories"). The

@@ -14,7 +14,6 @@ mod folder;
 mod folder_parts;
 mod found;
 mod freed;
-mod laid;
 mod listing;
 mod made;
 mod make;

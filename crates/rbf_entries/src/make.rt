@@ -73,9 +73,10 @@ pub fn make_dir_at(
     requires mounted { IsMounted v.old (media d.old) }
     requires place { IsPlaceForName (media d.old) file.now.name found.now }
     requires reading { found.now.by.execute ≡ false }
-    ensures answer { OnVolumeFile (media d.old) found.now.dir.number (λ on parent. AnswersEntering
-        on parent (folder_request found.now.dir.number file.now.name file.now.attr found.now.by.user
-        file.now.date) (media d.old) (media d.new) (widened result)) }
+    ensures answer { OnVolumeFile (media d.old) found.now.dir.number (λ on parent.
+        AnswersEntering on parent (folder_request
+        found.now.dir.number file.now.name file.now.attr found.now.by.user file.now.date)
+        (media d.old) (media d.new) (widened result)) }
     ensures mounted { IsMounted v.new (media d.new) }
     ensures counts { OnVolumeFile (media d.old) found.now.dir.number (λ on parent.
         Counts BlockDriver-dyn (file_fault result)

@@ -31,9 +31,10 @@ pub fn create_at(
     requires mounted { IsMounted v.old (media d.old) }
     requires place { IsPlaceForName (media d.old) file.now.name found.now }
     requires attributes { file.now.attr < 128 }
-    ensures answer { OnVolumeFile (media d.old) found.now.dir.number (λ on dir. AnswersEntering on
-        dir (request found.now.dir.number file.now.name file.now.attr found.now.by.user
-        found.now.by.execute file.now.date) (media d.old) (media d.new) (widened result)) }
+    ensures answer { OnVolumeFile (media d.old) found.now.dir.number (λ on dir.
+        AnswersEntering on dir (request found.now.dir.number file.now.name file.now.attr
+        found.now.by.user found.now.by.execute file.now.date)
+        (media d.old) (media d.new) (widened result)) }
     ensures mounted { IsMounted v.new (media d.new) }
     ensures counts { OnVolumeFile (media d.old) found.now.dir.number (λ on dir.
         Counts BlockDriver-dyn (file_fault result)

@@ -1,8 +1,7 @@
-ghost use Rattle.std.specs.Prelude.{◌≡◌, ◌+◌, ◌*◌, ◌%◌, ◌<◌, ◌≤◌, OnOk, OnErr, IsSome, length};
+ghost use Rattle.std.specs.Prelude.{◌≡◌, ◌*◌, ◌%◌, ◌<◌, OnOk, OnErr, IsSome, length};
 ghost use Rattle.os9_outer.specs.Drive.{sector_count};
 ghost use Rattle.rbf_model.specs.Fields.{segments_field};
 ghost use Rattle.rbf_model.specs.Segments.{sectors_of};
-ghost use Rattle.rbf_model.specs.Writes.{put_at};
 ghost use Rattle.rbf_access.specs.Cached.{IsCacheOf};
 ghost use Rattle.rbf_access.specs.Drive.{Counts};
 ghost use Rattle.rbf_access.specs.Faults.{file_fault};
@@ -13,7 +12,7 @@ ghost use Rattle.rbf_write.specs.Finished.{IsResized};
 use os9_base::registers::TimePacket;
 use os9_outer::drive::BlockDriver;
 use rbf_access::{FileFault, Volume};
-use rbf_sector::Fd;
+use rbf_sector::{Fd, put_bytes};
 use rbf_segs::Segs;
 use rbf_write::{Loaded, minute, with_descriptor};
 
@@ -40,14 +39,6 @@ pub fn put_entry(
     put_bytes(&mut bytes, 32 * (place % 8) as usize, entry);
     v.store(d, lsn, &bytes)?;
     Ok(())
-}
-
-// Writes bytes over a part of a sector.
-fn put_bytes(sector: &mut [u8; 256], at: usize, from: &[u8])
-    requires { at + length from.now ≤ 256 }
-    ensures { sector.new ≡ put_at sector.old at from.now }
-{
-    sector[at..at + from.len()].copy_from_slice(from);
 }
 
 // The descriptor of a directory with a new size, these segments, and the date of that change.

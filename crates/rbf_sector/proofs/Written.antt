@@ -1,9 +1,11 @@
 -- What a write to a part of a sector leaves.
-use Rattle.std.proofs.Common.{◌≡◌, ◌⊎◌, ℕ, ◌+◌, ◌-◌, ◌*◌, ◌^◌, ◌<◌, ◌≤◌, zero, suc, List, [], ◌∷◌, ◌++◌, length, take, drop, get_or, set, length-set, get_or-set_other, slice_index, refl, sym, ap, ap₂, ◌∙◌, inl, inr, arith, length-append, length-drop, length-take, length-take-le, subst}
+use Rattle.std.proofs.Common.{◌≡◌, ◌⊎◌, ℕ, ◌+◌, ◌-◌, ◌*◌, ◌^◌, ◌<◌, ◌≤◌, zero, suc, List, [], ◌∷◌, ◌++◌, length, take, drop, get_or, set, length-set, get_or-set_other, slice_index, refl, sym, ap, ap₂, ◌∙◌, inl, inr, arith, append_assoc, length-append, length-drop, length-take, length-take-le, subst}
 use borrow.Rule.Slice.PartMut.{put_mid}
-use Rattle.std.proofs.lemmas.List.{take_rest, drop-drop, drop_all, get_or_append_left, get_or-append_right, get_or-take, get_or-drop}
+use Rattle.std.proofs.lemmas.List.{take_rest, drop-drop, drop_all, get_or_append_left, get_or-append_right, get_or-take, get_or-drop, take_at, drop_at}
 use Rattle.std.proofs.lemmas.Grind.{same_number_lists}
 use Rattle.byteorder.specs.Endian.{big_from, big_bytes}
+use Rattle.rbf_model.specs.Writes.{put_at}
+use Rattle.rbf_model.proofs.Pieces.{length-put_at}
 use Rattle.rbf_sector.specs.Parts.{KeepsBeside, PutsNumber}
 
 append_nil : (xs : List ℕ) → xs ++ [] ≡ xs
@@ -55,6 +57,33 @@ set_beside xs at byte = record {
   before = λ i below. get_or-set_other xs at i byte 0 (λ e. absurd (omega arith));
   behind = λ i past. get_or-set_other xs at i byte 0 (λ e. absurd (omega arith));
 }
+
+-- bytes are written: they are there, and those beside them are kept
+pub puts_there : (old new bytes : List ℕ) (at : ℕ) → at ≤ length old → new ≡ put_at old at bytes → take (length bytes) (drop at new) ≡ bytes
+puts_there old new bytes at fits is =
+    let behind = drop (at + length bytes) old in
+    let joined : put_at old at bytes ≡ take at old ++ (bytes ++ behind) = simp append_assoc in
+    ap (λ b. take (length bytes) (drop at b)) (is ∙ joined)
+    ∙ ap (take (length bytes)) (drop_at (take at old) (bytes ++ behind) at (omega (arith, length-take at old)))
+    ∙ take_at bytes behind (length bytes) refl
+
+puts_keeps : (old bytes : List ℕ) (at : ℕ) → at + length bytes ≤ length old → KeepsBeside old (put_at old at bytes) at (length bytes)
+puts_keeps old bytes at fits =
+    let first : length (take at old) ≡ at = omega (arith, length-take at old) in
+    let both : length (take at old ++ bytes) ≡ at + length bytes = omega (arith, length-append (take at old) bytes) in
+    record {
+      same_length = length-put_at old bytes at fits;
+      before = λ i low.
+          get_or_append_left (take at old ++ bytes) (drop (at + length bytes) old) 0 i (omega arith) ∙ get_or_append_left (take at old) bytes 0 i (omega arith) ∙ get_or-take at old i 0 low;
+      behind = λ i past.
+          let place : at + length bytes + (i - (at + length bytes)) ≡ i = omega arith in
+          get_or-append_right (take at old ++ bytes) (drop (at + length bytes) old) (at + length bytes) i 0 both past
+          ∙ get_or-drop (at + length bytes) old (i - (at + length bytes)) 0 ∙ ap (λ k. get_or old k 0) place;
+    }
+
+pub puts_beside : (old new bytes : List ℕ) (at : ℕ) → at + length bytes ≤ length old → new ≡ put_at old at bytes → KeepsBeside old new at (length bytes)
+puts_beside old new bytes at fits is =
+    subst (λ now. KeepsBeside old now at (length bytes)) (sym is) (puts_keeps old bytes at fits)
 
 -- a number of n bytes, as it is written
 length-big_bytes : (n x : ℕ) → length (big_bytes n x) ≡ n

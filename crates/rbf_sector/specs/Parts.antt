@@ -1,5 +1,5 @@
 -- A part of a sector that is overwritten.
-use Rattle.std.specs.Prelude.{◌≡◌, ℕ, ◌+◌, ◌<◌, ◌≤◌, List, length, take, drop, slice_index}
+use Rattle.std.specs.Prelude.{◌≡◌, ℕ, ◌+◌, ◌<◌, ◌≤◌, List, length, slice_index}
 use Rattle.byteorder.specs.Endian.{big_from}
 
 -- the bytes are unchanged, except `count` bytes from place `at` on
@@ -12,8 +12,3 @@ pub record KeepsBeside (old new : List ℕ) (at count : ℕ) : Type 0 where
 pub record PutsNumber (old new : List ℕ) (at count value : ℕ) : Type 0 where
   pub number : big_from at count new ≡ value
   pub beside : KeepsBeside old new at count
-
--- bytes have been written there
-pub record PutsBytes (old new : List ℕ) (at : ℕ) (bytes : List ℕ) : Type 0 where
-  pub there : take (length bytes) (drop at new) ≡ bytes
-  pub beside : KeepsBeside old new at (length bytes)

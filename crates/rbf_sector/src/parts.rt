@@ -1,6 +1,7 @@
 ghost use Rattle.std.specs.Prelude.{◌≡◌, ◌+◌, ◌^◌, ◌<◌, ◌≤◌, length};
 ghost use Rattle.byteorder.specs.Endian.{big_from};
-ghost use Rattle.rbf_sector.specs.Parts.{PutsNumber, PutsBytes};
+ghost use Rattle.rbf_model.specs.Writes.{put_at};
+ghost use Rattle.rbf_sector.specs.Parts.{PutsNumber};
 
 use byteorder::{BigEndian, ByteOrder};
 
@@ -41,6 +42,7 @@ pub fn put_u24(bytes: &mut [u8], at: usize, value: u32)
     BigEndian::write_u24(&mut bytes[at..], value);
 }
 
+/// Writes a number over four bytes, its highest byte first.
 pub fn put_u32(bytes: &mut [u8], at: usize, value: u32)
     requires { at + 4 ≤ length bytes.old }
     ensures { PutsNumber bytes.old bytes.new at 4 value }
@@ -48,9 +50,10 @@ pub fn put_u32(bytes: &mut [u8], at: usize, value: u32)
     BigEndian::write_u32(&mut bytes[at..], value);
 }
 
+/// Writes bytes over a part of others.
 pub fn put_bytes(bytes: &mut [u8], at: usize, from: &[u8])
     requires { at + length from.now ≤ length bytes.old }
-    ensures { PutsBytes bytes.old bytes.new at from.now }
+    ensures { bytes.new ≡ put_at bytes.old at from.now }
 {
     bytes[at..at + from.len()].copy_from_slice(from);
 }

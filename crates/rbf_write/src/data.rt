@@ -45,15 +45,16 @@ pub fn fill(
 ) -> Result<(), FileFault>
     requires mounted { IsMounted volume.old (media d.old) }
     requires may { MayLay (media d.old) file.segs.now file.size write.at write.bytes.now }
-    ensures fills { (u : DiskVolume) (n : ℕ) (old : DiskFile) → RepresentsVolume (media d.old) u →
-        IsDataOf u n old file.entry.segs.now file.entry.size → Fills u n old file.entry.segs.now
-        file.entry.size write.entry.at write.entry.bytes.now (media d.old) (media d.new) result }
+    ensures fills { (u : DiskVolume) (n : ℕ) (old : DiskFile) → RepresentsVolume (media d.old) u
+        → IsDataOf u n old file.entry.segs.now file.entry.size
+        → Fills u n old file.entry.segs.now file.entry.size write.entry.at write.entry.bytes.now
+        (media d.old) (media d.new) result }
     ensures device { OnErr result (IsSome (file_fault result)) }
     ensures mounted { IsMounted volume.new (media d.new) }
     ensures volume_kept { mounted_part volume.new ≡ mounted_part volume.old }
-    ensures counts { Counts BlockDriver-dyn (file_fault result) (2 * sector_span (min
-        file.entry.size write.entry.at) (write.entry.at + length write.entry.bytes.now)) d.old
-        d.new }
+    ensures counts { Counts BlockDriver-dyn (file_fault result)
+        (2 * sector_span (min file.entry.size write.entry.at)
+        (write.entry.at + length write.entry.bytes.now)) d.old d.new }
 {
     let first = file.size.min(write.at) / 256;
     let end = (write.at as usize + write.bytes.len()).div_ceil(256) as u32;

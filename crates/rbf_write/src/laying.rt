@@ -69,8 +69,8 @@ fn lay_longer(
     requires mounted { IsMounted volume.old (media d.old) }
     requires loaded { IsLoadedFile (media d.old) loaded.now }
     requires some { min loaded.now.file.size write.at < write.at + length write.bytes.now }
-    requires count { IsClusterCount volume.old.ident.cluster loaded.now.file.segs (write.at + length
-        write.bytes.now) count }
+    requires count { IsClusterCount volume.old.ident.cluster loaded.now.file.segs
+        (write.at + length write.bytes.now) count }
     ensures answer { OnVolumeFile (media d.old) loaded.now.number (λ v file. AnswersLaying v file
         (laying_of loaded.now.number write.entry) (media d.old) (media d.new) result) }
     ensures calls_kept { OnErr result (IsRefusal result → drive_calls d.new ≡ drive_calls d.old) }
@@ -102,8 +102,8 @@ fn finish(
     loaded: &Loaded,
     new: NewFields<'_>,
 ) -> Result<(), FileFault>
-    requires may { MayFinish (media d.old) loaded.now new.segs.now (IsFinished loaded.now
-        new.segs.now new.size new.date (media d.old)) }
+    requires may { MayFinish (media d.old) loaded.now new.segs.now
+        (IsFinished loaded.now new.segs.now new.size new.date (media d.old)) }
     requires cached { IsCacheOf (media d.old) volume.old.cache }
     ensures done { OnOk result (IsFinished loaded.now new.entry.segs.now new.entry.size
         new.entry.date (media d.old) (media d.new)) }
@@ -112,8 +112,8 @@ fn finish(
     ensures device { OnErr result (IsSome (file_fault result)) }
     ensures volume_kept { mounted_part volume.new ≡ mounted_part volume.old }
     ensures cached { IsCacheOf (media d.new) volume.new.cache }
-    ensures counts { Counts BlockDriver-dyn (file_fault result) (if nat_lt loaded.now.file.size
-        new.entry.size then 1 else 0) d.old d.new }
+    ensures counts { Counts BlockDriver-dyn (file_fault result)
+        (if nat_lt loaded.now.file.size new.entry.size then 1 else 0) d.old d.new }
 {
     if new.size <= loaded.file.size {
         return Ok(());

@@ -1,18 +1,17 @@
-ghost use Rattle.std.specs.Prelude.{◌≡◌, ◌+◌, ◌<◌, ◌≤◌, length, nat_lt, if◌then◌else◌, OnOk, OnErr, IsSome};
+ghost use Rattle.std.specs.Prelude.{◌≡◌, ◌<◌, nat_lt, if◌then◌else◌, OnOk, OnErr, IsSome};
 ghost use Rattle.rbf_access.specs.Cached.{IsCacheOf};
 ghost use Rattle.rbf_access.specs.Drive.{Counts};
 ghost use Rattle.rbf_access.specs.Faults.{file_fault};
 ghost use Rattle.rbf_access.specs.Mounted.{mounted_part};
 ghost use Rattle.rbf_model.specs.Fields.{segments_field};
-ghost use Rattle.rbf_sector.specs.Parts.{PutsBytes, PutsNumber};
 ghost use Rattle.rbf_write.specs.Changed.{HasFields};
 ghost use Rattle.rbf_write.specs.Finished.{IsFinished, IsResized, MayResize};
 
 use crate::{Loaded, minute};
-use byteorder::{BigEndian, ByteOrder};
 use os9_base::registers::TimePacket;
 use os9_outer::drive::BlockDriver;
 use rbf_access::{FileFault, Volume};
+use rbf_sector::{put_bytes, put_u32};
 
 // Writes the descriptor of a file that has kept its segments, if its bytes now have a later end.
 pub fn resize(
@@ -53,20 +52,4 @@ fn resized(loaded: &Loaded, size: u32, now: &TimePacket) -> [u8; 256]
     put_bytes(&mut bytes, 3, &minute(now));
     put_u32(&mut bytes, 9, size);
     bytes
-}
-
-// Puts bytes over others.
-fn put_bytes(bytes: &mut [u8], at: usize, from: &[u8])
-    requires { at + length from.now ≤ length bytes.old }
-    ensures { PutsBytes bytes.old bytes.new at from.now }
-{
-    bytes[at..at + from.len()].copy_from_slice(from);
-}
-
-// Puts a number over four bytes, its highest byte first.
-fn put_u32(bytes: &mut [u8], at: usize, value: u32)
-    requires { at + 4 ≤ length bytes.old }
-    ensures { PutsNumber bytes.old bytes.new at 4 value }
-{
-    BigEndian::write_u32(&mut bytes[at..], value);
 }

@@ -1,7 +1,8 @@
-ghost use Rattle.std.specs.Prelude.{◌≡◌, ℕ, ◌+◌, ◌-◌, ◌<◌, ◌≤◌, length, min, slice_index, true, IfSome};
-ghost use Rattle.rbf_model.specs.Writes.{put_at};
+ghost use Rattle.std.specs.Prelude.{◌≡◌, ℕ, ◌+◌, ◌-◌, ◌<◌, ◌≤◌, min, slice_index, true, IfSome};
 ghost use Rattle.rbf_write.specs.Laid.{laid_byte};
 ghost use Rattle.rbf_write.specs.Sector.{CoversSector, ClearsBytes, IsPartIn};
+
+use rbf_sector::put_bytes;
 
 // Do all bytes of a sector that begins in place `start` of the file lie from `size` up to `at`?
 pub fn is_zeros(start: u32, size: u32, at: u32) -> bool
@@ -61,12 +62,4 @@ fn clear(bytes: &mut [u8; 256], first: usize, end: usize)
     }
     let zeros = [0; 256];
     put_bytes(bytes, first, &zeros[..end.saturating_sub(first)]);
-}
-
-// Puts bytes over a part of a sector.
-fn put_bytes(bytes: &mut [u8; 256], at: usize, from: &[u8])
-    requires { at + length from.now ≤ 256 }
-    ensures { bytes.new ≡ put_at bytes.old at from.now }
-{
-    bytes[at..at + from.len()].copy_from_slice(from);
 }
