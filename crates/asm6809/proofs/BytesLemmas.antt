@@ -1,9 +1,9 @@
 -- The bytes of statements by a table of labels are those by its list.
-use Rattle.proc_model.specs.UserBytes.{word_bytes}
 use Rattle.std.proofs.Common.{◌≡◌, ℕ, ◌+◌, Some, List, [], ◌∷◌, ◌++◌, map, refl, ap, ◌∙◌, pos}
 use Rattle.std.specs.Prelude.{option_map, option_and_then, is_some, unwrap_or}
 use Rattle.std.specs.Option.{option_map_or}
 use Rattle.std.specs.List.{flat_map}
+use Rattle.proc_model.specs.UserBytes.{word_bytes}
 use Rattle.cpu_table.specs.Spelling.{spelling}
 use Rattle.asm_model.specs.declared.operand.Wanted.{Wanted}
 use Rattle.asm_model.specs.declared.operand.Wanted.TheVariants.{Nothing, Fixed, Value}

@@ -1,7 +1,7 @@
 -- Parts of a text, one after another, and the mark of its last character.
-use Rattle.os9_base.specs.Name.{marked_name}
 use Rattle.std.proofs.Common.{◌≡◌, ◌≤◌, ℕ, suc, ◌+◌, ◌-◌, ◌<◌, List, [], ◌∷◌, ◌++◌, length, take, drop, get_or, refl, ap, sym, ◌∙◌, arith, add-one, drop-cons, append_assoc, append-nil}
 use Rattle.std.proofs.lemmas.List.{drop_all, take_all, take_more}
+use Rattle.os9_base.specs.Name.{marked_name}
 
 module _ (bytes_of : List (List ℕ) → List ℕ) (bytes : List ℕ → List ℕ) (step : (part : List ℕ) (rest : List (List ℕ)) → bytes_of (part ∷ rest) ≡ bytes part ++ bytes_of rest)
     (parts : List (List ℕ)) (place : ℕ) (code whole : List ℕ) (so_far : code ++ bytes_of (drop place parts) ≡ whole) where

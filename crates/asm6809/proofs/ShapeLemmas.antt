@@ -1,8 +1,8 @@
 -- The instructions of a source are those of its words and operands.
-use Rattle.os9_base.specs.Name.{marked_name}
 use Rattle.std.proofs.Common.{◌≡◌, ℕ, Bool, true, false, Option, Some, None, List, [], ◌∷◌, map, not, refl}
 use Rattle.std.specs.Prelude.{option_map, if◌then◌else◌}
 use Rattle.std.specs.List.{slice_split, list_all}
+use Rattle.os9_base.specs.Name.{marked_name}
 use Rattle.text_values.specs.Cuts.{first_word, behind_word, without_spaces}
 use Rattle.asm_model.specs.declared.directive.Directive.{Directive}
 use Rattle.asm_model.specs.declared.directive.Directive.TheVariants.{Mod, Emod, Equ, Fcb, Fdb, Fcc, Fcs, Os9}

@@ -1,6 +1,4 @@
 -- Where the statements of a module stand.
-use Rattle.proc_model.specs.UserBytes.{word_bytes}
-use Rattle.os9_base.specs.Name.{marked_name}
 use Rattle.std.proofs.Common.{◌≡◌, ◌≤◌, ℕ, ◌+◌, ◌*◌, ◌&&◌, true, false, Option, Some, None, List, [], ◌∷◌, ◌++◌, length, take, drop, refl, ap, sym, subst, ◌∙◌, arith, length-append, length-drop, append_assoc}
 use Rattle.std.specs.Prelude.{option_map, is_some, sum_by, All, IsSomeAnd, Ok}
 use Rattle.std.specs.Option.{option_map_or}
@@ -9,6 +7,8 @@ use Rattle.std.proofs.lemmas.Bool.{and_parts}
 use Rattle.std.proofs.lemmas.List.{take_at, drop_at, drop-drop, length-map}
 use Rattle.std.proofs.lemmas.List.Elements.{All-cons, All-nil}
 use Rattle.std.proofs.lemmas.List.Sums.{sum_by-cons}
+use Rattle.proc_model.specs.UserBytes.{word_bytes}
+use Rattle.os9_base.specs.Name.{marked_name}
 use Rattle.proc_model.specs.CrcModel.{crc_of}
 use Rattle.cpu_model.specs.declared.instruction.Tail.{Tail}
 use Rattle.cpu_model.specs.declared.instruction.Tail.TheVariants.{Empty, Byte}

@@ -1,9 +1,9 @@
 -- The module that a source makes (this project's own).
-use Rattle.proc_model.specs.UserBytes.{word_bytes}
-use Rattle.os9_base.specs.Name.{marked_name}
 use Rattle.std.specs.Prelude.{◌≡◌, ℕ, ◌+◌, ◌&&◌, not, nat_le, nat_lt, Bool, false, true, Option, Some, None, is_some, option_map, option_and_then, unwrap_or, sum_by, All, IsSomeAnd, Result, Ok, Err, List, [], ◌∷◌, length, take, drop, map, ℤ, pos, codes, if◌then◌else◌}
 use Rattle.std.specs.Option.{option_map_or}
 use Rattle.std.specs.List.{flat_map, list_all}
+use Rattle.proc_model.specs.UserBytes.{word_bytes}
+use Rattle.os9_base.specs.Name.{marked_name}
 use Rattle.os9_base.specs.declared.limits.TheConstants.{MOST_GROUP_BYTES}
 use Rattle.proc_model.specs.CrcModel.{crc_of}
 use Rattle.proc_model.specs.Module.{IsModule, info_at}

@@ -1,8 +1,8 @@
 -- The bytes of statements, by a table of labels.
-use Rattle.proc_model.specs.UserBytes.{word_bytes}
 use Rattle.std.specs.Prelude.{ℕ, ◌+◌, Option, Some, option_map, unwrap_or, List, [], ◌∷◌, map, ℤ, pos}
 use Rattle.std.specs.Option.{option_map_or}
 use Rattle.std.specs.List.{flat_map}
+use Rattle.proc_model.specs.UserBytes.{word_bytes}
 use Rattle.cpu_model.specs.declared.instruction.Tail.{Tail}
 use Rattle.cpu_table.specs.Spelling.{spelling}
 use Rattle.asm_model.specs.Operands.{Operand, modulo}

@@ -1,7 +1,7 @@
-ghost use Rattle.proc_model.specs.UserBytes.{word_bytes};
-ghost use Rattle.os9_base.specs.Name.{marked_name};
 ghost use Rattle.std.specs.Prelude.{◌≡◌, ◌+◌, ◌++◌, ◌∷◌, [], Some, map, None, option_map, IfOk, OnSome, if◌then◌else◌};
 ghost use Rattle.std.specs.List.{flat_map, slice_split};
+ghost use Rattle.proc_model.specs.UserBytes.{word_bytes};
+ghost use Rattle.os9_base.specs.Name.{marked_name};
 ghost use Rattle.asm_model.specs.Characters.{is_comma};
 ghost use Rattle.asm_model.specs.Placement.{Reached as ReachedOf, action_length};
 ghost use Rattle.asm6809.specs.Assembled as model;

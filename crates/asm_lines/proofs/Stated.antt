@@ -1,10 +1,10 @@
 -- What a source's lines state of instructions is what a line of an instruction alone is read as.
-use Rattle.os9_base.specs.Name.{marked_name}
 use Rattle.std.proofs.Common.{◌≡◌, ℕ, zero, suc, ◌&&◌, not, Bool, true, false, Option, Some, None, List, [], ◌∷◌, map, drop, refl, ap, sym, ◌∙◌}
 use Rattle.std.specs.Prelude.{option_map, option_and_then, if◌then◌else◌}
 use Rattle.std.specs.List.{slice_split, list_all, find, position_or_len}
 use Rattle.std.specs.Str.{bytes_eq, str_to_ascii_lowercase}
 use Rattle.std.proofs.lemmas.Bool.{and_parts}
+use Rattle.os9_base.specs.Name.{marked_name}
 use Rattle.cpu_model.specs.declared.instruction.Instr.{Instr}
 use Rattle.cpu_model.specs.BasePage.{base_page}
 use Rattle.cpu_model.specs.TenPage.{ten_page}

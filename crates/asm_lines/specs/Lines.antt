@@ -1,7 +1,7 @@
 -- The meaning of lines that were read, independent of where their texts are in memory.
-use Rattle.os9_base.specs.Name.{marked_name}
 use Rattle.std.specs.Prelude.{ℕ, ◌&&◌, Bool, option_map, List}
 use Rattle.std.specs.List.{slice_split}
+use Rattle.os9_base.specs.Name.{marked_name}
 use Rattle.asm_model.specs.Characters.{is_comma}
 use Rattle.asm_model.specs.Statements as model
 use Rattle.asm_text.specs.Views.{shape_as}

@@ -1,8 +1,8 @@
 -- The lines that are a statement, by their texts (this project's own, in the manner of the usual assemblers
 -- of the 6809).
-use Rattle.os9_base.specs.Name.{marked_name}
 use Rattle.std.specs.Prelude.{◌≡◌, ℕ, Bool, true, false, Option, Some, None, List, [], ◌∷◌, ◌++◌, ℤ}
 use Rattle.std.specs.List.{list_all, list_any}
+use Rattle.os9_base.specs.Name.{marked_name}
 use Rattle.cpu_model.specs.declared.instruction.Instr.{Instr}
 use Rattle.text_values.specs.Cuts.{is_space, behind_word, without_spaces}
 use Rattle.asm_model.specs.declared.directive.Directive.{Directive}

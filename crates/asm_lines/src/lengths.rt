@@ -1,6 +1,6 @@
-ghost use Rattle.os9_base.specs.Name.{marked_name};
 ghost use Rattle.std.specs.Prelude.{◌≡◌, ◌+◌, ◌<◌, ◌^◌, IfOk, length, option_map};
 ghost use Rattle.std.specs.List.{slice_split};
+ghost use Rattle.os9_base.specs.Name.{marked_name};
 ghost use Rattle.module_format.specs.GuestModule.{kind_header_length};
 ghost use Rattle.asm_model.specs.Characters.{is_comma};
 ghost use Rattle.asm_model.specs.Placement as model;

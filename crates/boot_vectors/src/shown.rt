@@ -1,10 +1,10 @@
+ghost use Rattle.std.specs.Prelude.{◌≡◌, ◌+◌, true, All, OnOk, bytes_eq, length, []};
+ghost use Rattle.std.specs.Bool.{OnTrue};
 ghost use Rattle.boot_run.specs.Drives.{HaveRoom};
 ghost use Rattle.boot_run.specs.Ready.{DevicesAreFree};
 ghost use Rattle.os9_kernel.specs.Outside.{outside};
 ghost use Rattle.file_drives.specs.Drives.{drive_views};
 ghost use Rattle.boot_run.specs.Loaded.{HasNoKeys};
-ghost use Rattle.std.specs.Prelude.{◌≡◌, ◌+◌, true, All, OnOk, bytes_eq, length, []};
-ghost use Rattle.std.specs.Bool.{OnTrue};
 ghost use Rattle.device_table.specs.Seen.{terminal_states};
 
 use crate::answering::are_answering;

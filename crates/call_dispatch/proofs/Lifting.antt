@@ -1,16 +1,15 @@
 -- What an attempt of a call on terminals and pipes comes to, in the state of files.
-use Rattle.proc_state.proofs.Entered.{some-machine}
-use Rattle.io_model.specs.Rows.{effect_of}
 use Rattle.std.proofs.Common.{◌≡◌, ◌≢◌, ◌∙◌, ℕ, None, List, [], length, replicate, refl, sym, ap, subst, inl, inr, arith}
+use Rattle.proc_state.proofs.Entered.{some-machine}
 use Rattle.os9_base.specs.declared.call.CallEnd.{CallEnd}
 use Rattle.os9_base.specs.declared.call.CallEnd.TheVariants.{NoMemory}
 use Rattle.os9_base.specs.declared.registers.TimePacket.{TimePacket}
 use Rattle.os9_outer.specs.TerminalState.{TerminalState}
 use Rattle.proc_model.specs.CallResult.{CallResult}
 use Rattle.proc_model.specs.Processes.{Processes}
-use Rattle.io_model.specs.Attempts.{IoDoes, IoAttempts, caller_of, io_after, result_of, step_of}
+use Rattle.io_model.specs.Attempts.{HasIoEffect, IoAttempts, caller_of, io_after, result_of, step_of}
 use Rattle.io_model.specs.Io.{Io}
-use Rattle.io_model.specs.Step.{Caller, IoEffect, IoStep, refused, comes, reads, writes}
+use Rattle.io_model.specs.Step.{Caller, IoEffect, IoStep, refused, comes, reads, writes, effect_of}
 use Rattle.io_model.specs.declared.io_call.IoCall.{IoCall}
 use Rattle.io_state.specs.Attempt.{IoAttempted as AttemptsOnDevice}
 use Rattle.proc_state.specs.Tie.{ReturnsCallEnd}
@@ -102,7 +101,7 @@ module _ (call : PathCall) (m : Processes) (files : Files) (now : TimePacket) (p
       (before after : List TerminalState) (stands : RepresentsFiles state views files) (cancelled : records ≡ with_waiting
       state.records p None) where
     pub lifts-step : (step : IoStep) (effect : IoEffect) → deed_of (file_step call (asker_of m p now) files
-        (length before)) files ≡ as_io step → IoDoes step (caller_of m p) files.io effect before after
+        (length before)) files ≡ as_io step → HasIoEffect step (caller_of m p) files.io effect before after
         → ReturnsCallEnd m p (result_of m p effect) end processes → io ≡ io_after p effect → FileAttempted call m files now p end
         processes (record state { io = io; records = records }) views before after
     lifts-step step effect on does told io_is =
@@ -157,7 +156,7 @@ module _ (call : PathCall) (m : Processes) (files : Files) (now : TimePacket) (p
 
 -- ---- attempts that reach no terminal
 
-does-quiet : (step : IoStep) (caller : Caller) (io : Io) (terms : List TerminalState) → IsQuiet step → IoDoes step caller io (effect_of step io) terms terms
+does-quiet : (step : IoStep) (caller : Caller) (io : Io) (terms : List TerminalState) → IsQuiet step → HasIoEffect step caller io (effect_of step io) terms terms
 does-quiet (refused number) caller io terms quiet = (refl, refl)
 does-quiet (comes effect) caller io terms quiet = (refl, refl)
 does-quiet (reads read) caller io terms quiet = absurd quiet

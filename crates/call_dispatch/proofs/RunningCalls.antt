@@ -1,8 +1,8 @@
 -- In every state of a run the chosen process may attempt its call on paths.
-use Rattle.io_model.specs.Read.{IsReadAllowed}
 use Rattle.std.proofs.Common.{◌≡◌, ℕ, ◌<◌, Option, Some, None, IfSome, refl, sym, ap, ◌∙◌, subst}
 use Rattle.std.specs.Prelude.{option_map}
 use Rattle.std.proofs.lemmas.Option.{none-some, same_Some}
+use Rattle.io_model.specs.Read.{IsReadAllowed}
 use Rattle.os9_base.specs.Cells.{Cells}
 use Rattle.os9_base.specs.declared.registers.Regs.{Regs}
 use Rattle.guest_memory.specs.Tie.{cells_of}

@@ -40,7 +40,7 @@ pub enum ListCall {
     DeletX,
 }
 
-/// An attempt, at the time of the request, of a call that takes a path list, by a living process
+/// An attempt, at the time `by.time`, of a call that takes a path list, by a living process
 /// (System Programmer's Manual, "I/O service requests"). The result is not yet given to the
 /// process. The call never waits, and puts no byte on a terminal.
 ///

@@ -34,7 +34,7 @@ pub enum NumberCall {
     Use(PathUse),
 }
 
-/// An attempt, at the time of the request, of a call on the number of a path, by a living process
+/// An attempt, at the time `by.time`, of a call on the number of a path, by a living process
 /// (System Programmer's Manual, "I/O service requests"). The result is not yet given to the
 /// process. If a call of the process is pending, this is a further attempt of it. `NoMemory` is
 /// returned only if there was no memory for a byte that is put on a terminal, or for an entry of

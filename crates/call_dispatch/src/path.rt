@@ -35,7 +35,7 @@ use os9_base::call::CallEnd;
 use os9_outer::drive::BlockDriver;
 use os9_outer::terminal::CharDriver;
 
-/// An attempt, at the time of the request, of a call that uses an open path, by a living process
+/// An attempt, at the time `by.time`, of a call that uses an open path, by a living process
 /// (System Programmer's Manual, "I/O service requests"). A path on a file or a directory uses the
 /// call of files, any other the call of terminals and pipes. If a call of the process is pending,
 /// this is a further attempt of it. `NoMemory` is returned only if there was no memory for a byte

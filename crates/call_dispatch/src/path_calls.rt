@@ -78,7 +78,7 @@ pub fn sets_date(call: PathCall) -> bool
     }
 }
 
-/// An attempt, at the time of the request, of a call on paths, files and directories by a living
+/// An attempt, at the time `by.time`, of a call on paths, files and directories by a living
 /// process (System Programmer's Manual, "I/O service requests"). A call that sets no date is the
 /// same at any time. The result is not yet given to the process. If a call of the process is
 /// pending, this is a further attempt of it, with the registers that it was made with. `NoMemory`

@@ -1,8 +1,8 @@
 -- What waits stays where another process goes on: its call, and what is kept of it.
-use Rattle.io_model.specs.Read.{IsReadAllowed}
 use Rattle.std.proofs.Common.{◌≡◌, ◌≢◌, ℕ, ◌≤◌, not, true, Option, Some, None, is_some, List, length, refl, sym, ap, ◌∙◌, subst, inl, inr, arith}
 use Rattle.std.specs.Prelude.{IsSomeAnd, slice_index_or}
 use Rattle.std.proofs.lemmas.Bool.{cases_eq, false≢true}
+use Rattle.io_model.specs.Read.{IsReadAllowed}
 use Rattle.os9_base.specs.Cells.{Cells, FitsIn}
 use Rattle.os9_base.specs.declared.registers.Regs.{Regs}
 use Rattle.proc_model.specs.Memory.{map_at}

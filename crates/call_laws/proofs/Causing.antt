@@ -1,11 +1,11 @@
 -- What each call on paths does where it is refused: each call by its code.
-use Rattle.file_laws.specs.Causes.{IsNoDrive}
 use Rattle.std.proofs.Common.{◌≡◌, ◌⊎◌, ℕ, zero, suc, ◌+◌, ◌≤◌, ◌==◌, not, Bool, true, false, Option, Some, None, IsSome, Result, Ok, Err, List, [], ◌∷◌, ◌++◌, length, take, drop, refl, sym, ap, ◌∙◌, subst, inl, inr, arith}
 use Rattle.std.specs.Prelude.{IfSome, is_some, is_none, min, option_map, option_and_then, unwrap_or, ◌||◌, slice_set, if◌then◌else◌}
 use Rattle.std.specs.Option.{option_map_or}
 use Rattle.std.proofs.lemmas.Bool.{cases_lt, eqb-true, eqb-false, false≢true}
 use Rattle.std.proofs.lemmas.List.{length-append, length-drop, length-take-le, set-get_or, take_min}
 use Rattle.std.proofs.lemmas.Option.{none-some, same_Some}
+use Rattle.file_laws.specs.Causes.{IsNoDrive}
 use Rattle.os9_base.specs.Cells.{Cells}
 use Rattle.os9_base.specs.declared.calls.TheConstants.{I_READ, I_READLN, I_WRITE, I_WRITLN, F_PERR}
 use Rattle.os9_base.specs.declared.errors.TheConstants.{E_BMODE, E_BPADDR, E_BPNAM, E_BPNUM, E_EOF, E_MNF, E_NOTRDY, E_PTHFUL, E_UNKSVC, E_WRITE}

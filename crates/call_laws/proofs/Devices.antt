@@ -1,10 +1,10 @@
 -- Why a call that is on no file is refused: what a path list that leads to a terminal or a pipe, and a number that names
 -- no file, leave of the causes that terminals and pipes have.
-use Rattle.file_laws.specs.Causes.{IsNoDrive}
 use Rattle.std.proofs.Common.{◌≡◌, ◌⊎◌, ℕ, Bool, true, false, Option, Some, None, Result, Ok, Err, List, length, refl, sym, ap, ◌∙◌, subst, inl, inr}
 use Rattle.std.specs.Prelude.{IsSome, is_some, option_and_then, option_map, if◌then◌else◌}
 use Rattle.std.proofs.lemmas.Bool.{false≢true}
 use Rattle.std.proofs.lemmas.Option.{none-some, same_Some}
+use Rattle.file_laws.specs.Causes.{IsNoDrive}
 use Rattle.os9_base.specs.declared.errors.TheConstants.{E_BPADDR, E_BPNAM}
 use Rattle.device_table.specs.Names.{device_of}
 use Rattle.device_table.specs.declared.devices.Dev.{Dev}
@@ -29,7 +29,7 @@ use Rattle.file_rules.specs.declared.path_call.PathCall.TheVariants as Call
 use Rattle.lock_model.specs.declared.place.FilePlace.{FilePlace}
 use Rattle.file_laws.specs.Kinds.{AreKinds, IsOnTarget}
 use Rattle.file_laws.proofs.Named.{path-desc}
-use Rattle.call_laws.specs.Causes.{HasNoDevice, IsBadName, IsOn, MovesDiskBytes, IoBytesUnreadable, ListBreaksOff, SearchesPathList, StatedCause, device_at, search_of}
+use Rattle.call_laws.specs.Causes.{HasNoDevice, IsBadName, IsOn, IsMoveOnDiskPath, IoBytesUnreadable, ListBreaksOff, SearchesPathList, StatedCause, device_at, search_of}
 use Rattle.call_laws.specs.Causes as Stated
 use Rattle.file_laws.specs.Devices.{IsOnNoFile, LeadsToDevice, device_call}
 use Rattle.file_laws.proofs.TouchNamed.{create-leads, open-leads}
@@ -183,7 +183,7 @@ module _ (device : IoCall) (caller : Caller) (files : Files) where
             (place_of_target opened.desc.target))) on.names) ∙ none);
       }
 
-  is-lost : (disk : MovesDiskBytes device caller files.io) → open_file files caller.process.0 (path_number device caller.regs) ≡ None → IsOnLostFile device caller files
+  is-lost : (disk : IsMoveOnDiskPath device caller files.io) → open_file files caller.process.0 (path_number device caller.regs) ≡ None → IsOnLostFile device caller files
   is-lost disk none = by_target disk.on
     where
       by_target : IsOn device caller files.io (Target.File disk.drive disk.sector) ⊎ IsOn device caller files.io (Target.Folder disk.drive disk.sector) → IsOnLostFile device caller files

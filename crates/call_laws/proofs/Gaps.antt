@@ -1,10 +1,10 @@
 -- Where a byte or a name is missing that a call reads.
-use Rattle.os9_base.specs.UserLines.{line_at, line_with}
 use Rattle.std.proofs.Common.{◌≡◌, ◌≢◌, ◌⊎◌, ℕ, zero, suc, ◌+◌, ◌-◌, ◌<◌, ◌≤◌, ◌==◌, ◌&&◌, Bool, true, false, Option, Some, None, Result, Ok, Err, List, [], ◌∷◌, length, refl, sym, ap, ◌∙◌, subst, inl, inr, arith}
 use Rattle.std.specs.Prelude.{nat_le, nat_lt, option_map, if◌then◌else◌}
 use Rattle.std.specs.Option.{option_map_or}
 use Rattle.std.proofs.lemmas.Bool.{cases_eq, cases_lt, eqb-false, eqb-true, false≢true, le-leb, le-ltb, ltb-false, true≢false}
 use Rattle.std.proofs.lemmas.Option.{none-some, same_Some}
+use Rattle.os9_base.specs.UserLines.{line_at, line_with}
 use Rattle.os9_base.specs.Cells.{Cells}
 use Rattle.os9_base.specs.Name.{is_name_character, low_bits, name_run}
 use Rattle.os9_base.specs.UserNames.{goes_on, name_at, name_in, run_bytes, run_with, user_cell}

@@ -9,13 +9,13 @@ use Rattle.os9_base.specs.declared.registers.Pid.{Pid}
 use Rattle.os9_outer.specs.TerminalState.{TerminalState, ChangesOneTerminal}
 use Rattle.io_model.specs.Path.{paths_after_begin, paths_after_dup}
 use Rattle.io_model.specs.Pipe.{pipes_after_begin}
-use Rattle.io_model.specs.Terminal.{Terminal, ReadAttempted, WriteAttempted, BreaksOffEcho, Attempted, reader, is_refused, is_taken, is_process, read_attempt, used_by, without_reading}
+use Rattle.io_model.specs.Terminal.{Terminal, TerminalReadAttempt, TerminalWriteAttempt, BreaksOffEcho, Attempted, reader, is_refused, is_taken, is_process, read_attempt, used_by, without_reading}
 use Rattle.io_model.specs.declared.path.Desc.{Desc}
 use Rattle.io_model.specs.declared.path.Target.TheVariants.{Term, Pipe}
 use Rattle.io_model.specs.declared.terminal.Progress.{Progress}
 use Rattle.io_model.specs.declared.terminal.Progress.TheVariants.{Done, Wait, End, Fault, NoMemory}
 use Rattle.io_model.specs.declared.terminal.Reading.{Reading}
-use Rattle.io_model.specs.Attempts.{IoDoes, io_step}
+use Rattle.io_model.specs.Attempts.{HasIoEffect, io_step}
 use Rattle.io_model.specs.Codes.{direction_of_call}
 use Rattle.io_model.specs.Io.{Io, terminal_at, pending_at, new_desc, with_paths, with_pipes}
 use Rattle.io_model.specs.Step.{Caller, IoEffect, IoEnd, IoStep, refused, comes, reads, writes, TerminalRead, TerminalWrite}
@@ -77,7 +77,7 @@ taken-by-other process t q differ is =
 
 -- it keeps a read waiting
 read-keeps : (request : Reading) (answer : Progress) (old new : Terminal) (before now : TerminalState) (q : ℕ)
-    → q ≢ request.process.0 → reader old ≡ Some (pid q) → ReadAttempted request answer old new before now
+    → q ≢ request.process.0 → reader old ≡ Some (pid q) → TerminalReadAttempt request answer old new before now
     → KeepsReading old new
 read-keeps request answer old new before now q differ is it = by_refusal (is_refused answer) it.outcome it.turn
   where
@@ -100,7 +100,7 @@ record WriteKeeps (process : Pid) (old new : Terminal) (before now : TerminalSta
   pub keeps : KeepsReading old new ⊎ Rose before.faults now.faults × (new ≡ without_reading (used_by process old))
 
 write-keeps : (write : TerminalWrite) (end : IoEnd) (process : Pid) (answer : Progress) (old new : Terminal)
-    (before now : TerminalState) → write_ends write answer ≡ Some end → WriteAttempted process write.put write.count answer
+    (before now : TerminalState) → write_ends write answer ≡ Some end → TerminalWriteAttempt process write.put write.count answer
     old new before now → WriteKeeps process old new before now
 write-keeps write end process (Done count) old new before now ends it =
     let still : new ≡ used_by process old = it.outcome.terminal in
@@ -145,7 +145,7 @@ module _ (call : IoCall) (caller : Caller) (io : Io) (before after : List Termin
       comes_of (inr (rose, gone)) =
           inr (direction, (it.device.0, it.device.1, it.device.2, it.device.3, rose), gone)
 
-  pub does-left : (step : IoStep) (effect : IoEffect) → StepGives call (IoLeft caller.process.0 io) caller io step → IoDoes step caller io effect before after → LeftBy effect.io
+  pub does-left : (step : IoStep) (effect : IoEffect) → StepGives call (IoLeft caller.process.0 io) caller io step → HasIoEffect step caller io effect before after → LeftBy effect.io
   does-left (refused number) effect left (is, same) =
       subst (λ (effect : IoEffect). LeftBy effect.io) (sym is) (effect-by call caller.process.0 io io before after (io-same caller.process.0 io))
   does-left (comes it) effect left (is, same) =

@@ -27,7 +27,7 @@ use Rattle.io_model.specs.declared.terminal.ReadKind.{ReadKind}
 use Rattle.io_model.specs.declared.terminal.ReadKind.TheVariants.{Bytes, WholeLine}
 use Rattle.io_model.specs.Again.{IsPending, KeepsCount, path_number}
 use Rattle.io_model.specs.Alone.{is_alone}
-use Rattle.io_model.specs.Attempts.{IoDoes, io_step}
+use Rattle.io_model.specs.Attempts.{HasIoEffect, io_step}
 use Rattle.io_model.specs.Close.{after_close}
 use Rattle.io_model.specs.Codes.{direction_of_call, io_call_of}
 use Rattle.io_model.specs.Io.{Io, OpenPath, pending_at, new_desc, open_path, pipe_bytes, with_paths, with_pipes}
@@ -449,7 +449,7 @@ module _ (call : IoCall) (caller : Caller) (io : Io) (before after : List Termin
       by_answer Progress.Fault ends = let e : fails E_WRITE ≡ keeps pending = same_Some (fails E_WRITE) it.end ends ∙ end_is in cc
       by_answer Progress.NoMemory ends = none-some it.end ends
 
-  pub does-keep : (step : IoStep) (effect : IoEffect) (pending : PendingCall) → StepKeeps call caller io step → IoDoes step caller io effect before after → effect.end ≡ keeps pending
+  pub does-keep : (step : IoStep) (effect : IoEffect) (pending : PendingCall) → StepKeeps call caller io step → HasIoEffect step caller io effect before after → effect.end ≡ keeps pending
       → Kept_then effect pending
   does-keep (refused number) effect pending good (is, same) waits =
       absurd (let e : fails number ≡ keeps pending = sym (ap (λ (effect : IoEffect). effect.end) is) ∙ waits in cc)

@@ -14,7 +14,7 @@ use Rattle.io_model.specs.declared.path.SysPath.{SysPath}
 use Rattle.io_model.specs.declared.path.Target.{Target}
 use Rattle.io_model.specs.declared.path.Target.TheVariants.{File, Folder, Term, Pipe}
 use Rattle.io_model.specs.declared.path.TheConstants.{PROCESS_PATHS}
-use Rattle.io_model.specs.Attempts.{IoDoes, IoAttempts, caller_of, step_of}
+use Rattle.io_model.specs.Attempts.{HasIoEffect, IoAttempts, caller_of, step_of}
 use Rattle.io_model.specs.Close.{after_close, without_path, without_target}
 use Rattle.io_model.specs.Io.{Io, first_paths, new_desc, with_paths}
 use Rattle.io_model.specs.Processes.{closed_below, closed_if_open, io_ended}
@@ -127,7 +127,7 @@ module _ (terms : ℕ) where
       not-terminal n m is = cc
 
   on-does : (call : IoCall) (caller : Caller) (io : Io) (step : IoStep) (effect : IoEffect)
-      (before after : List TerminalState) → OnIo io → StepGives call OnIo caller io step → IoDoes step caller io effect
+      (before after : List TerminalState) → OnIo io → StepGives call OnIo caller io step → HasIoEffect step caller io effect
       before after → OnIo effect.io
   on-does call caller io (refused number) effect before after on gives (is, same) =
       subst (λ (effect : IoEffect). OnIo effect.io) (sym is) on

@@ -1,10 +1,10 @@
 -- A call that waits for a record of a file is kept, like one that waits on a terminal or a pipe.
-use Rattle.io_model.specs.Read.{IsReadAllowed}
 use Rattle.std.proofs.Common.{◌≡◌, ℕ, ◌<◌, Option, Some, None, IsSome, is_some, true, List, [], length, refl, sym, ap, ◌∙◌, subst, inr, arith}
 use Rattle.std.specs.Prelude.{IsSomeAnd, MatchOption, unwrap_or}
 use Rattle.std.proofs.lemmas.Bool.{false≢true}
 use Rattle.std.proofs.lemmas.List.{get_or-set_same, length-set}
 use Rattle.std.proofs.lemmas.Option.{none-some, same_Some}
+use Rattle.io_model.specs.Read.{IsReadAllowed}
 use Rattle.os9_base.specs.Cells.{FitsIn}
 use Rattle.os9_base.specs.declared.registers.Regs.{Regs}
 use Rattle.os9_base.specs.declared.registers.TimePacket.{TimePacket}

@@ -8,14 +8,14 @@ use Rattle.os9_outer.specs.TerminalState.{TerminalState, ChangesOneTerminal}
 use Rattle.proc_model.specs.CallResult.{CallResult}
 use Rattle.proc_model.specs.Processes.{Processes}
 use Rattle.io_model.specs.Edit.{Typing}
-use Rattle.io_model.specs.Terminal.{BreaksOffEcho, PutsPart, ReadAttempted, Terminal, WriteAttempted, after_reading, attempt_by, is_taken, key_effect, kept_waiting, read_attempt, typed, typed_attempt}
+use Rattle.io_model.specs.Terminal.{BreaksOffEcho, PutsPart, TerminalReadAttempt, Terminal, TerminalWriteAttempt, after_reading, attempt_by, is_taken, key_effect, kept_waiting, read_attempt, typed, typed_attempt}
 use Rattle.io_model.specs.declared.edit.LineEnd.{LineEnd}
 use Rattle.io_model.specs.declared.edit.LineEnd.TheVariants.{Line, EndOfFile}
 use Rattle.io_model.specs.declared.path.Target.TheVariants.{Term}
 use Rattle.io_model.specs.declared.terminal.Progress.{Progress}
 use Rattle.io_model.specs.declared.terminal.Progress.TheVariants.{Done, Wait, End, Fault, NoMemory}
 use Rattle.io_model.specs.declared.terminal.Reading.{Reading}
-use Rattle.io_model.specs.Attempts.{IoDoes, IoAttempts, caller_of, io_after, pending_in, result_by, step_of}
+use Rattle.io_model.specs.Attempts.{HasIoEffect, IoAttempts, caller_of, io_after, pending_in, result_by, step_of}
 use Rattle.io_model.specs.Io.{Io, terminal_at, with_call}
 use Rattle.io_model.specs.Pipes.{count_regs}
 use Rattle.io_model.specs.Step.{Caller, IoEffect, IoEnd, IoStep, TerminalRead, TerminalWrite, answers, comes, fails, keeps, reads, refused, writes}
@@ -87,7 +87,7 @@ module _ (call : IoCall) (caller : Caller) (io : Io) (drives : ℕ) (before afte
     abbrev request : Reading
     request = request_of caller read
 
-    by-key : ChangesOneTerminal (ReadAttempted request End old new) read.terminal before after → EndsAtKey call caller io (on_terminal io read.terminal new caller.process.0) before after
+    by-key : ChangesOneTerminal (TerminalReadAttempt request End old new) read.terminal before after → EndsAtKey call caller io (on_terminal io read.terminal new caller.process.0) before after
     by-key changed = record {
       terminal = read.terminal;
       on = on;
@@ -102,7 +102,7 @@ module _ (call : IoCall) (caller : Caller) (io : Io) (drives : ℕ) (before afte
       now =
           ap (λ (t : Terminal). on_terminal io read.terminal t caller.process.0) (file.left ∙ ap (λ (t : Typing). after_reading request t.line t.left) key.whole);
       out =
-          one-changed (ReadAttempted request End old new) (IsGivenBytes (typed request old.line key.front).echo) read.terminal before after changed (record {
+          one-changed (TerminalReadAttempt request End old new) (IsGivenBytes (typed request old.line key.front).echo) read.terminal before after changed (record {
             put =
                 it.outcome.echo ∙ ap (stream_with changed.0.put) (file.echo_is ∙ ap (λ (t : Typing). t.echo) key.whole);
             keys = it.driver.keys;
@@ -110,7 +110,7 @@ module _ (call : IoCall) (caller : Caller) (io : Io) (drives : ℕ) (before afte
           });
     }
       where
-        it : ReadAttempted request End old new changed.0 changed.1
+        it : TerminalReadAttempt request End old new changed.0 changed.1
         it = changed.4
 
         file : EndsFile request old new (read_attempt request old).echo
@@ -119,7 +119,7 @@ module _ (call : IoCall) (caller : Caller) (io : Io) (drives : ℕ) (before afte
         key : EndsIn (key_effect request) old.line old.ahead
         key = ends-in (key_effect request) (effect-ends request.kind request.most) old.line old.ahead file.over
 
-    by-echo : ChangesOneTerminal (ReadAttempted request Fault old new) read.terminal before after → EchoFails call caller io (on_terminal io read.terminal new caller.process.0) before after
+    by-echo : ChangesOneTerminal (TerminalReadAttempt request Fault old new) read.terminal before after → EchoFails call caller io (on_terminal io read.terminal new caller.process.0) before after
     by-echo changed = record {
       terminal = read.terminal;
       on = on;
@@ -129,11 +129,11 @@ module _ (call : IoCall) (caller : Caller) (io : Io) (drives : ℕ) (before afte
       left = new;
       now = refl;
       out =
-          one-changed (ReadAttempted request Fault old new) (λ was now. BreaksOffEcho request old new was now × HasFailed was now) read.terminal before after changed
+          one-changed (TerminalReadAttempt request Fault old new) (λ was now. BreaksOffEcho request old new was now × HasFailed was now) read.terminal before after changed
           (changed.4.outcome, record { faults = changed.4.driver.faults; keys = changed.4.driver.keys });
     }
 
-    by-answer : (answer : Progress) → ChangesOneTerminal (ReadAttempted request answer old new) read.terminal before after
+    by-answer : (answer : Progress) → ChangesOneTerminal (TerminalReadAttempt request answer old new) read.terminal before after
         → read_ends caller read answer ≡ Some end → end ≡ fails number
         → Gives (on_terminal io read.terminal new caller.process.0)
     by-answer (Done count) changed ends over =
@@ -151,7 +151,7 @@ module _ (call : IoCall) (caller : Caller) (io : Io) (drives : ℕ) (before afte
   module _ (write : TerminalWrite) (on : IsOn call caller io (Term write.terminal)) (bytes : List ℕ)
       (sends : sent_by call caller io ≡ Some bytes) (puts : write.put ≡ put_by call bytes) (new : Terminal)
       (end : IoEnd) where
-    by-fault : ChangesOneTerminal (WriteAttempted caller.process write.put write.count Fault (terminal_at io write.terminal)
+    by-fault : ChangesOneTerminal (TerminalWriteAttempt caller.process write.put write.count Fault (terminal_at io write.terminal)
         new) write.terminal before after → TerminalWriteFails call caller io (on_terminal io write.terminal new
         caller.process.0) before after
     by-fault changed = record {
@@ -162,13 +162,13 @@ module _ (call : IoCall) (caller : Caller) (io : Io) (drives : ℕ) (before afte
       now =
           ap (λ (t : Terminal). on_terminal io write.terminal t caller.process.0) changed.4.outcome.terminal;
       out =
-          one-changed (WriteAttempted caller.process write.put write.count Fault (terminal_at io write.terminal) new)
+          one-changed (TerminalWriteAttempt caller.process write.put write.count Fault (terminal_at io write.terminal) new)
           (λ was now. PutsPart (put_by call bytes) was now × HasFailed was now) write.terminal before after
           changed
           (subst (λ (bytes : List ℕ). PutsPart bytes changed.0 changed.1) puts changed.4.outcome.part, record { faults = changed.4.driver.faults; keys = changed.4.driver.keys });
     }
 
-    by-write : (answer : Progress) → ChangesOneTerminal (WriteAttempted caller.process write.put write.count answer
+    by-write : (answer : Progress) → ChangesOneTerminal (TerminalWriteAttempt caller.process write.put write.count answer
         (terminal_at io write.terminal) new) write.terminal before after → write_ends write answer ≡ Some end
         → end ≡ fails number → Gives (on_terminal io write.terminal new caller.process.0)
     by-write (Done count) changed ends over =
@@ -187,7 +187,7 @@ module _ (call : IoCall) (caller : Caller) (io : Io) (drives : ℕ) (before afte
       ap (λ (end : IoEnd). with_call effect.io caller.process.0 (pending_in end)) over
 
   by-step : (step : IoStep) (effect : IoEffect) → Known call caller io drives (length before) step
-      → IoDoes step caller io effect before after → effect.end ≡ fails number
+      → HasIoEffect step caller io effect before after → effect.end ≡ fails number
       → Gives (with_call effect.io caller.process.0 None)
   by-step (refused other) effect known (is, same) over =
       let same_number : other ≡ number = sym (same-number other number (sym (ap (λ (effect : IoEffect). effect.end) is) ∙ over)) in

@@ -1,8 +1,8 @@
 -- Why a call on paths is refused (System Programmer's Manual, "I/O service requests"), except the end of a file and a
 -- write error.
-use Rattle.file_laws.specs.Causes.{IsNoDrive}
 use Rattle.std.specs.Prelude.{◌≡◌, ◌≢◌, ◌⊎◌, ℕ, ◌+◌, ◌-◌, ◌<◌, ◌≤◌, ⊤, false, true, Option, Some, None, IsSome, option_and_then, Err, Ok, length}
 use Rattle.std.specs.Option.{option_map_or}
+use Rattle.file_laws.specs.Causes.{IsNoDrive}
 use Rattle.os9_base.specs.Cells.{Cells}
 use Rattle.os9_base.specs.declared.errors.TheConstants.{E_BMODE, E_BPADDR, E_BPNAM, E_BPNUM, E_MNF, E_NOTRDY, E_PNNF, E_PTHFUL, E_UNKSVC}
 use Rattle.device_table.specs.Names.{device_of}
@@ -109,7 +109,7 @@ HasNoIoStatus Call.SetStt code = ⊤
 HasNoIoStatus call code = ⊥
 
 -- a read or a write of a path that was opened on a file or a directory, as no call opens one
-pub record MovesDiskBytes (call : IoCall) (caller : Caller) (io : Io) : Type 0 where
+pub record IsMoveOnDiskPath (call : IoCall) (caller : Caller) (io : Io) : Type 0 where
   pub moves : IsSome (direction_of_call call)
   pub drive : ℕ
   pub sector : ℕ
@@ -195,7 +195,7 @@ pub data StatedCause (call : IoCall) (caller : Caller) (io : Io) (drives terms n
       → StatedCause call caller io drives terms number
   bad_path_number : number ≡ E_BPNUM → NamesNoPath call caller io → StatedCause call caller io drives terms number
   bad_mode : number ≡ E_BMODE → IoCallLacksMode call caller io → StatedCause call caller io drives terms number
-  unknown_service : number ≡ E_UNKSVC → HasNoIoStatus call caller.regs.b ⊎ MovesDiskBytes call caller io
+  unknown_service : number ≡ E_UNKSVC → HasNoIoStatus call caller.regs.b ⊎ IsMoveOnDiskPath call caller io
       → StatedCause call caller io drives terms number
   bad_address : number ≡ E_BPADDR → IoBytesUnreadable call caller io → StatedCause call caller io drives terms number
   bad_path_name : number ≡ E_BPNAM → IsBadName call caller drives terms

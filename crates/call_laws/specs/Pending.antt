@@ -1,6 +1,6 @@
 -- Pending calls on a terminal or a pipe (Level Two manual, "I/O system").
-use Rattle.io_model.specs.Read.{IsReadAllowed}
 use Rattle.std.specs.Prelude.{◌≡◌, ℕ, true, Some, IsSome}
+use Rattle.io_model.specs.Read.{IsReadAllowed}
 use Rattle.os9_base.specs.Cells.{Cells}
 use Rattle.os9_base.specs.declared.registers.Regs.{Regs}
 use Rattle.proc_model.specs.Records.{IsLiving, record_at, is_waiting}

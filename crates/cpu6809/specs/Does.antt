@@ -6,7 +6,7 @@ use Rattle.cpu_model.specs.declared.stop.Stop.{Stop}
 use Rattle.cpu_model.specs.declared.stop.Stop.TheVariants.{Next, Call, Abort}
 use Rattle.cpu_model.specs.Step.{Outcome, Done, Calls, Aborts, write_cells}
 
--- as `Leaves`, but at an abort the registers can be any
+-- as `LeavesCells`, but at an abort the registers can be any
 abbrev pub HasStepOutcome : Outcome → Stop → Regs → Cells → Cells → Type 0
 HasStepOutcome (Done effect) stop after cells now =
     (stop ≡ Next) × (after ≡ effect.regs) × (now ≡ write_cells cells effect.writes)

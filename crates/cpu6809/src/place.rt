@@ -12,7 +12,7 @@ use cpu_table::postbyte;
 use os9_base::memory::Bus;
 use os9_base::registers::Regs;
 
-/// How an instruction names its operand: the mode of its row, and its own bytes.
+/// How an instruction names its operand: the mode of its row, and the instruction as it was read.
 #[derive(Clone, Copy)]
 pub(crate) struct Addressing {
     pub(crate) mode: Mode,

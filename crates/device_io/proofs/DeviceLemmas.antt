@@ -4,7 +4,7 @@ use Rattle.os9_base.specs.declared.call.CallEnd.{CallEnd}
 use Rattle.os9_base.specs.declared.registers.Regs.{Regs}
 use Rattle.os9_outer.specs.TerminalState.{TerminalState, ChangesOneTerminal}
 use Rattle.proc_model.specs.Processes.{Processes, regs_at}
-use Rattle.io_model.specs.Terminal.{ReadAttempted, stored_bytes}
+use Rattle.io_model.specs.Terminal.{TerminalReadAttempt, stored_bytes}
 use Rattle.io_model.specs.declared.pending.PendingCall.{PendingCall}
 use Rattle.io_model.specs.declared.terminal.Progress.{Progress}
 use Rattle.io_model.specs.declared.terminal.Progress.TheVariants.{Done, Wait, End, Fault, NoMemory}
@@ -22,7 +22,7 @@ use Rattle.device_io.proofs.TryingLemmas.{never-wants, tries-takes}
 module _ (m : Processes) (io : Io) (p : ℕ) (processes : ProcState) (new : Io) (before after : List TerminalState) (read : TerminalRead) (regs : Regs) (taken : List ℕ) (end : CallEnd) where
   -- a read that the terminal answered so, and that has this end
   ended : (answer : Progress) (it : IoEnd) → read_ends (caller_of m p) read answer ≡ Some it → pending_after answer
-      read.call ≡ pending_in it → regs ≡ regs_at m p → ChangesOneTerminal (ReadAttempted (request_of (caller_of m p) read) answer
+      read.call ≡ pending_in it → regs ≡ regs_at m p → ChangesOneTerminal (TerminalReadAttempt (request_of (caller_of m p) read) answer
       (terminal_at io read.terminal) (terminal_at new read.terminal)) read.terminal before after
       → taken ≡ stored_bytes answer (request_of (caller_of m p) read) (terminal_at io read.terminal)
       → new ≡ with_call (with_terminal io read.terminal (terminal_at new read.terminal)) p
@@ -46,7 +46,7 @@ module _ (m : Processes) (io : Io) (p : ℕ) (processes : ProcState) (new : Io) 
 
   -- by what the terminal answered
   pub tries-read : (answer : Progress) → regs ≡ regs_at m p → ChangesOneTerminal
-      (ReadAttempted (request_of (caller_of m p) read) answer (terminal_at io read.terminal) (terminal_at new read.terminal))
+      (TerminalReadAttempt (request_of (caller_of m p) read) answer (terminal_at io read.terminal) (terminal_at new read.terminal))
       read.terminal before after → taken ≡ stored_bytes answer (request_of (caller_of m p) read)
       (terminal_at io read.terminal) → new ≡ with_call (with_terminal io read.terminal
       (terminal_at new read.terminal)) p (pending_after answer read.call)

@@ -1,5 +1,4 @@
 -- The bytes and the lines that a process sends.
-use Rattle.os9_base.specs.UserLines.{line_at, line_with}
 use Rattle.std.proofs.Common.{◌≡◌, ◌∙◌, ℕ, zero, suc, ◌+◌, ◌<◌, ◌≤◌, ◌==◌, Bool, true, false, Option, Some, None, List, [], ◌∷◌, length, get_or, inl, inr, refl, sym, subst, ap, arith}
 use Rattle.std.specs.Prelude.{IfSome, option_map, codes, if◌then◌else◌, ◌/◌, ◌%◌, ◌||◌, ◌++◌}
 use Rattle.std.specs.List.{list_any}
@@ -7,6 +6,7 @@ use Rattle.std.specs.Option.{option_map_or}
 use Rattle.std.proofs.lemmas.Bool.{cases_lt, eqb-true, false≢true, ne_eqb}
 use Rattle.std.proofs.lemmas.List.Quantifiers.{position-Some}
 use Rattle.std.proofs.lemmas.Option.{none-some, same_Some}
+use Rattle.os9_base.specs.UserLines.{line_at, line_with}
 use Rattle.os9_base.specs.Cells.{Cells}
 use Rattle.os9_base.specs.declared.registers.Regs.{Regs}
 use Rattle.os9_base.specs.UserNames.{user_cell}

@@ -1,8 +1,8 @@
 -- What is known of a read or a write once its path is found.
-use Rattle.io_model.specs.Read.{read_call, read_code}
 use Rattle.std.proofs.Common.{◌≡◌, ◌≢◌, ℕ, Bool, true, false, Option, Some, None, is_some, is_none, option_map, option_and_then, unwrap_or, inl, sym, ap, refl, ◌∙◌, subst, arith}
 use Rattle.std.specs.Prelude.{IfSome}
 use Rattle.std.proofs.lemmas.Bool.{false≢true}
+use Rattle.io_model.specs.Read.{read_call, read_code}
 use Rattle.os9_base.specs.Cells.{Cells}
 use Rattle.os9_base.specs.declared.registers.Regs.{Regs}
 use Rattle.guest_memory.specs.Tie.{cells_of}

@@ -11,7 +11,7 @@ use Rattle.os9_outer.specs.TerminalState.{TerminalState, ChangesOneTerminal}
 use Rattle.proc_model.specs.Processes.{Processes, cells_at, regs_at}
 use Rattle.proc_model.specs.UserBytes.{user_bytes}
 use Rattle.io_model.specs.Path.{desc_of, slot_of}
-use Rattle.io_model.specs.Terminal.{WriteAttempted}
+use Rattle.io_model.specs.Terminal.{TerminalWriteAttempt}
 use Rattle.io_model.specs.declared.pending.PendingCall.{PendingCall}
 use Rattle.io_model.specs.declared.path.Desc.{Desc}
 use Rattle.io_model.specs.declared.path.SysPath.{SysPath}
@@ -169,7 +169,7 @@ module _ (caller : Caller) (io new : Io) (n : ℕ) (put : List ℕ) (count : ℕ
 
   abbrev Changes : ℕ → Progress → Type 0
   Changes taken answer =
-      ChangesOneTerminal (WriteAttempted caller.process put taken answer (terminal_at io n) (terminal_at new n)) n before after
+      ChangesOneTerminal (TerminalWriteAttempt caller.process put taken answer (terminal_at io n) (terminal_at new n)) n before after
 
   put-ends : (answer : Progress) (end : CallEnd) → Changes count answer
       → new ≡ with_call (with_terminal io n (terminal_at new n)) caller.process.0 None → PutEnds answer end

@@ -28,7 +28,7 @@ AreTerminals paths count = (s n : ℕ) → target_at paths s ≡ Some (Term n) �
 
 -- ---- reads
 
--- if a read of the process is pending, it is not refused
+-- if a call of the process is pending, its buffer and its path still allow a read
 abbrev pub StaysIfPending : Cells → Regs → Io → ℕ → Type 0
 StaysIfPending cells regs io p = IfSome (pending_at io p) (λ pending. IsReadAllowed cells regs io p)
 
@@ -57,7 +57,7 @@ read_step kind caller io =
 
 -- ---- any call on paths
 
--- if a read of the process is pending, it is not refused
+-- if this call is a read and is pending, it is not refused
 abbrev pub PendingReadIsAllowed : IoCall → Cells → Regs → Io → ℕ → Type 0
 PendingReadIsAllowed Call.Read cells regs io p = StaysIfPending cells regs io p
 PendingReadIsAllowed Call.ReadLn cells regs io p = StaysIfPending cells regs io p

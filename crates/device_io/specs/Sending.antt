@@ -9,13 +9,13 @@ use Rattle.os9_base.specs.declared.registers.Pid.{Pid}
 use Rattle.os9_base.specs.declared.registers.Regs.{Regs}
 use Rattle.os9_outer.specs.TerminalState.{TerminalState, ChangesOneTerminal}
 use Rattle.io_model.specs.Line.{line_length, line_put}
-use Rattle.io_model.specs.Terminal.{WriteAttempted}
+use Rattle.io_model.specs.Terminal.{TerminalWriteAttempt}
 use Rattle.io_model.specs.declared.pending.PendingCall.{PendingCall}
 use Rattle.io_model.specs.declared.path.Target.{Target}
 use Rattle.io_model.specs.declared.path.Target.TheVariants.{Pipe}
 use Rattle.io_model.specs.declared.terminal.Progress.{Progress}
 use Rattle.io_model.specs.Again.{IsAgain, path_number}
-use Rattle.io_model.specs.Attempts.{IoDoes, pending_in}
+use Rattle.io_model.specs.Attempts.{HasIoEffect, pending_in}
 use Rattle.io_model.specs.Io.{Io, OpenPath, pending_at, terminal_at, with_call, with_terminal}
 use Rattle.io_model.specs.Modes.{can_write}
 use Rattle.io_model.specs.Step.{Caller, IoEnd, IoStep, done, leaves, writes}
@@ -119,7 +119,7 @@ pub record Tells (step : IoStep) (caller : Caller) (io : Io) (regs : Regs) (end 
     (before after : List TerminalState) : Type 0 where
   pub it : IoEnd
   pub between : Io
-  pub does : IoDoes step caller io (leaves it between) before after
+  pub does : HasIoEffect step caller io (leaves it between) before after
   pub told : IsTold it regs end
   pub state : new ≡ with_call between caller.process.0 (pending_in it)
 
@@ -143,7 +143,7 @@ SendsFrom kind step by bytes end before after =
 pub record IsPut (kind : WriteKind) (p : Pid) (n : ℕ) (bytes : List ℕ) (answer : Progress) (before after : Streams)
     : Type 0 where
   pub device : ChangesOneTerminal
-      (WriteAttempted p (put_of kind bytes) (put_count kind bytes) answer (terminal_at before.io n)
+      (TerminalWriteAttempt p (put_of kind bytes) (put_count kind bytes) answer (terminal_at before.io n)
       (terminal_at after.io n)) n
       before.terms after.terms
   pub io : after.io ≡ with_call (with_terminal before.io n (terminal_at after.io n)) p.0 None

@@ -4,7 +4,7 @@ use Rattle.os9_base.specs.declared.call.CallEnd.{CallEnd}
 use Rattle.os9_base.specs.declared.call.CallEnd.TheVariants.{Done, Error, Wait, Ended, NoMemory}
 use Rattle.os9_outer.specs.TerminalState.{TerminalState}
 use Rattle.proc_model.specs.Processes.{Processes}
-use Rattle.io_model.specs.Attempts.{IoDoes, caller_of, io_after, result_by, result_of, step_of}
+use Rattle.io_model.specs.Attempts.{HasIoEffect, caller_of, io_after, result_by, result_of, step_of}
 use Rattle.io_model.specs.Io.{Io}
 use Rattle.io_model.specs.Memory.{WantsMemory}
 use Rattle.io_model.specs.Step.{Caller, IoEffect, IoEnd, IoStep, stores}
@@ -19,7 +19,7 @@ use Rattle.device_io.specs.Streams.{Streams}
 pub record Takes (step : IoStep) (m : Processes) (io : Io) (p : ℕ) (end : CallEnd) (processes : ProcState) (new : Io)
     (before after : List TerminalState) : Type 0 where
   pub effect : IoEffect
-  pub does : IoDoes step (caller_of m p) io effect before after
+  pub does : HasIoEffect step (caller_of m p) io effect before after
   pub comes : ReturnsCallEnd m p (result_of m p effect) end processes
   pub state : new ≡ io_after p effect
 

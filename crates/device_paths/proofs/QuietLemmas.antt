@@ -1,12 +1,11 @@
 -- Attempts that reach no device: which calls make none, and what such an attempt is.
-use Rattle.io_model.specs.Rows.{effect_of}
 use Rattle.std.proofs.Common.{◌≡◌, ℕ, Bool, true, false, Option, Some, None, List, refl, sym, subst, is_none, min, ◌==◌, if◌then◌else◌}
 use Rattle.os9_base.specs.declared.call.CallEnd.{CallEnd}
 use Rattle.os9_base.specs.declared.registers.Regs.{Regs}
 use Rattle.proc_model.specs.MemoryChanges.{stored}
 use Rattle.os9_outer.specs.TerminalState.{TerminalState}
 use Rattle.proc_model.specs.Processes.{Processes, regs_at, cells_at, with_memory, with_regs_of}
-use Rattle.io_model.specs.Attempts.{IoDoes, step_of, caller_of, result_of}
+use Rattle.io_model.specs.Attempts.{HasIoEffect, step_of, caller_of, result_of}
 use Rattle.os9_base.specs.declared.errors.TheConstants.{E_BPNUM, E_PTHFUL, E_UNKSVC, E_BPADDR, E_NOTRDY}
 use Rattle.proc_model.specs.UserBytes.{user_bytes}
 use Rattle.io_model.specs.Path.{slot_of, free_number, paths_after_dup}
@@ -17,7 +16,7 @@ use Rattle.io_model.specs.Dup.{i_dup}
 use Rattle.io_model.specs.Io.{Io, OpenPath, open_path, with_paths, with_call}
 use Rattle.io_model.specs.Status.{i_getstt, i_setstt, gets_status, gets_options, gets_ready, gets_end, options, ready_count}
 use Rattle.io_model.specs.declared.status.TheConstants.{SS_OPT, SS_READY, SS_EOF, OPTION_BYTES}
-use Rattle.io_model.specs.Step.{Caller, IoStep, refused, comes, reads, writes, needs, refuses, done, stores, answers}
+use Rattle.io_model.specs.Step.{Caller, IoStep, refused, comes, reads, writes, needs, refuses, done, stores, answers, effect_of}
 use Rattle.io_model.specs.declared.io_call.IoCall.{IoCall}
 use Rattle.io_state.specs.Attempt.{IoAttempted}
 use Rattle.device_paths.specs.Quiet.{EndsIoAttempt}
@@ -33,7 +32,7 @@ IsQuiet (reads read) = ⊥
 IsQuiet (writes write) = ⊥
 
 -- what such an attempt does
-does-quiet : (step : IoStep) (caller : Caller) (io : Io) (terms : List TerminalState) → IsQuiet step → IoDoes step caller io (effect_of step io) terms terms
+does-quiet : (step : IoStep) (caller : Caller) (io : Io) (terms : List TerminalState) → IsQuiet step → HasIoEffect step caller io (effect_of step io) terms terms
 does-quiet (refused number) caller io terms quiet = (refl, refl)
 does-quiet (comes effect) caller io terms quiet = (refl, refl)
 does-quiet (reads read) caller io terms quiet = absurd quiet

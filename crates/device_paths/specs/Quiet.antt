@@ -1,11 +1,10 @@
 -- Attempts that reach no device.
-use Rattle.io_model.specs.Rows.{effect_of}
 use Rattle.std.specs.Prelude.{◌≡◌, ℕ}
 use Rattle.os9_base.specs.declared.call.CallEnd.{CallEnd}
 use Rattle.proc_model.specs.Processes.{Processes}
 use Rattle.io_model.specs.Attempts.{io_after, result_of}
 use Rattle.io_model.specs.Io.{Io}
-use Rattle.io_model.specs.Step.{IoStep}
+use Rattle.io_model.specs.Step.{IoStep, effect_of}
 use Rattle.proc_state.specs.Tie.{ReturnsCallEnd}
 use Rattle.proc_state.specs.declared.state.ProcState.{ProcState}
 

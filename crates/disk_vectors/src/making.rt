@@ -1,7 +1,7 @@
-ghost use Rattle.rbf_access.specs.Mounted.{HasFile, IsMounted};
-ghost use Rattle.rbf_write.specs.Files.{HasDataFile};
 ghost use Rattle.std.specs.Int.{bit_at};
 ghost use Rattle.std.specs.Prelude.{◌≡◌, ◌==◌, ◌<◌, OnOk};
+ghost use Rattle.rbf_access.specs.Mounted.{HasFile, IsMounted};
+ghost use Rattle.rbf_write.specs.Files.{HasDataFile};
 
 use crate::answer::{Done, Undone};
 use crate::call::{Call, CallOnFile, CallOnName, FileCall, NameCall, Span};

@@ -1,5 +1,5 @@
-ghost use Rattle.rbf_access.specs.Mounted.{IsMounted};
 ghost use Rattle.std.specs.Prelude.{◌≡◌, Some, None, IfOk};
+ghost use Rattle.rbf_access.specs.Mounted.{IsMounted};
 
 use crate::answer::Undone;
 use crate::listing::write_state;

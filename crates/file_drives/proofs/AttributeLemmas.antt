@@ -27,8 +27,8 @@ pub none-needed : (free : ℕ) → nat_lt free 0 ≡ false
 none-needed free = grind arith
 
 module _ (volume new : Volume) (before after : DriveView) (n attributes user : ℕ)
-    (now : TimePacket) (mounted : IsMounted new after.media) (kept_same : access.kept new ≡
-    access.kept volume) where
+    (now : TimePacket) (mounted : IsMounted new after.media) (kept_same : access.mounted_part new ≡
+    access.mounted_part volume) where
   abbrev request : Asked
   request = record { change = sets_attributes n attributes; user = user; now = now }
 

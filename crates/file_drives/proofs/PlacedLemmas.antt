@@ -161,7 +161,7 @@ module _ {Table : Type 0} {Driver : Table → Type 0} (members : (drive : (table
 
   -- a call that only reads the drive
   pub only-reads : {new : Volume} (after : DynBox Table Global Driver) (fault : Option ℕ) (most : DiskVolume → DiskFile
-      → ℕ) → (view after).media ≡ (view driver).media → access.kept new ≡ access.kept volume
+      → ℕ) → (view after).media ≡ (view driver).media → access.mounted_part new ≡ access.mounted_part volume
       → IsMounted new (view after).media → OnVolumeFile (view driver).media place.number
       (λ v file. MovesCounts fault (most v file) (view driver).counts (view after).counts)
       → ReadsFile place fault most disks (map view drivers) (slice_set items place.drive (Some new))
@@ -191,7 +191,7 @@ module _ {Table : Type 0} {Driver : Table → Type 0} (members : (drive : (table
 
   pub reads-placed : {new : Volume} (after : DynBox Table Global Driver) (most : DiskVolume → DiskFile → ℕ)
       (arrived : Result ℕ DirError) (result : Result FilePlace DirError) → number_arrived result ≡ arrived
-      → (view after).media ≡ (view driver).media → access.kept new ≡ access.kept volume
+      → (view after).media ≡ (view driver).media → access.mounted_part new ≡ access.mounted_part volume
       → IsMounted new (view after).media → OnVolumeFile (view driver).media place.number
       (λ v file. MovesCounts (directory_fault arrived) (most v file) (view driver).counts (view after).counts)
       → ReadsFile place (directory_fault result) most disks (map view drivers)

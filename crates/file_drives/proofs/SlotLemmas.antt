@@ -16,8 +16,8 @@ use Rattle.file_drives.specs.Drives.{DriveView}
 use Rattle.file_drives.specs.Mounted.{IsMountedAs}
 
 -- a volume that is kept as it was on media that stayed
-pub mounted-still : (volume new : Volume) (media after : Option (List ℕ)) (v : DiskVolume) → access.kept new ≡
-    access.kept volume → after ≡ media → IsCacheOf after new.cache → IsMountedAs volume media v
+pub mounted-still : (volume new : Volume) (media after : Option (List ℕ)) (v : DiskVolume) → access.mounted_part new ≡
+    access.mounted_part volume → after ≡ media → IsCacheOf after new.cache → IsMountedAs volume media v
     → IsMountedAs new after v
 mounted-still volume new media after v kept_same media_same cached it = record {
   on = record { image = it.on.image; is = media_same ∙ it.on.is; vol = it.on.vol };
@@ -31,7 +31,7 @@ mounts-as volume media after v same it on =
     let image_same : it.holds.image ≡ on.image = same_Some it.holds.image on.image (sym it.holds.is ∙ same ∙ on.is) in
     record {
       on = record { image = on.image; is = same ∙ on.is; vol = on.vol };
-      agrees = subst (λ i. Agrees (access.kept volume) i) image_same it.agrees;
+      agrees = subst (λ i. Agrees (access.mounted_part volume) i) image_same it.agrees;
       cached = it.cached;
     }
 
@@ -39,7 +39,7 @@ mounts-as volume media after v same it on =
 pub mounted-left : (volume : Volume) (media : Option (List ℕ)) (v : DiskVolume) → IsMounted volume media → RepresentsVolume media v → IsMountedAs volume media v
 mounted-left volume media v it on =
     let image_same : it.on.image ≡ on.image = same_Some it.on.image on.image (sym it.on.is ∙ on.is) in
-    record { on = on; agrees = subst (λ i. Agrees (access.kept volume) i) image_same it.agrees; cached = it.cached }
+    record { on = on; agrees = subst (λ i. Agrees (access.mounted_part volume) i) image_same it.agrees; cached = it.cached }
 
 -- a volume on a drive has been changed or not, by the result
 pub record LeavesMounted (asked : Asked) (answer : Result ℕ DirError) (most : DiskVolume → ℕ) (v : DiskVolume)

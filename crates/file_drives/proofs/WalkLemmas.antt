@@ -1,6 +1,6 @@
 -- A walk by one name.
-use Rattle.rbf_access.specs.Mounted.{OnVolume}
 use Rattle.std.proofs.Common.{◌≡◌, ℕ, ◌+◌, ◌∙◌, Bool, Option, Some, List, [], ◌∷◌, Result, refl, ap, subst, add-zero}
+use Rattle.rbf_access.specs.Mounted.{OnVolume}
 use Rattle.rbf_model.specs.File.{DiskFile}
 use Rattle.rbf_model.specs.Volume.{DiskVolume}
 use Rattle.rbf_model.specs.Walk.{WalkEnd, arrives, not_allowed, not_found, go_on, step, walk}

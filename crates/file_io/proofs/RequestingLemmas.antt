@@ -1,7 +1,7 @@
 -- A read of a path that may be written too: it requests its bytes.
-use Rattle.io_model.specs.Read.{read_code}
 use Rattle.std.proofs.Common.{◌≡◌, ◌∙◌, ℕ, ◌+◌, nat_le, Bool, true, false, Some, None, List, length, refl, sym, ap, subst, arith}
 use Rattle.std.specs.Prelude.{unwrap_or}
+use Rattle.io_model.specs.Read.{read_code}
 use Rattle.os9_base.specs.declared.registers.Pid.{Pid}
 use Rattle.lock_model.specs.Locks.{Locks, request_of}
 use Rattle.lock_model.specs.declared.lock.Range.{Range}

@@ -1,6 +1,6 @@
 -- Writes of bytes to a file.
-use Rattle.os9_base.specs.UserLines.{line_at}
 use Rattle.std.specs.Prelude.{ℕ, ◌+◌, Option, Some, None, List, length}
+use Rattle.os9_base.specs.UserLines.{line_at}
 use Rattle.os9_base.specs.Cells.{Cells}
 use Rattle.os9_base.specs.declared.registers.Regs.{Regs}
 use Rattle.proc_model.specs.UserBytes.{user_bytes}

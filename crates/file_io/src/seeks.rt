@@ -1,7 +1,7 @@
 //! I$Seek (System Programmer's Manual, I$Seek).
 
-ghost use Rattle.file_state.specs.Context.{InFileCall, on_drives};
 ghost use Rattle.std.specs.Prelude.{List};
+ghost use Rattle.file_state.specs.Context.{InFileCall, on_drives};
 ghost use Rattle.proc_model.specs.Processes.{Processes};
 ghost use Rattle.file_io.specs.Calls.{i_seek_calls};
 ghost use Rattle.file_io.specs.Opened.{IsOpenedPath};

@@ -1,8 +1,8 @@
 //! I$Write, I$WritLn and F$PErr (System Programmer's Manual, I$Write, I$WritLn and F$PErr).
 
+ghost use Rattle.std.specs.Prelude.{◌≡◌, ◌≢◌, ◌+◌, ◌<◌, ◌≤◌, ◌^◌, false, IfSome, List, Ok, Some, length, option_map, take};
 ghost use Rattle.io_state.specs.Context.{InCall, SameTerminals};
 ghost use Rattle.file_state.specs.Context.{InFileCall, machine_seen};
-ghost use Rattle.std.specs.Prelude.{◌≡◌, ◌≢◌, ◌+◌, ◌<◌, ◌≤◌, ◌^◌, false, IfSome, List, Ok, Some, length, option_map, take};
 ghost use Rattle.proc_model.specs.Processes.{Processes, cells_at};
 ghost use Rattle.proc_model.specs.UserBytes.{user_bytes};
 ghost use Rattle.file_io.specs.Calls.{f_perr_calls, granted_write_calls, i_writln_calls, i_write_calls, writing_attempt_calls};
@@ -49,7 +49,7 @@ use rbf_write::NewBytes;
 /// The number of bytes in the line of an error.
 const ERROR_LINE_BYTES: u16 = 11;
 
-/// I$Write to a file on the path that the number in A names, at the time of the request (System
+/// I$Write to a file on the path that the number in A names, at the time `by.time` (System
 /// Programmer's Manual, I$Write). Takes the address of the bytes in X and their count in Y; returns
 /// the count in Y. The position moves past the bytes written. If the write begins past the old end,
 /// zeros fill the gap. The path then holds no lock (Level Two manual, RBF record locking). The call
@@ -91,7 +91,7 @@ pub fn write(
     send(machine, devices, by, opened, sent)
 }
 
-/// I$WritLn to a file on the path that the number in A names, at the time of the request (System
+/// I$WritLn to a file on the path that the number in A names, at the time `by.time` (System
 /// Programmer's Manual, I$WritLn): as [`write`], but only up to and including the first carriage
 /// return, and at most Y bytes.
 ///
@@ -174,7 +174,7 @@ fn pending_count(
     }
 }
 
-/// F$PErr to a file on the path of standard error, at the time of the request: writes the number in
+/// F$PErr to a file on the path of standard error, at the time `by.time`: writes the number in
 /// B as a line (System Programmer's Manual, F$PErr). The registers are unchanged.
 ///
 /// # Errors

@@ -19,7 +19,7 @@ use Rattle.lock_model.specs.Records.{Records, with_waiting}
 use Rattle.lock_model.specs.declared.lock.Request.{Request}
 use Rattle.rbf_model.specs.Volume.{DiskVolume}
 use Rattle.io_model.specs.Again.{path_number}
-use Rattle.io_model.specs.Attempts.{IoDoes, IoAttempts, io_after, io_step, result_of}
+use Rattle.io_model.specs.Attempts.{HasIoEffect, IoAttempts, io_after, io_step, result_of}
 use Rattle.io_model.specs.Io.{Io, OpenPath, open_path}
 use Rattle.io_model.specs.Lead.{Lead, a_new_place, lead_by_device, lead_of, on_device, what_is_there, nowhere as leads_nowhere}
 use Rattle.io_model.specs.Modes.{can_write, is_mode}
@@ -232,7 +232,7 @@ module _ (call : PathCall) (device : IoCall) (processes : Processes) (files : Fi
         device_is = is;
         attempted = record {
           effect = io_effect (refuses_so number files);
-          does = subst (λ (step : IoStep). IoDoes step asker.caller files.io (io_effect (refuses_so number files)) old new) (sym device_is) (refl, well.does.1);
+          does = subst (λ (step : IoStep). HasIoEffect step asker.caller files.io (io_effect (refuses_so number files)) old new) (sym device_is) (refl, well.does.1);
           result_is = refl;
           state = refl;
         };
@@ -295,7 +295,7 @@ module _ (call : PathCall) (device : IoCall) (processes : Processes) (files : Fi
           (subst (λ (step : FileStep). FileDoes step asker files (on_files p files it.effect) old new) (sym step_is)
           (inl (record { it = on_files p files it.effect; does = (it.effect, it.does, refl); drives = files.drives; none_failed = refl; effect_is = refl })))
       by_step (inr (number, step_is, device_is)) =
-          let does : IoDoes (io_refused number) asker.caller files.io it.effect old new = subst (λ (step : IoStep). IoDoes step asker.caller files.io it.effect old new) device_is it.does in
+          let does : HasIoEffect (io_refused number) asker.caller files.io it.effect old new = subst (λ (step : IoStep). HasIoEffect step asker.caller files.io it.effect old new) device_is it.does in
           attempts-by left old new it bare
           (subst (λ (step : FileStep). FileDoes step asker files (on_files p files it.effect) old new) (sym step_is)
           (inl (record {

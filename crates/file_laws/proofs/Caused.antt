@@ -8,7 +8,7 @@ use Rattle.os9_base.specs.declared.name_fault.NameFault.{NameFault}
 use Rattle.os9_base.specs.declared.name_fault.NameFault.TheVariants.{Unreadable, NoName}
 use Rattle.rbf_model.specs.Volume.{DiskVolume}
 use Rattle.rbf_model.specs.Walk.{WalkEnd, arrives, not_allowed, not_found, walk}
-use Rattle.io_model.specs.Attempts.{IoDoes}
+use Rattle.io_model.specs.Attempts.{HasIoEffect}
 use Rattle.io_model.specs.PathList.{PathList}
 use Rattle.io_model.specs.Step.{IoEffect, answers, fails}
 use Rattle.file_rules.specs.Files.{Files, volume_at}
@@ -37,7 +37,7 @@ module _ (m : MadePathCall) where
   Caused (leaves_so it) = (number : ℕ) → it.end ≡ fails number → FileCause m number
   Caused (as_io step) =
       IsDeviceStep m.call m.asker m.files m.terms step × IsOnNoFile m.call m.asker m.files m.terms ⊎
-      ((it : IoEffect) (old new : List TerminalState) (number : ℕ) → IoDoes step m.asker.caller m.files.io it old
+      ((it : IoEffect) (old new : List TerminalState) (number : ℕ) → HasIoEffect step m.asker.caller m.files.io it old
       new → it.end ≡ fails number → FileCause m number)
   Caused (changes it) = (n : ℕ) → (regs : Regs) × ((it.effect n).end ≡ answers regs)
 

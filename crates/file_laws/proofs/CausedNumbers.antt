@@ -19,7 +19,7 @@ use Rattle.rbf_change.specs.Contents.{written}
 use Rattle.rbf_change.specs.Growth.{clusters_needed}
 use Rattle.rbf_change.specs.NewFiles.{owns_file}
 use Rattle.io_model.specs.declared.pending.PendingCall.{PendingCall}
-use Rattle.io_model.specs.Attempts.{IoDoes, io_step}
+use Rattle.io_model.specs.Attempts.{HasIoEffect, io_step}
 use Rattle.io_model.specs.Close.{i_close as closes_device}
 use Rattle.io_model.specs.Io.{OpenPath, open_path}
 use Rattle.io_model.specs.Modes.{can_read, can_write}
@@ -239,7 +239,7 @@ module _ (asker : Asker) (files : Files) (terms : ℕ) where
 
   no-path : (opened : Option OpenPath) → open_path files.io asker.caller.process.0 asker.caller.regs.a ≡ opened
       → (it : IoEffect) (old new : List TerminalState) (number : ℕ)
-      → IoDoes (io_needs opened E_BPNUM (λ opened. io_done asker.caller.regs files.io)) asker.caller files.io it old new
+      → HasIoEffect (io_needs opened E_BPNUM (λ opened. io_done asker.caller.regs files.io)) asker.caller files.io it old new
       → it.end ≡ fails number → FileCause (made Call.Seek asker files terms) number
   no-path None none it old new number (is, same) ended =
       bad_number (sym (same-number E_BPNUM number (sym (ap (λ (it : IoEffect). it.end) is) ∙ ended))) refl none

@@ -1,9 +1,9 @@
 -- How many bytes a process sends, and which bytes of a call are named.
-use Rattle.os9_base.specs.UserLines.{line_at, line_with}
 use Rattle.std.proofs.Common.{◌≡◌, ℕ, zero, suc, ◌+◌, ◌<◌, ◌≤◌, ◌==◌, nat_lt, Bool, true, false, Option, Some, None, IsSome, is_some, List, [], ◌∷◌, length, refl, sym, ap, ◌∙◌, arith}
 use Rattle.std.specs.Prelude.{option_map, if◌then◌else◌}
 use Rattle.std.proofs.lemmas.Bool.{ltb-true}
 use Rattle.std.proofs.lemmas.Option.{none-some, same_Some}
+use Rattle.os9_base.specs.UserLines.{line_at, line_with}
 use Rattle.os9_base.specs.Cells.{Cells, FitsIn}
 use Rattle.os9_base.specs.UserNames.{user_cell}
 use Rattle.proc_model.specs.UserBytes.{byte_before, user_bytes}

@@ -1,9 +1,9 @@
 -- Calls on a number of a path: I$Read, I$Write, I$Seek, I$GetStt, I$SetStt and their like move positions and change one
 -- file, which keeps its kind.
-use Rattle.os9_base.specs.UserLines.{line_at}
 use Rattle.std.proofs.Common.{◌≡◌, ℕ, ◌+◌, ◌%◌, ◌==◌, Bool, true, false, not, Option, Some, None, List, [], length, refl, ap, ◌∙◌, subst}
 use Rattle.std.specs.Prelude.{is_none, nat_le, nat_lt, take, if◌then◌else◌}
 use Rattle.std.proofs.lemmas.Option.{same_Some}
+use Rattle.os9_base.specs.UserLines.{line_at}
 use Rattle.os9_base.specs.declared.calls.TheConstants.{I_READ, I_READLN, I_WRITE, I_WRITLN, F_PERR}
 use Rattle.io_model.specs.declared.terminal.ReadKind.{ReadKind}
 use Rattle.os9_base.specs.declared.errors.TheConstants.{E_BPADDR, E_BMODE, E_EOF, E_FNA, E_FULL, E_UNKSVC}

@@ -19,7 +19,7 @@ use Rattle.rbf_change.specs.Contents.{written}
 use Rattle.rbf_change.specs.Growth.{clusters_needed}
 use Rattle.rbf_change.specs.NewFiles.{owns_file}
 use Rattle.io_model.specs.declared.path.SysPath.{SysPath}
-use Rattle.io_model.specs.Attempts.{IoDoes, io_step, pending_in}
+use Rattle.io_model.specs.Attempts.{HasIoEffect, io_step, pending_in}
 use Rattle.io_model.specs.Close.{i_close as closes_device, after_close}
 use Rattle.io_model.specs.Io.{OpenPath, open_path}
 use Rattle.io_model.specs.Modes.{can_read, can_write}
@@ -394,7 +394,7 @@ module _ (asker : Asker) (files : Files) (terms : ℕ) where
 
   -- I$Seek does nothing on a terminal or a pipe
   seek-still : (opened : Option OpenPath) (it : IoEffect) (old new : List TerminalState)
-      → IoDoes (io_needs opened E_BPNUM (λ opened. io_done asker.caller.regs files.io)) asker.caller files.io it old new
+      → HasIoEffect (io_needs opened E_BPNUM (λ opened. io_done asker.caller.regs files.io)) asker.caller files.io it old new
       → DoesNothing Call.Seek asker files terms it old new
   seek-still None it old new (is, same) = record {
     over = ap (λ (it : IoEffect). pending_in it.end) is;

@@ -22,7 +22,7 @@ use Rattle.io_model.specs.declared.path.Target.TheVariants.{File, Folder, Term, 
 use Rattle.io_model.specs.declared.path.TheConstants.{PROCESS_PATHS}
 use Rattle.io_model.specs.declared.terminal.ReadKind.{ReadKind}
 use Rattle.io_model.specs.declared.terminal.ReadKind.TheVariants.{Bytes, WholeLine}
-use Rattle.io_model.specs.Attempts.{IoDoes}
+use Rattle.io_model.specs.Attempts.{HasIoEffect}
 use Rattle.io_model.specs.Close.{after_close, i_close, without_path, without_target}
 use Rattle.io_model.specs.Dup.{i_dup}
 use Rattle.io_model.specs.Io.{Io, OpenPath, pending_at, new_desc, open_path, with_paths, with_pipes}
@@ -119,7 +119,7 @@ module _ (files : Files) where
 
   -- an attempt leaves paths that are on what they were opened on
   abbrev pub LeavesOn : IoStep → Caller → Io → Type 0
-  LeavesOn step caller io = (effect : IoEffect) (old new : List TerminalState) → IoDoes step caller io effect old new → OnIo effect.io
+  LeavesOn step caller io = (effect : IoEffect) (old new : List TerminalState) → HasIoEffect step caller io effect old new → OnIo effect.io
 
   abbrev Left : IoStep → Type 0
   Left (refused number) = Unit {0}

@@ -12,7 +12,7 @@ use Rattle.lock_model.specs.declared.lock.Grant.{Grant}
 use Rattle.lock_model.specs.declared.lock.Grant.TheVariants.{Granted, Locked, Deadlock, Wait}
 use Rattle.rbf_model.specs.Volume.{DiskVolume}
 use Rattle.rbf_model.specs.Walk.{WalkEnd, arrives, not_allowed, not_found, walk}
-use Rattle.io_model.specs.Attempts.{IoDoes, io_step, pending_in}
+use Rattle.io_model.specs.Attempts.{HasIoEffect, io_step, pending_in}
 use Rattle.io_model.specs.Io.{OpenPath, open_path, with_paths}
 use Rattle.io_model.specs.PathList.{PathList}
 use Rattle.io_model.specs.Step.{IoEffect, IoStep, answers, comes as io_comes, fails, keeps}
@@ -143,7 +143,7 @@ module _ (call : PathCall) (asker : Asker) (files : Files) (terms : ℕ) where
     pub terminals : new ≡ old
 
   abbrev pub IsStill : IoStep → Type 0
-  IsStill step = (it : IoEffect) (old new : List TerminalState) → IoDoes step asker.caller files.io it old new → DoesNothing it old new
+  IsStill step = (it : IoEffect) (old new : List TerminalState) → HasIoEffect step asker.caller files.io it old new → DoesNothing it old new
 
   -- a change of the volume of the drive that was reached is answered
   pub record Answers (reached : Option ℕ) (it : VolumeChange) : Type 0 where

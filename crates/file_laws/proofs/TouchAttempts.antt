@@ -12,7 +12,7 @@ use Rattle.proc_model.specs.CallResult.{CallResult}
 use Rattle.proc_model.specs.Processes.{Processes}
 use Rattle.lock_model.specs.Records.{Records, with_waiting}
 use Rattle.rbf_model.specs.Volume.{DiskVolume}
-use Rattle.io_model.specs.Attempts.{IoDoes, pending_in, result_by, result_of}
+use Rattle.io_model.specs.Attempts.{HasIoEffect, pending_in, result_by, result_of}
 use Rattle.io_model.specs.Io.{Io, with_call, with_paths}
 use Rattle.io_model.specs.Step.{IoEffect, IoEnd, IoStep, answers, fails, keeps}
 use Rattle.file_rules.specs.Locking.{records_after}
@@ -290,7 +290,7 @@ module _ (call : PathCall) (processes : Processes) (files : Files) (now : TimePa
 
   -- a call on a terminal or a pipe
   pub on-device : (io : IoStep) (it : IoEffect) (drives : List DriveState) → KeepsDriveFaults files.drives drives
-      → IsDeviceStep call asker files (length old) io → IoDoes io asker.caller files.io it old new
+      → IsDeviceStep call asker files (length old) io → HasIoEffect io asker.caller files.io it old new
       → DeviceAttempted call processes files p (result_of processes p it) (files_after p (with_drives_after (on_files p files it)
       drives)) old new
   on-device io it drives none on does = record {
@@ -298,7 +298,7 @@ module _ (call : PathCall) (processes : Processes) (files : Files) (now : TimePa
     device_is = on.device_is;
     attempted = record {
       effect = it;
-      does = subst (λ (io : IoStep). IoDoes io asker.caller files.io it old new) on.is does;
+      does = subst (λ (io : IoStep). HasIoEffect io asker.caller files.io it old new) on.is does;
       result_is = refl;
       state = refl;
     };
@@ -328,7 +328,7 @@ module _ (call : PathCall) (processes : Processes) (files : Files) (now : TimePa
           device_is = device.device_is;
           attempted = record {
             effect = device.effect;
-            does = subst (λ (step : IoStep). IoDoes step asker.caller files.io device.effect old new) (sym device.is) (refl, same);
+            does = subst (λ (step : IoStep). HasIoEffect step asker.caller files.io device.effect old new) (sym device.is) (refl, same);
             result_is = refl;
             state = refl;
           };

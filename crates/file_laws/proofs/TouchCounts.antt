@@ -1,7 +1,7 @@
 -- What a call claims at its first attempt, by its code and its count.
-use Rattle.os9_base.specs.UserLines.{line_at}
 use Rattle.std.proofs.Common.{◌≡◌, ℕ, ◌<◌, ne_eqb, Some, None, List, length, refl, sym, ap, ◌∙◌, subst, arith}
 use Rattle.std.specs.Prelude.{⊤}
+use Rattle.os9_base.specs.UserLines.{line_at}
 use Rattle.os9_base.specs.declared.calls.TheConstants.{F_PERR, I_WRITE, I_WRITLN}
 use Rattle.proc_model.specs.UserBytes.{user_bytes}
 use Rattle.io_model.specs.declared.terminal.ReadKind.{ReadKind}

@@ -25,7 +25,7 @@ use Rattle.io_model.specs.declared.terminal.Progress.TheVariants.{Done, Wait, En
 use Rattle.io_model.specs.declared.terminal.ReadKind.{ReadKind}
 use Rattle.io_model.specs.declared.terminal.ReadKind.TheVariants.{Bytes, WholeLine}
 use Rattle.io_model.specs.Again.{path_number}
-use Rattle.io_model.specs.Attempts.{IoDoes, IoAttempts, caller_of, io_step, pending_in}
+use Rattle.io_model.specs.Attempts.{HasIoEffect, IoAttempts, caller_of, io_step, pending_in}
 use Rattle.io_model.specs.Io.{Io, OpenPath, pending_at, new_desc, open_path, with_call, with_pipes}
 use Rattle.io_model.specs.Lead.{Lead, a_new_place, lead_of, nowhere, to_pipe, to_terminal, what_is_there}
 use Rattle.io_model.specs.Modes.{can_read, can_write, is_mode}
@@ -203,7 +203,7 @@ write-over write Fault end is = ap pending_in (sym (same_Some (fails _) end is))
 write-over write NoMemory end is = absurd (none-some end is)
 
 module _ (device : IoCall) (number : ℕ) (caller : Caller) (io : Io) (before after : List TerminalState) where
-  does-waits : (step : IoStep) (effect : IoEffect) → StepWaits device number caller io step → IoDoes step caller io effect before after → EffectWaits device number caller io effect
+  does-waits : (step : IoStep) (effect : IoEffect) → StepWaits device number caller io step → HasIoEffect step caller io effect before after → EffectWaits device number caller io effect
   does-waits (refused error) effect waits (is, same) = inl (ap (λ (effect : IoEffect). pending_in effect.end) is)
   does-waits (comes it) effect waits (is, same) = subst (EffectWaits device number caller io) (sym is) waits
   does-waits (reads read) effect waits it = inr (waits, ap (λ (effect : IoEffect). effect.io.paths) it.effect_is)

@@ -106,7 +106,7 @@ pub record Found : Type 0 where
   pub volume : DiskVolume
   pub file : DiskFile
 
--- it is the file at this place
+-- a found file is the one at this place
 pub record IsFoundAt (files : Files) (place : FilePlace) (found : Found) : Type 0 where
   pub place_is : found.place ≡ place
   pub volume_is : volume_at files place.drive ≡ Some found.volume

@@ -6,7 +6,7 @@ use Rattle.os9_base.specs.declared.registers.Regs.{Regs}
 use Rattle.os9_outer.specs.TerminalState.{TerminalState}
 use Rattle.lock_model.specs.Records.{with_waiting}
 use Rattle.rbf_model.specs.Volume.{DiskVolume}
-use Rattle.io_model.specs.Attempts.{IoDoes}
+use Rattle.io_model.specs.Attempts.{HasIoEffect}
 use Rattle.io_model.specs.Step.{IoEnd, answers, fails, IoEffect, IoStep}
 use Rattle.file_rules.specs.Change.{Change, AppliesChange, MayBeTooLong, ChangeMayLeave}
 use Rattle.file_rules.specs.Files.{Files, Asker, DriveState, KeepsDriveFaults, OneFailed, volume_at, with_io, with_records, with_volume, with_drives}
@@ -122,7 +122,7 @@ pub record IsTooLong (it : VolumeChange) (files : Files) (effect : FileEffect) :
 abbrev pub DoesDeed : Deed → Asker → Files → FileEffect → List TerminalState → List TerminalState → Type 0
 DoesDeed (leaves_so it) asker files effect before after = (effect ≡ it) × (after ≡ before)
 DoesDeed (as_io step) asker files effect before after =
-    (it : IoEffect) × IoDoes step asker.caller files.io it before after
+    (it : IoEffect) × HasIoEffect step asker.caller files.io it before after
     × (effect ≡ on_files asker.caller.process.0 files it)
 DoesDeed (changes it) asker files effect before after =
     (IsChanged it asker files effect ⊎ IsTooLong it files effect) × (after ≡ before)

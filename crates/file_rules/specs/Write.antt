@@ -5,8 +5,8 @@
 -- position moves past the bytes written. If a write begins past the old end, zeros fill the gap. The path then holds no
 -- lock.
 -- Errors: E$BPAddr, E$BPNum, E$BMode, E$Lock, E$DeadLk, E$Full, E$SLF.
-use Rattle.os9_base.specs.UserLines.{line_at}
 use Rattle.std.specs.Prelude.{ℕ, ◌+◌, nat_lt, not, Option, Some, None, List, length}
+use Rattle.os9_base.specs.UserLines.{line_at}
 use Rattle.os9_base.specs.declared.calls.TheConstants.{I_WRITE, I_WRITLN, F_PERR}
 use Rattle.os9_base.specs.declared.errors.TheConstants.{E_BPADDR, E_BMODE, E_FULL}
 use Rattle.os9_base.specs.declared.registers.Regs.{Regs}

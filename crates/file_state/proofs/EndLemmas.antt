@@ -13,7 +13,7 @@ use Rattle.os9_base.specs.declared.call.CallEnd.{CallEnd}
 use Rattle.std.proofs.lemmas.Option.{none-some}
 use Rattle.io_model.specs.declared.pending.PendingCall.{PendingCall}
 use Rattle.lock_model.specs.Records.{Records, with_waiting}
-use Rattle.io_model.specs.Attempts.{IoDoes, result_by, result_of}
+use Rattle.io_model.specs.Attempts.{HasIoEffect, result_by, result_of}
 use Rattle.io_model.specs.Step.{IoEffect, IoEnd, IoStep, answers, fails, keeps}
 use Rattle.proc_state.specs.Tie.{ReturnsCallEnd}
 use Rattle.proc_state.specs.declared.state.ProcState.{ProcState}
@@ -167,7 +167,7 @@ breaks-before step asker files drive number v image drives terms reached none is
 
 -- what they do is done in the state of files
 pub goes-as-io : (step : FileStep) (asker : Asker) (files : Files) (deed : IoStep) (it : IoEffect)
-    (before after : List TerminalState) → deed_of step files ≡ as_io deed → IoDoes deed asker.caller files.io it before
+    (before after : List TerminalState) → deed_of step files ≡ as_io deed → HasIoEffect deed asker.caller files.io it before
     after → FileDoes step asker files (on_files asker.caller.process.0 files it) before after
 goes-as-io step asker files deed it before after is does = inl (record {
   it = on_files asker.caller.process.0 files it;

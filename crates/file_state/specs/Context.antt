@@ -22,12 +22,13 @@ abbrev pub machine_seen : {Disk : Type 0} {Drive : Disk → Type 0} {Terminals :
     → DeviceTable (DynBox Disk Global Drive) Terminals → MachineOnDrives
 machine_seen members machine devices = on_drives machine (drives_seen members devices)
 
--- the requester's call may act on a file: it has no pending call, or one that is not a read of a terminal
+-- the requester is alive with its registers, and its call may act on a file: the process has no pending call, or one
+-- that is not a read of a terminal
 pub record InFileCall (by : Requester) (machine : Machine) : Type 0 where
   pub calls : InCall by machine.processes
   pub no_read : ReadsNoTerminal machine.files.io by.p.0
 
--- the requester's call is at its first attempt: no call of it is pending
+-- the requester is alive with its registers, and its call is at its first attempt: no call of the process is pending
 pub record InFirstAttempt (by : Requester) (machine : Machine) : Type 0 where
   pub calls : InCall by machine.processes
   pub none_pending : pending_at machine.files.io by.p.0 ≡ None

@@ -7,7 +7,7 @@ use Rattle.os9_outer.specs.TerminalState.{TerminalState}
 use Rattle.proc_model.specs.Processes.{Processes, with_memory, with_regs_of}
 use Rattle.proc_model.specs.MemoryChanges.{stored}
 use Rattle.io_model.specs.Attempts.{result_of}
-use Rattle.io_model.specs.Io.{with_call}
+use Rattle.io_model.specs.Io.{Io, with_call}
 use Rattle.io_model.specs.Step.{IoEnd, answers, fails}
 use Rattle.proc_state.specs.Tie.{ReturnsCallEnd, RepresentsProcesses}
 use Rattle.proc_state.specs.declared.state.ProcState.{ProcState}

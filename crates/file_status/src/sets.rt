@@ -39,7 +39,7 @@ use os9_base::errors::{E_BMODE, E_UNKSVC};
 use os9_outer::drive::BlockDriver;
 use rbf_entries::NewAttributes;
 
-/// I$SetStt of a file or a directory, at the time of the request (System Programmer's Manual,
+/// I$SetStt of a file or a directory, at the time `by.time` (System Programmer's Manual,
 /// I$SetStt; the argument of SS.Attr is this project's own): sets the status of the path in A, by
 /// the code in B. SS.Size gives the file the size in bytes in X, the high half, and U, and leaves
 /// the position unchanged. SS.Ticks sets how many ticks the requests of the path wait for a record,

@@ -1,10 +1,10 @@
 -- What the descriptors and LSN 0 say.
-use Rattle.rbf_change.specs.Contents.{sector_count}
 use Rattle.std.proofs.Common.{◌≡◌, ℕ, ltb, ◌^◌, ◌+◌, ◌*◌, ◌<◌, ◌≤◌, ◌==◌, Bool, true, false, not, List, [], ◌∷◌, ◌++◌, length, take, map, refl, ap, ◌∙◌, arith}
 use Rattle.std.specs.Prelude.{flat_map, take_while}
 use Rattle.std.specs.List.{range_with_len}
 use Rattle.std.proofs.lemmas.Bool.{ne_eqb}
 use Rattle.std.proofs.lemmas.List.{append-nil, take_at}
+use Rattle.rbf_change.specs.Contents.{sector_count}
 use Rattle.rbf_model.specs.Fields.{segment_field, segments_field, has_sectors, size_field, directory_entry, is_used, boot_field, boot_size_field}
 use Rattle.rbf_model.specs.File.{file_at, file_from, segment_bytes}
 use Rattle.rbf_model.specs.Space.{is_marked}

@@ -1,10 +1,10 @@
 -- Which sector of the image each part is.
-use Rattle.rbf_change.specs.Contents.{sector_count}
 use Rattle.std.proofs.Common.{◌≡◌, ℕ, zero, suc, ◌+◌, ◌-◌, ◌*◌, ◌≤◌, List, [], ◌++◌, length, take, drop, replicate, refl, sym, ap, ◌∙◌, arith, append_assoc, length-append}
 use Rattle.std.specs.Prelude.{flat_map}
 use Rattle.std.specs.List.{range_with_len}
 use Rattle.std.proofs.lemmas.List.{take_at, take-take, drop-drop, length-replicate}
 use Rattle.std.proofs.Math.Seq.{take-add}
+use Rattle.rbf_change.specs.Contents.{sector_count}
 use Rattle.rbf_model.specs.Geometry.{sector}
 use Rattle.vol_tools.specs.Image.{marks_map}
 use Rattle.vol_tools.proofs.Laid.{dropped, behind, first}

@@ -1,11 +1,11 @@
 -- A disk with a boot file keeps the nine rules.
-use Rattle.rbf_change.specs.Contents.{sector_count}
 use Rattle.std.proofs.Common.{◌≡◌, ◌≢◌, ◌⊎◌, ℕ, suc, ◌+◌, ◌*◌, ◌/◌, ◌<◌, ◌≤◌, leb, true, false, List, [], ◌∷◌, length, refl, sym, ap, ◌∙◌, subst, inl, inr, ⊎_elim, arith}
 use Rattle.std.specs.List.{range_with_len, list_all}
 use Rattle.std.proofs.lemmas.Bool.{cond-true, cond-false, lt-ltb, le-leb, cases_lt, cases_eq, false≢true}
 use Rattle.std.proofs.lemmas.List.Elements.{All-nil, All-cons}
 use Rattle.std.proofs.lemmas.List.{append-nil}
 use Rattle.std.proofs.lemmas.List.FromFn.{length-range_with_len}
+use Rattle.rbf_change.specs.Contents.{sector_count}
 use Rattle.rbf_model.specs.Fields.{size_field, segments_field, directory_entry, descriptor_field, entry_name_field}
 use Rattle.rbf_model.specs.Geometry.{IsNumber, LieWithin, is_within}
 use Rattle.rbf_model.specs.Disk.{Disk, disk_of}

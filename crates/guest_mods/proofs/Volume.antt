@@ -1,11 +1,11 @@
 -- The image represents the volume of its file.
-use Rattle.rbf_change.specs.Contents.{sector_count}
 use Rattle.std.proofs.Common.{◌≡◌, ◌⊎◌, ℕ, ◌+◌, ◌*◌, ◌≤◌, ◌==◌, ◌&&◌, ◌||◌, Bool, true, false, not, List, [], ◌∷◌, length, drop, Some, None, refl, sym, ap, ◌∙◌, subst, inl, inr, ⊎_elim, arith, eqb-true}
 use Rattle.std.specs.Prelude.{if◌then◌else◌}
 use Rattle.std.specs.List.{list_any}
 use Rattle.std.proofs.lemmas.Bool.{cases_lt, cases_eq, le-ltb, or_cases, or_left, or_right, false≢true, ne_eqb, lt-leb}
 use Rattle.std.proofs.Math.Bool.{and-false}
 use Rattle.std.proofs.Math.ListN.{drop_of_length-le}
+use Rattle.rbf_change.specs.Contents.{sector_count}
 use Rattle.rbf_model.specs.Geometry.{Geometry, image_geometry, sector, HasHeader, IsHeader}
 use Rattle.rbf_model.specs.Disk.{disk_of}
 use Rattle.rbf_model.specs.File.{file_at}

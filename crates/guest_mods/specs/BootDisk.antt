@@ -1,9 +1,9 @@
 -- An RBF disk with one file, from which a machine boots (OS-9 Technical Reference, Random Block File Manager; its 4,096
 -- sectors and the place of each part are this project's own): LSN 0, the allocation map in sectors 1 and 2, the root's
 -- descriptor in sector 3 and its entries in sector 4, the file's descriptor in sector 5, and the file from sector 6 on.
+use Rattle.std.specs.Prelude.{◌≡◌, ℕ, ◌+◌, ◌-◌, ◌*◌, ◌/◌, ◌%◌, ◌≤◌, ◌==◌, false, Option, Some, None, List, [], ◌∷◌, ◌++◌, codes, length, take, drop, replicate, if◌then◌else◌}
 use Rattle.rbf_change.specs.Contents.{sector_count}
 use Rattle.os9_base.specs.Name.{marked_name}
-use Rattle.std.specs.Prelude.{◌≡◌, ℕ, ◌+◌, ◌-◌, ◌*◌, ◌/◌, ◌%◌, ◌≤◌, ◌==◌, false, Option, Some, None, List, [], ◌∷◌, ◌++◌, codes, length, take, drop, replicate, if◌then◌else◌}
 use Rattle.rbf_model.specs.Fields.{boot_field, boot_size_field}
 use Rattle.rbf_model.specs.File.{DiskFile}
 use Rattle.rbf_model.specs.Geometry.{sector}

@@ -4,6 +4,7 @@ ghost use Rattle.rbf_model.specs.Volume.{Vol, free_clusters};
 ghost use Rattle.rbf_model.specs.Geometry.{image_geometry};
 ghost use Rattle.guest_mods.specs.BootDisk as model;
 ghost use Rattle.guest_mods.specs.BootDisk.{boot_volume, used_sectors, BootsFile, ident_front, file_front, root_front, root_entries};
+ghost use Rattle.rbf_change.specs.Contents.{sector_count};
 
 use crate::sectors::{SECTOR_BYTES, push_sector, push_zeros};
 use os9_base::call::OutOfMemory;
@@ -66,7 +67,7 @@ fn used_part(alloc: Global, file: &[u8]) -> Result<Vec<u8>, AllocError>
 /// The number of sectors that a file of this size fills.
 fn sectors_for(size: u16) -> u8
     requires { size ≤ MOST_GROUP_BYTES }
-    ensures { result ≡ model.sectors_for size }
+    ensures { result ≡ sector_count size }
 {
     size.div_ceil(256) as u8
 }

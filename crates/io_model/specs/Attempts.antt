@@ -36,11 +36,11 @@ io_step Call.SetStt caller io drives terms = i_setstt caller io
 io_step Call.PErr caller io drives terms = f_perr caller io
 
 -- this step has this effect, and leaves the terminals in this way
-abbrev pub IoDoes : IoStep → Caller → Io → IoEffect → List TerminalState → List TerminalState → Type 0
-IoDoes (refused number) caller io effect before after = (effect ≡ leaves (fails number) io) × (after ≡ before)
-IoDoes (comes it) caller io effect before after = (effect ≡ it) × (after ≡ before)
-IoDoes (reads read) caller io effect before after = ReadsTerminal caller io read effect before after
-IoDoes (writes write) caller io effect before after = WritesTerminal caller io write effect before after
+abbrev pub HasIoEffect : IoStep → Caller → Io → IoEffect → List TerminalState → List TerminalState → Type 0
+HasIoEffect (refused number) caller io effect before after = (effect ≡ leaves (fails number) io) × (after ≡ before)
+HasIoEffect (comes it) caller io effect before after = (effect ≡ it) × (after ≡ before)
+HasIoEffect (reads read) caller io effect before after = ReadsTerminal caller io read effect before after
+HasIoEffect (writes write) caller io effect before after = WritesTerminal caller io write effect before after
 
 -- the pending call after an attempt with this end
 abbrev pub pending_in : IoEnd → Option PendingCall
@@ -94,6 +94,6 @@ step_of call processes p io drives terms = io_step call (caller_of processes p) 
 pub record IoAttempts (call : IoCall) (processes : Processes) (io : Io) (drives p : ℕ) (result : CallResult) (new : Io)
     (before after : List TerminalState) : Type 0 where
   pub effect : IoEffect
-  pub does : IoDoes (step_of call processes p io drives before) (caller_of processes p) io effect before after
+  pub does : HasIoEffect (step_of call processes p io drives before) (caller_of processes p) io effect before after
   pub result_is : result ≡ result_of processes p effect
   pub state : new ≡ io_after p effect

@@ -1,7 +1,7 @@
 -- What an attempt leaves if there is no memory for a byte of a terminal (this project's own).
 use Rattle.std.specs.Prelude.{List}
 use Rattle.os9_outer.specs.TerminalState.{TerminalState, ChangesOneTerminal}
-use Rattle.io_model.specs.Terminal.{Terminal, ReadAttempted, WriteAttempted}
+use Rattle.io_model.specs.Terminal.{Terminal, TerminalReadAttempt, TerminalWriteAttempt}
 use Rattle.io_model.specs.declared.terminal.Progress.TheVariants as Answer
 use Rattle.io_model.specs.Io.{Io, terminal_at}
 use Rattle.io_model.specs.Step.{Caller, IoStep, refused, comes, reads, writes}
@@ -14,10 +14,11 @@ WantsMemory (refused number) caller io before after = ⊥
 WantsMemory (comes effect) caller io before after = ⊥
 WantsMemory (reads read) caller io before after =
     (new : Terminal) × ChangesOneTerminal
-    (ReadAttempted (request_of caller read) Answer.NoMemory (terminal_at io read.terminal) new) read.terminal before
+    (TerminalReadAttempt (request_of caller read) Answer.NoMemory (terminal_at io read.terminal) new) read.terminal
+    before
     after
 WantsMemory (writes write) caller io before after =
     (new : Terminal) × ChangesOneTerminal
-    (WriteAttempted caller.process write.put write.count Answer.NoMemory (terminal_at io write.terminal) new)
+    (TerminalWriteAttempt caller.process write.put write.count Answer.NoMemory (terminal_at io write.terminal) new)
     write.terminal
     before after

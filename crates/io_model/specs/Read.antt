@@ -31,7 +31,7 @@ abbrev pub read_code : ReadKind → ℕ
 read_code Bytes = I_READ
 read_code WholeLine = I_READLN
 
--- a read by process p is not refused: its buffer is named, and its path may be read
+-- the buffer and the path of a read by process p do not refuse it: the buffer is named, and the path may be read
 pub record IsReadAllowed (cells : Cells) (regs : Regs) (io : Io) (p : ℕ) : Type 0 where
   pub named : FitsIn cells regs.x regs.y
   pub mode : IsSomeAnd (open_path io p regs.a) (λ opened. can_read opened.desc.mode ≡ true)

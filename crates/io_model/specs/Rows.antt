@@ -7,7 +7,7 @@ use Rattle.io_model.specs.Terminal.{new_terminal, used_by}
 use Rattle.io_model.specs.Attempts.{io_step, io_after}
 use Rattle.io_model.specs.Io.{Io, first_io, with_terminal}
 use Rattle.io_model.specs.Processes.{io_started}
-use Rattle.io_model.specs.Step.{Caller, IoEnd, IoEffect, IoStep, refused, comes, reads, writes, leaves, fails, TerminalWrite}
+use Rattle.io_model.specs.Step.{Caller, IoEnd, IoEffect, IoStep, TerminalWrite, effect_of}
 use Rattle.io_model.specs.Waiting.{pid}
 use Rattle.io_model.specs.declared.io_call.IoCall.{IoCall}
 use Rattle.io_model.specs.declared.io_call.IoCall.TheVariants as Call
@@ -19,13 +19,6 @@ cells_with bytes at = slice_get bytes at
 -- the process of this number, with these registers and these bytes from address 0 on
 abbrev pub calling : ℕ → Regs → List ℕ → Caller
 calling p regs bytes = record { process = pid p; regs = regs; cells = cells_with bytes }
-
--- what an attempt that reaches no device leaves
-abbrev pub effect_of : IoStep → Io → IoEffect
-effect_of (refused number) io = leaves (fails number) io
-effect_of (comes effect) io = effect
-effect_of (reads read) io = leaves (fails 0) io
-effect_of (writes write) io = leaves (fails 0) io
 
 -- what an attempt of a call by such a process leaves, on a machine with four terminals and no drive
 abbrev pub attempt : IoCall → ℕ → Regs → List ℕ → Io → IoEffect

@@ -75,3 +75,10 @@ stores at bytes end io = record { end = end; at = at; bytes = bytes; io = io }
 -- the call is done: it stores nothing, the caller has these registers, and this is the state
 abbrev pub done : Regs → Io → IoStep
 done regs io = comes (leaves (answers regs) io)
+
+-- what an attempt that reaches no device leaves
+abbrev pub effect_of : IoStep → Io → IoEffect
+effect_of (refused number) io = leaves (fails number) io
+effect_of (comes effect) io = effect
+effect_of (reads read) io = leaves (fails 0) io
+effect_of (writes write) io = leaves (fails 0) io

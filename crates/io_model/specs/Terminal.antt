@@ -229,7 +229,7 @@ abbrev pub stored_over : List ℕ → List ℕ → List ℕ
 stored_over bytes buffer = bytes ++ drop (length bytes) buffer
 
 -- an attempt of a read had this answer
-pub record ReadAttempted (request : Reading) (answer : Progress) (old new : Terminal) (before now : TerminalState)
+pub record TerminalReadAttempt (request : Reading) (answer : Progress) (old new : Terminal) (before now : TerminalState)
     : Type 0 where
   pub outcome : MatchBool (is_refused answer) (BreaksOffEcho request old new before now)
       (Attempted (read_attempt request old) answer new before now)
@@ -260,7 +260,7 @@ pub record IsOutputCutShort (process : Pid) (bytes : List ℕ) (old new : Termin
     pub part : PutsPart bytes before now
 
 -- a write of these bytes had this answer; if it was done, it returned this count
-pub record WriteAttempted (process : Pid) (bytes : List ℕ) (count : ℕ) (answer : Progress) (old new : Terminal)
+pub record TerminalWriteAttempt (process : Pid) (bytes : List ℕ) (count : ℕ) (answer : Progress) (old new : Terminal)
     (before now : TerminalState) : Type 0 where
   pub outcome : MatchBool (is_refused answer) (IsOutputCutShort process bytes old new before now)
       (IsOutputWritten process bytes count answer old new before now)

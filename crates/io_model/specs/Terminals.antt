@@ -2,7 +2,7 @@
 use Rattle.std.specs.Prelude.{◌≡◌, min, Option, Some, None, List}
 use Rattle.os9_base.specs.declared.errors.TheConstants.{E_EOF, E_WRITE}
 use Rattle.os9_outer.specs.TerminalState.{TerminalState, ChangesOneTerminal}
-use Rattle.io_model.specs.Terminal.{Terminal, ReadAttempted, WriteAttempted, stored_bytes}
+use Rattle.io_model.specs.Terminal.{Terminal, TerminalReadAttempt, TerminalWriteAttempt, stored_bytes}
 use Rattle.io_model.specs.declared.terminal.Progress.{Progress}
 use Rattle.io_model.specs.declared.terminal.Progress.TheVariants.{Done, Wait, End, Fault, NoMemory}
 use Rattle.io_model.specs.declared.terminal.Reading.{Reading}
@@ -36,7 +36,8 @@ pub record ReadsTerminal (caller : Caller) (io : Io) (read : TerminalRead) (effe
   pub answer : Progress
   pub new : Terminal
   pub end : IoEnd
-  pub device : ChangesOneTerminal (ReadAttempted (request_of caller read) answer (terminal_at io read.terminal) new)
+  pub device : ChangesOneTerminal (TerminalReadAttempt (request_of caller read) answer (terminal_at io read.terminal)
+      new)
       read.terminal before after
   pub ends : read_ends caller read answer ≡ Some end
   pub effect_is : effect ≡ read_leaves caller io read answer new end
@@ -56,7 +57,7 @@ pub record WritesTerminal (caller : Caller) (io : Io) (write : TerminalWrite) (e
   pub new : Terminal
   pub end : IoEnd
   pub device : ChangesOneTerminal
-      (WriteAttempted caller.process write.put write.count answer (terminal_at io write.terminal) new)
+      (TerminalWriteAttempt caller.process write.put write.count answer (terminal_at io write.terminal) new)
       write.terminal before after
   pub ends : write_ends write answer ≡ Some end
   pub effect_is : effect ≡ leaves end (with_terminal io write.terminal new)

@@ -3,8 +3,8 @@
 -- I$Write and I$WritLn take the path in A, the address of the bytes in X and their count, or the maximum count of the
 -- line, in Y; they return the count in Y. F$PErr takes the number in B, and writes it as a line to standard error.
 -- Errors: E$BPAddr, E$BPNum, E$BMode, E$Write.
-use Rattle.os9_base.specs.UserLines.{line_at}
 use Rattle.std.specs.Prelude.{ℕ, ◌+◌, ◌/◌, ◌%◌, Option, Some, None, List, [], ◌∷◌, ◌++◌, codes, length}
+use Rattle.os9_base.specs.UserLines.{line_at}
 use Rattle.os9_base.specs.declared.calls.TheConstants.{I_WRITE, I_WRITLN, F_PERR}
 use Rattle.os9_base.specs.declared.errors.TheConstants.{E_BPADDR, E_UNKSVC}
 use Rattle.os9_base.specs.declared.registers.Regs.{Regs}

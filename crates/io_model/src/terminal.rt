@@ -1,7 +1,7 @@
 //! The answers of a terminal, with worked cases.
 
 ghost use Rattle.std.specs.Prelude.{◌≡◌, true, Some, None, [], ◌∷◌, ◌++◌, codes};
-ghost use Rattle.io_model.specs.Terminal.{Arrives, WriteAttempted, read_attempt, new_terminal, used_by, driver_with};
+ghost use Rattle.io_model.specs.Terminal.{Arrives, TerminalWriteAttempt, read_attempt, new_terminal, used_by, driver_with};
 
 use os9_base::registers::Pid;
 
@@ -68,7 +68,7 @@ pub fn waiting_line()
 
 /// A write of three bytes to a terminal that fails at the second one leaves one byte out.
 pub fn terminal_put_fault()
-    ensures { WriteAttempted (record { 0 = 2 }) (97 ∷ 98 ∷ 99 ∷ []) 3 Progress.Fault
+    ensures { TerminalWriteAttempt (record { 0 = 2 }) (97 ∷ 98 ∷ 99 ∷ []) 3 Progress.Fault
         new_terminal (used_by (record { 0 = 2 }) new_terminal)
         (driver_with [] [] 0) (driver_with [] (97 ∷ []) 1) }
 {}

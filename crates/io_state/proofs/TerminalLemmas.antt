@@ -3,7 +3,7 @@ use Rattle.std.proofs.Common.{◌≡◌, ◌<◌, ◌⊎◌, ◌∙◌, ℕ, zer
 use Rattle.std.proofs.lemmas.List.{length-set, length-map, get_or-set_same, get_or_read}
 use Rattle.device_table.proofs.TerminalLemmas.{ChangesOne-set}
 use Rattle.os9_outer.specs.TerminalState.{TerminalState, ChangesOneTerminal}
-use Rattle.io_model.specs.Terminal.{Terminal, new_terminal, ReadAttempted, released, forgotten}
+use Rattle.io_model.specs.Terminal.{Terminal, new_terminal, TerminalReadAttempt, released, forgotten}
 use Rattle.io_model.specs.Path.{PathTable, slot_of, paths_after_close, closed_desc}
 use Rattle.io_model.specs.declared.path.Desc.{Desc}
 use Rattle.io_model.specs.declared.path.SysPath.{SysPath}
@@ -66,7 +66,7 @@ is-io_with_terminal io n t terminals changed leaves is =
 pub is-io_read : (io : Io) (p n most : ℕ) (kind : ReadKind) (call : PendingCall) (answer : Progress)
     (terminals : List Terminal) (pending : Option PendingCall) (before after : TerminalState) → IsIo io → MayReadTerminal io p n kind
     call → most ≡ most_of call → terminals ≡ set io.terminals n (get_or terminals n new_terminal)
-    → ReadAttempted (read_of (pid p) kind most) answer (terminal_at io n) (get_or terminals n new_terminal) before after
+    → TerminalReadAttempt (read_of (pid p) kind most) answer (terminal_at io n) (get_or terminals n new_terminal) before after
     → pending ≡ pending_after answer call → IsIo (record {
       paths = io.paths;
       terminals = terminals;
@@ -78,7 +78,7 @@ is-io_read io p n most kind call answer terminals pending before after is may sa
     let process : p < length io.calls = omega (arith, holder-within io.paths p call.path.0 is.paths may.may.held, is.calls) in
     let terminal : n < length io.terminals = omega (arith, is.targets.terminals call.path.0 n may.on, is.terminals) in
     let leaves = read-leaves (read_of (pid p) kind (most_of call)) answer (terminal_at io n) t before after
-    (subst (λ (m : ℕ). ReadAttempted (read_of (pid p) kind m) answer (terminal_at io n) t before after) same reads) in
+    (subst (λ (m : ℕ). TerminalReadAttempt (read_of (pid p) kind m) answer (terminal_at io n) t before after) same reads) in
     is-io_changed io p n t terminals (pending_after answer call) pending changed now (waits-after_read io p n kind call t answer process terminal may leaves is.waits) is
 
 -- after an attempt of a write

@@ -8,7 +8,7 @@ use Rattle.os9_outer.specs.TerminalState.{TerminalState}
 use Rattle.io_model.specs.Edit.{Typing}
 use Rattle.io_model.specs.Pending.{pending_of, with_pending}
 use Rattle.io_model.specs.Path.{PathTable, ArePaths, desc_of, holds_path, paths_after_begin, paths_after_dup, paths_after_close, paths_after_inherit}
-use Rattle.io_model.specs.Terminal.{Terminal, new_terminal, ReadAttempted, WriteAttempted, IsOutputCutShort, IsOutputWritten, BreaksOffEcho, Attempted, IsSameCall, is_refused, is_taken, read_attempt, kept_waiting, typed_attempt, attempt_by, typed, stored_bytes, stored_over, is_process, without_reading, released, forgotten}
+use Rattle.io_model.specs.Terminal.{Terminal, new_terminal, TerminalReadAttempt, TerminalWriteAttempt, IsOutputCutShort, IsOutputWritten, BreaksOffEcho, Attempted, IsSameCall, is_refused, is_taken, read_attempt, kept_waiting, typed_attempt, attempt_by, typed, stored_bytes, stored_over, is_process, without_reading, released, forgotten}
 use Rattle.io_model.specs.declared.edit.LineEnd.{LineEnd}
 use Rattle.io_model.specs.declared.edit.LineEnd.TheVariants.{Line, EndOfFile}
 use Rattle.io_model.specs.declared.pending.PendingCall.{PendingCall}
@@ -231,7 +231,7 @@ outcome-leaves true request answer old new before now outcome = over (ap (λ (x 
 outcome-leaves false request answer old new before now outcome =
     attempt-leaves (is_taken request.process old) request answer old new outcome.answer_is outcome.terminal
 
-pub read-leaves : (request : Reading) (answer : Progress) (old new : Terminal) (before now : TerminalState) → ReadAttempted request answer old new before now → Leaves request answer old new
+pub read-leaves : (request : Reading) (answer : Progress) (old new : Terminal) (before now : TerminalState) → TerminalReadAttempt request answer old new before now → Leaves request answer old new
 read-leaves request answer old new before now reads =
     outcome-leaves (is_refused answer) request answer old new before now reads.outcome
 
@@ -323,7 +323,7 @@ waits-after_read io p n kind call t answer process terminal may (waits wait is) 
 
 -- what a write leaves of the unfinished read
 pub write-leaves : (process : Pid) (bytes : List ℕ) (count : ℕ) (answer : Progress) (old new : Terminal)
-    (before now : TerminalState) → WriteAttempted process bytes count answer old new before now → (new.reading ≡ None) ⊎
+    (before now : TerminalState) → TerminalWriteAttempt process bytes count answer old new before now → (new.reading ≡ None) ⊎
     (new.reading ≡ old.reading)
 write-leaves process bytes count answer old new before now writes = by (is_refused answer) writes.outcome
   where
@@ -370,7 +370,7 @@ attempt-count false request old =
 
 -- an attempt of a read answers how many bytes it stores
 pub stored-count : (request : Reading) (answer : Progress) (old new : Terminal) (before now : TerminalState)
-    → ReadAttempted request answer old new before now → length (stored_bytes answer request old) ≡ count_of answer
+    → TerminalReadAttempt request answer old new before now → length (stored_bytes answer request old) ≡ count_of answer
 stored-count request answer old new before now reads = by (is_refused answer) refl reads.outcome
   where
     by : (refused : Bool) → is_refused answer ≡ refused → MatchBool refused (BreaksOffEcho request old new before now)

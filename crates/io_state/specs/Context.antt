@@ -10,21 +10,20 @@ pub record InCall (by : Requester) (processes : ProcState) : Type 0 where
   pub lives : IsLiving processes.table by.p.0
   pub regs : by.regs ≡ (record_at processes.table by.p.0).regs
 
--- after a call that uses no terminal the requester is still alive, and the terminals are as they were
+-- the requester is still alive, and the terminals are as they were
 pub record SameTerminals {Drives Terminals : Type 0} (by : Requester) (processes : ProcState)
     (before after : DeviceTable Drives Terminals) : Type 0 where
   pub lives : IsLiving processes.table by.p.0
   pub terms : after.terms ≡ before.terms
 
--- after a call that uses no drive the requester is still alive, the drives are as they were, and there are as many
--- terminals
+-- the requester is still alive, the drives are as they were, and there are as many terminals
 pub record SameDrives {Drives Terminal : Type 0} (by : Requester) (processes : ProcState)
     (before after : DeviceTable Drives Terminal) : Type 0 where
   pub lives : IsLiving processes.table by.p.0
   pub drives : after.drives ≡ before.drives
   pub count : vec_len after.terms ≡ vec_len before.terms
 
--- after any call the requester is still alive, and there are as many terminals
+-- the requester is still alive, and there are as many terminals
 pub record AsManyTerminals {Drives Terminal : Type 0} (by : Requester) (processes : ProcState)
     (before after : DeviceTable Drives Terminal) : Type 0 where
   pub lives : IsLiving processes.table by.p.0

@@ -7,9 +7,9 @@ use os9_base::registers::{Pid, Regs, TimePacket};
 pub struct Requester {
     /// The process that requests.
     pub p: Pid,
-    /// Its registers at the call.
+    /// Its registers, with which it made the call.
     pub regs: Regs,
-    /// The time of the clock for a call that may set a date (`sets_date`), and any time for
-    /// another.
+    /// The time of the clock at this attempt, if the call may set a date (`sets_date` of
+    /// `call_dispatch`), and any time for another call.
     pub time: TimePacket,
 }

@@ -2,7 +2,7 @@
 
 ghost use Rattle.std.specs.Prelude.{◌≡◌, ◌<◌, ◌≤◌, None, length, take, vec_len};
 ghost use Rattle.io_model.specs.Line.{line_length, line_put};
-ghost use Rattle.io_model.specs.Terminal.{Arrives, ReadAttempted, WriteAttempted, stored_bytes};
+ghost use Rattle.io_model.specs.Terminal.{Arrives, TerminalReadAttempt, TerminalWriteAttempt, stored_bytes};
 ghost use Rattle.io_model.specs.Io.{terminal_at, with_terminal};
 ghost use Rattle.io_state.specs.Sound.{ReadsNoTerminal, most_of};
 ghost use Rattle.io_state.specs.Terminals as model;
@@ -38,7 +38,7 @@ impl IoState {
         requires may { MayReadTerminal self.old p.0 read.terminal read.kind read.call }
         requires there { read.terminal < vec_len devices.old.terms }
         ensures device { ChangesWithDriver CharDriver-box read.terminal
-            (ReadAttempted (read_of p read.kind (most_of read.call)) result)
+            (TerminalReadAttempt (read_of p read.kind (most_of read.call)) result)
             self.old.terminals devices.old self.new.terminals devices.new }
         ensures stored { take (count_of result) into.new ≡ stored_bytes result
             (read_of p read.kind (most_of read.call)) (terminal_at self.old read.terminal) }
@@ -74,7 +74,7 @@ impl IoState {
         requires there { terminal < vec_len devices.old.terms }
         requires most { length bytes.now ≤ 65535 }
         ensures device { ChangesWithDriver CharDriver-box terminal
-            (WriteAttempted p bytes.now (length bytes.now) result)
+            (TerminalWriteAttempt p bytes.now (length bytes.now) result)
             self.old.terminals devices.old self.new.terminals devices.new }
         ensures io { ChangesInCall terminal p.0 None self.old self.new }
         ensures drives { devices.new.drives ≡ devices.old.drives }
@@ -101,7 +101,7 @@ impl IoState {
         requires there { terminal < vec_len devices.old.terms }
         requires most { length bytes.now ≤ 65535 }
         ensures device { ChangesWithDriver CharDriver-box terminal
-            (WriteAttempted p (line_put bytes.now) (line_length bytes.now) result)
+            (TerminalWriteAttempt p (line_put bytes.now) (line_length bytes.now) result)
             self.old.terminals devices.old self.new.terminals devices.new }
         ensures io { ChangesInCall terminal p.0 None self.old self.new }
         ensures drives { devices.new.drives ≡ devices.old.drives }

@@ -4,7 +4,7 @@ ghost use Rattle.std.specs.Prelude.{◌≡◌, ◌<◌, ◌≤◌, not, false, I
 ghost use Rattle.std.specs.Option.{option_map_or};
 ghost use Rattle.device_table.specs.Seen.{boxed_terminal_state};
 ghost use Rattle.io_model.specs.Line.{line_length, line_put};
-ghost use Rattle.io_model.specs.Terminal.{new_terminal, Arrives, ReadAttempted, WriteAttempted, is_process, forgotten, released, stored_bytes, stored_over};
+ghost use Rattle.io_model.specs.Terminal.{new_terminal, Arrives, TerminalReadAttempt, TerminalWriteAttempt, is_process, forgotten, released, stored_bytes, stored_over};
 ghost use Rattle.io_model.specs.Waiting.{may_read_terminal};
 ghost use Rattle.io_state.specs.Terminals.{ChangesAlone, ChangesWithDriver, MayBeAsked, count_of};
 
@@ -99,7 +99,7 @@ impl Terminals {
         requires terminal { n < 4 }
         requires there { n < vec_len devices.old.terms }
         requires asked { MayBeAsked request (slice_index_or self.old n new_terminal) }
-        ensures device { ChangesWithDriver CharDriver-box n (ReadAttempted request result)
+        ensures device { ChangesWithDriver CharDriver-box n (TerminalReadAttempt request result)
             self.old devices.old self.new devices.new }
         ensures stored { take (count_of result) into.new
             ≡ stored_bytes result request (slice_index_or self.old n new_terminal) }
@@ -122,7 +122,7 @@ impl Terminals {
         requires there { n < vec_len devices.old.terms }
         requires most { length bytes.now ≤ 65535 }
         ensures device { ChangesWithDriver CharDriver-box n
-            (WriteAttempted p bytes.now (length bytes.now) result)
+            (TerminalWriteAttempt p bytes.now (length bytes.now) result)
             self.old devices.old self.new devices.new }
         ensures terminals { ChangesAlone n self.old self.new }
         ensures drives { devices.new.drives ≡ devices.old.drives }
@@ -142,7 +142,7 @@ impl Terminals {
         requires there { n < vec_len devices.old.terms }
         requires most { length bytes.now ≤ 65535 }
         ensures device { ChangesWithDriver CharDriver-box n
-            (WriteAttempted p (line_put bytes.now) (line_length bytes.now) result)
+            (TerminalWriteAttempt p (line_put bytes.now) (line_length bytes.now) result)
             self.old devices.old self.new devices.new }
         ensures terminals { ChangesAlone n self.old self.new }
         ensures drives { devices.new.drives ≡ devices.old.drives }
@@ -184,7 +184,7 @@ fn read_in_box(
 ) -> Progress
     requires asked { MayBeAsked request term.old }
     requires buffer { request.most ≡ length into.old }
-    ensures read { ReadAttempted request result term.old term.new
+    ensures read { TerminalReadAttempt request result term.old term.new
         (boxed_terminal_state CharDriver-box driver.old)
         (boxed_terminal_state CharDriver-box driver.new) }
     ensures stored { into.new ≡ stored_over (stored_bytes result request term.old) into.old }
@@ -198,7 +198,7 @@ fn read_in_box(
 /// An attempt of a write of bytes to the terminal.
 fn write_in_box(term: &mut Term, p: Pid, bytes: &[u8], driver: &mut Box<dyn CharDriver>) -> Progress
     requires { length bytes.now ≤ 65535 }
-    ensures { WriteAttempted p bytes.now (length bytes.now) result term.old term.new
+    ensures { TerminalWriteAttempt p bytes.now (length bytes.now) result term.old term.new
         (boxed_terminal_state CharDriver-box driver.old)
         (boxed_terminal_state CharDriver-box driver.new) }
 {
@@ -213,8 +213,8 @@ fn write_line_in_box(
     driver: &mut Box<dyn CharDriver>,
 ) -> Progress
     requires { length bytes.now ≤ 65535 }
-    ensures { WriteAttempted p (line_put bytes.now) (line_length bytes.now) result term.old term.new
-        (boxed_terminal_state CharDriver-box driver.old)
+    ensures { TerminalWriteAttempt p (line_put bytes.now) (line_length bytes.now) result term.old
+        term.new (boxed_terminal_state CharDriver-box driver.old)
         (boxed_terminal_state CharDriver-box driver.new) }
 {
     term.write_line(p, bytes, &mut **driver)

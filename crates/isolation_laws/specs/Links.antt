@@ -28,7 +28,7 @@ pub record NamesModule (m : Processes) (p : ℕ) (found : Entered) : Type 0 wher
   pub is : found_entry m.memory.modules name (regs_at m p).a ≡ Some found
 
 -- F$Link or F$Fork: the module that the call names has one more link
-pub record LinksNamed (m : Processes) (p : ℕ) (n : MemoryState) : Type 0 where
+pub record NamedModuleGainsLink (m : Processes) (p : ℕ) (n : MemoryState) : Type 0 where
   pub found : Entered
   pub call : AttemptsCall m p Call.Link × NamesModule m p found
       ⊎ AttemptsCall m p Call.Fork × (named_program m p ≡ Some found)
@@ -46,7 +46,7 @@ pub record NamedModuleLosesLink (m : Processes) (p : ℕ) (n : MemoryState) : Ty
   pub less : n.modules ≡ (unlinked m.memory found.number).modules
 
 -- F$Chain: the module that the call names has one more link, and then the old primary module has one less
-pub record ChainsNamed (m : Processes) (p : ℕ) (n : MemoryState) : Type 0 where
+pub record NamedModuleIsChained (m : Processes) (p : ℕ) (n : MemoryState) : Type 0 where
   pub call : AttemptsCall m p Call.Chain
   pub found : Entered
   pub named : named_program m p ≡ Some found
@@ -55,7 +55,8 @@ pub record ChainsNamed (m : Processes) (p : ℕ) (n : MemoryState) : Type 0 wher
 -- the links of entered modules are as before, or one of these changes them
 abbrev pub ChangesEntered : Processes → ℕ → EventEnd → MemoryState → Type 0
 ChangesEntered m p end n =
-    (n.modules ≡ m.memory.modules) ⊎ LinksNamed m p n ⊎ NamedModuleLosesLink m p n ⊎ ChainsNamed m p n
+    (n.modules ≡ m.memory.modules) ⊎ NamedModuleGainsLink m p n ⊎ NamedModuleLosesLink m p n
+    ⊎ NamedModuleIsChained m p n
     ⊎ LosesPrimary m p end n
 
 -- ---- a loaded file

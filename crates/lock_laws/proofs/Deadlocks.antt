@@ -13,7 +13,7 @@ use Rattle.proc_model.specs.CallResult.{CallResult}
 use Rattle.proc_model.specs.Ready.{Act, act_of, attempts}
 use Rattle.lock_model.specs.declared.lock.Grant.TheVariants.{Deadlock, Locked}
 use Rattle.lock_model.specs.declared.lock.TheConstants.{LOCK_PROCESSES}
-use Rattle.io_model.specs.Attempts.{IoDoes, IoAttempts, io_after, result_by}
+use Rattle.io_model.specs.Attempts.{HasIoEffect, IoAttempts, io_after, result_by}
 use Rattle.io_model.specs.Io.{Io, OpenPath, open_path}
 use Rattle.io_model.specs.Step.{Caller, IoEffect, IoEnd, IoStep, done as io_done, fails, needs}
 use Rattle.io_model.specs.declared.io_call.IoCall.{IoCall}
@@ -72,13 +72,13 @@ module _ (error : ℕ) (of_lock : is_of_lock error ≡ true) where
   comes-other call caller io drives number new before after (inr (inr (is, left))) = other E_WRITE refl number is
 
   -- I$Seek on a terminal or a pipe
-  seeks-other : (caller : Caller) (io : Io) (effect : IoEffect) (before after : List TerminalState) → IoDoes (seeks_nothing caller io) caller io effect before after → effect.end ≡ fails error → ⊥
+  seeks-other : (caller : Caller) (io : Io) (effect : IoEffect) (before after : List TerminalState) → HasIoEffect (seeks_nothing caller io) caller io effect before after → effect.end ≡ fails error → ⊥
   seeks-other caller io effect before after = by_path (open_path io caller.process.0 caller.regs.a)
     where
       same-number : fails E_BPNUM ≡ fails error → error ≡ E_BPNUM
       same-number is = cc
 
-      by_path : (path : Option OpenPath) → IoDoes (needs path E_BPNUM (λ opened. io_done caller.regs io)) caller io effect before after → effect.end ≡ fails error → ⊥
+      by_path : (path : Option OpenPath) → HasIoEffect (needs path E_BPNUM (λ opened. io_done caller.regs io)) caller io effect before after → effect.end ≡ fails error → ⊥
       by_path None (is, same) ends =
           other E_BPNUM refl error (same-number (sym (ap (λ (effect : IoEffect). effect.end) is) ∙ ends)) refl
       by_path (Some path) (is, same) ends =
@@ -99,7 +99,7 @@ module _ (error : ℕ) (of_lock : is_of_lock error ≡ true) where
 
     -- a call on a terminal or a pipe
     device-other : (io : IoStep) → IsDeviceStep it.call asker it.files (length it.before) io → (effect : IoEffect)
-        → IoDoes io asker.caller it.files.io effect it.before it.after → effect.end ≡ fails error → ⊥
+        → HasIoEffect io asker.caller it.files.io effect it.before it.after → effect.end ≡ fails error → ⊥
     device-other io on effect does over =
         comes-other on.device asker.caller it.files.io (length it.files.drives) error (io_after it.process effect) it.before it.after
         (refusal on.device it.processes it.files.io (io_after it.process effect) (length it.files.drives) it.process error it.before it.after attempted) refl
@@ -107,7 +107,7 @@ module _ (error : ℕ) (of_lock : is_of_lock error ≡ true) where
         attempted : IoAttempts on.device it.processes it.files.io (length it.files.drives) it.process (CallResult.refused error) (io_after it.process effect) it.before it.after
         attempted = record {
           effect = effect;
-          does = subst (λ (io : IoStep). IoDoes io asker.caller it.files.io effect it.before it.after) on.is does;
+          does = subst (λ (io : IoStep). HasIoEffect io asker.caller it.files.io effect it.before it.after) on.is does;
           result_is = sym (ap (λ (end : IoEnd). result_by end it.processes it.process effect) over);
           state = refl;
         }
@@ -119,12 +119,12 @@ module _ (error : ℕ) (of_lock : is_of_lock error ≡ true) where
         step-is =
             subst (Claimed it.call asker it.files (length it.before) (drive_of step)) deed (claimed it.call asker it.files (length it.before))
 
-        by_step : (effect : IoEffect) → IoDoes io asker.caller it.files.io effect it.before it.after → effect.end ≡ fails
+        by_step : (effect : IoEffect) → HasIoEffect io asker.caller it.files.io effect it.before it.after → effect.end ≡ fails
             error → IsDeviceStep it.call asker it.files (length it.before) io ⊎ (io ≡ seeks_nothing asker.caller
             it.files.io) → ⊥
         by_step effect does over (inl on) = device-other io on effect does over
         by_step effect does over (inr seeks) =
-            seeks-other asker.caller it.files.io effect it.before it.after (subst (λ (io : IoStep). IoDoes io asker.caller it.files.io effect it.before it.after) seeks does) over
+            seeks-other asker.caller it.files.io effect it.before it.after (subst (λ (io : IoStep). HasIoEffect io asker.caller it.files.io effect it.before it.after) seeks does) over
 
         by_deed : (well : FileEffect) → it.attempted.effect.end ≡ well.end → DoesDeed (as_io io) asker it.files well it.before it.after → ⊥
         by_deed well same (effect, does, is) =

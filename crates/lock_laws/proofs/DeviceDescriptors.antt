@@ -20,7 +20,7 @@ use Rattle.io_model.specs.declared.path.Target.{Target}
 use Rattle.io_model.specs.declared.path.Target.TheVariants.{File, Folder, Pipe, Term}
 use Rattle.io_model.specs.declared.terminal.ReadKind.{ReadKind}
 use Rattle.io_model.specs.declared.terminal.ReadKind.TheVariants.{Bytes, WholeLine}
-use Rattle.io_model.specs.Attempts.{IoDoes, IoAttempts, caller_of, io_step, step_of}
+use Rattle.io_model.specs.Attempts.{HasIoEffect, IoAttempts, caller_of, io_step, step_of}
 use Rattle.io_model.specs.Io.{Io, OpenPath, pending_at, new_desc, open_path, with_paths, with_pipes}
 use Rattle.io_model.specs.Lead.{Lead, a_new_place, lead_of, nowhere, to_pipe, to_terminal, what_is_there}
 use Rattle.io_model.specs.Modes.{can_read, can_write, is_mode}
@@ -195,7 +195,7 @@ module _ (caller : Caller) (io : Io) where
       path-stay STANDARD_ERROR can_write (λ opened. sends_on (sent_error caller) F_PERR caller io opened)
       (λ opened. write-target (sent_error caller) (call_now caller io F_PERR opened (length (sent_error caller).bytes)) opened.desc.target)
 
-  does-stay : (step : IoStep) (effect : IoEffect) (before after : List TerminalState) → Stay step → IoDoes step caller io effect before after → DescsStay io.paths effect.io.paths
+  does-stay : (step : IoStep) (effect : IoEffect) (before after : List TerminalState) → Stay step → HasIoEffect step caller io effect before after → DescsStay io.paths effect.io.paths
   does-stay (refused number) effect before after stay (is, same_terms) =
       subst (λ (effect : IoEffect). DescsStay io.paths effect.io.paths) (sym is) same
   does-stay (comes it) effect before after stay (is, same_terms) =

@@ -33,7 +33,7 @@ use Rattle.io_model.specs.declared.terminal.ReadKind.{ReadKind}
 use Rattle.io_model.specs.declared.terminal.ReadKind.TheVariants.{Bytes, WholeLine}
 use Rattle.io_model.specs.Alone.{is_alone}
 use Rattle.io_model.specs.Again.{path_number}
-use Rattle.io_model.specs.Attempts.{IoDoes, io_step, pending_in}
+use Rattle.io_model.specs.Attempts.{HasIoEffect, io_step, pending_in}
 use Rattle.io_model.specs.Close.{after_close, without_path, without_target}
 use Rattle.io_model.specs.Io.{Io, OpenPath, pending_at, new_desc, open_path, pipe_bytes, terminal_at, with_paths, with_pipes, with_terminal}
 use Rattle.io_model.specs.Lead.{Lead, a_new_place, lead_of, nowhere, to_pipe, to_terminal, what_is_there}
@@ -514,7 +514,7 @@ module _ (call : IoCall) (caller : Caller) (io : Io) (cause : Cause) (apart : Na
   write-ends write Progress.Fault end is pending there = absurd (none-some pending (ap pending_in (same_Some _ end is) ∙ there))
   write-ends write Progress.NoMemory end is pending there = absurd (none-some end is)
 
-  does-leave : (step : IoStep) → Stay call caller io cause apart again step → (effect : IoEffect) (before after : List TerminalState) → IoDoes step caller io effect before after → Leaves effect
+  does-leave : (step : IoStep) → Stay call caller io cause apart again step → (effect : IoEffect) (before after : List TerminalState) → HasIoEffect step caller io effect before after → Leaves effect
   does-leave (refused number) stay effect before after (is, same_terms) =
       subst Leaves (sym is) (record { holds = λ s it. refl; pipes = λ k is. refl; terminals = λ m is. refl; keeps = λ pending is. absurd (none-some pending is) })
   does-leave (comes it) stay effect before after (is, same_terms) = subst Leaves (sym is) (left-leaves it stay)
@@ -523,6 +523,6 @@ module _ (call : IoCall) (caller : Caller) (io : Io) (cause : Cause) (apart : Na
   does-leave (writes write) on effect before after does =
       subst Leaves (sym does.effect_is) (terminal-leaves write.terminal on does.new does.end (write-ends write does.answer does.end does.ends) 0 [])
 
-  pub attempt-leaves : (drives terms : ℕ) (effect : IoEffect) (before after : List TerminalState) → IoDoes (io_step call caller io drives terms) caller io effect before after → Leaves effect
+  pub attempt-leaves : (drives terms : ℕ) (effect : IoEffect) (before after : List TerminalState) → HasIoEffect (io_step call caller io drives terms) caller io effect before after → Leaves effect
   attempt-leaves drives terms effect before after does =
       does-leave (io_step call caller io drives terms) (step-stay call caller io cause apart again drives terms) effect before after does

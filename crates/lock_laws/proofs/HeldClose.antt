@@ -17,7 +17,7 @@ use Rattle.lock_model.specs.declared.lock.Request.{Request}
 use Rattle.lock_model.specs.declared.place.FilePlace.{FilePlace}
 use Rattle.rbf_model.specs.File.{DiskFile}
 use Rattle.rbf_model.specs.Volume.{DiskVolume}
-use Rattle.io_model.specs.Attempts.{IoDoes}
+use Rattle.io_model.specs.Attempts.{HasIoEffect}
 use Rattle.io_model.specs.Close.{after_close, i_close as closes_device}
 use Rattle.io_model.specs.Io.{Io, OpenPath}
 use Rattle.io_model.specs.Step.{IoEffect, answers, done as io_done, needs}
@@ -100,7 +100,7 @@ module _ (asker : Asker) (files : Files) (kinds : AreKinds files) (held_on : Are
       by_desc (inr (gone, same)) = absurd (not-closed same)
 
   stays-on : open_file files p n ≡ None → (path : Option SysPath) → slot_of files.io.paths p n ≡ path → (it : IoEffect) (before after : List TerminalState)
-      → IoDoes (needs path E_BPNUM (λ path. io_done asker.caller.regs closed)) asker.caller files.io it before after
+      → HasIoEffect (needs path E_BPNUM (λ path. io_done asker.caller.regs closed)) asker.caller files.io it before after
       → OnStay files.io.paths it.io.paths
   stays-on none None named it before after (is, same) =
       subst (λ (it : IoEffect). OnStay files.io.paths it.io.paths) (sym is) (λ s place on. on)
@@ -108,7 +108,7 @@ module _ (asker : Asker) (files : Files) (kinds : AreKinds files) (held_on : Are
       subst (λ (it : IoEffect). OnStay files.io.paths it.io.paths) (sym is) (device-stay none path named)
 
   device-leaves : open_file files p n ≡ None → (it : IoEffect) (before after : List TerminalState) (drives : List DriveState)
-      → IoDoes (closes_device asker.caller files.io) asker.caller files.io it before after → After (with_drives_after (on_files p files it) drives)
+      → HasIoEffect (closes_device asker.caller files.io) asker.caller files.io it before after → After (with_drives_after (on_files p files it) drives)
   device-leaves none it before after drives does =
       same-leaves p files (files_after p (with_drives_after (on_files p files it) drives))
       (λ q differ. ap (λ (records : Records). request_of records.locks q) settled ∙ keeps-forgotten p files.records q differ)

@@ -36,7 +36,7 @@ use Rattle.file_laws.specs.Recorded.{IsGranted, RecordsCome, path_in, settled}
 use Rattle.file_laws.proofs.Claimed.{records-come}
 use Rattle.isolation_laws.proofs.Asked.{Asks, asks}
 use Rattle.lock_laws.specs.Locked.{IsAgreed, IsRunLocked}
-use Rattle.lock_laws.specs.Written.{GainsOwn, GainsPut, GainsRead, HasGained, IsEntryOf, IsPutIn, IsGetIn}
+use Rattle.lock_laws.specs.Written.{GainsOwn, GainsPut, GainsRead, HasGained, IsEntryOf, IsPutIn, HasBytesIfGet}
 use Rattle.lock_laws.proofs.Changes.{owner-is}
 use Rattle.lock_laws.proofs.Covered.{state-covered}
 use Rattle.lock_laws.proofs.GetBytes.{drop-get, get-bytes}
@@ -203,10 +203,10 @@ event-gains-own s t end agreed (p, chosen, lives, acts) =
 -- the entry of a read has the bytes that its file had
 pub event-gains-read : (s t : State) (end : EventEnd) → IsRunLocked s → Event s end t → GainsRead s t
 event-gains-read s t end locked (p, chosen, lives, acts) =
-    let (entries, is, all) = acts-on s p (λ files. IsGetIn s.files) (λ files path lock kind. absurd (drop-get kind)) of_granted (act_of s.processes p) end t refl acts in
+    let (entries, is, all) = acts-on s p (λ files. HasBytesIfGet s.files) (λ files path lock kind. absurd (drop-get kind)) of_granted (act_of s.processes p) end t refl acts in
     record { gained = record { entries = entries; is = is }; read = all }
   where
-    of_granted : GrantedBy s p (λ files. IsGetIn s.files)
+    of_granted : GrantedBy s p (λ files. HasBytesIfGet s.files)
     of_granted code next call serves now result rest it request granted entry owner gained kind =
         get-bytes (attempt_by s p now call result rest it)
         (state-covered s p code locked.state.running locked.on next now call (subst (Asks code) serves (asks code)) (length s.terms))

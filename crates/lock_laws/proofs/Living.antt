@@ -22,7 +22,7 @@ use Rattle.io_model.specs.declared.path.Desc.{Desc}
 use Rattle.io_model.specs.declared.path.SysPath.{SysPath}
 use Rattle.io_model.specs.declared.path.Target.TheVariants.{Pipe, Term}
 use Rattle.io_model.specs.declared.path.TheConstants.{PROCESS_PATHS}
-use Rattle.io_model.specs.Attempts.{IoDoes, IoAttempts, caller_of, step_of}
+use Rattle.io_model.specs.Attempts.{HasIoEffect, IoAttempts, caller_of, step_of}
 use Rattle.io_model.specs.Close.{after_close}
 use Rattle.io_model.specs.Io.{Io, new_desc}
 use Rattle.io_model.specs.Processes.{closed_below, closed_if_open, io_ended, io_started}
@@ -184,7 +184,7 @@ module _ (q : ℕ) where
   }
 
   few-does : (call : IoCall) (caller : Caller) (io : Io) (step : IoStep) (effect : IoEffect)
-      (before after : List TerminalState) → Few io.paths → StepGives call (λ io. Few io.paths) caller io step → IoDoes step caller io effect
+      (before after : List TerminalState) → Few io.paths → StepGives call (λ io. Few io.paths) caller io step → HasIoEffect step caller io effect
       before after → Few effect.io.paths
   few-does call caller io (io_refused number) effect before after few gives (is, same) =
       subst (λ (effect : IoEffect). Few effect.io.paths) (sym is) few

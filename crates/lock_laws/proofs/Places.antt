@@ -12,7 +12,7 @@ use Rattle.io_model.specs.declared.path.SysPath.{SysPath}
 use Rattle.io_model.specs.declared.path.Target.{Target}
 use Rattle.io_model.specs.declared.path.Target.TheVariants.{File, Folder, Term, Pipe}
 use Rattle.io_model.specs.declared.path.TheConstants.{PROCESS_PATHS}
-use Rattle.io_model.specs.Attempts.{IoDoes, IoAttempts, caller_of, step_of}
+use Rattle.io_model.specs.Attempts.{HasIoEffect, IoAttempts, caller_of, step_of}
 use Rattle.io_model.specs.Close.{after_close, without_path, without_target}
 use Rattle.io_model.specs.Io.{Io, new_desc, with_paths}
 use Rattle.io_model.specs.Processes.{closed_below, closed_if_open, io_ended}
@@ -106,7 +106,7 @@ module _ (count : ℕ) where
   }
 
   has-does : (call : IoCall) (caller : Caller) (io : Io) (step : IoStep) (effect : IoEffect)
-      (before after : List TerminalState) → Has io → StepGives call Has caller io step → IoDoes step caller io effect
+      (before after : List TerminalState) → Has io → StepGives call Has caller io step → HasIoEffect step caller io effect
       before after → Has effect.io
   has-does call caller io (refused number) effect before after has gives (is, same) =
       subst (λ (effect : IoEffect). Has effect.io) (sym is) has

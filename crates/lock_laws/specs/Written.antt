@@ -40,14 +40,14 @@ abbrev pub HasBytesAt : List ℕ → ℕ → List ℕ → Type 0
 HasBytesAt contents at bytes = bytes_from contents at (length bytes) ≡ bytes
 
 -- if an entry is that of a read, it has the bytes that the file had from the start of its range on
-abbrev pub IsGetIn : Files → Entry → Type 0
-IsGetIn files entry =
+abbrev pub HasBytesIfGet : Files → Entry → Type 0
+HasBytesIfGet files entry =
     entry.kind ≡ Get → HasBytesAt (contents_of files entry.file) entry.range.start entry.bytes
 
 -- each entry that the history has gained is so
 pub record GainsRead (s t : State) : Type 0 where
   pub gained : HasGained s t
-  pub read : AllByRecursion (IsGetIn s.files) gained.entries
+  pub read : AllByRecursion (HasBytesIfGet s.files) gained.entries
 
 -- if an entry is that of a write, the file has its bytes from the start of its range on
 abbrev pub IsPutIn : Files → Entry → Type 0

@@ -9,10 +9,10 @@ use Rattle.proc_model.specs.CallResult.{CallResult}
 use Rattle.io_model.specs.declared.terminal.Arrival.{Arrival}
 use Rattle.io_model.specs.declared.terminal.Progress.{Progress}
 use Rattle.io_model.specs.declared.terminal.Reading.{Reading}
-use Rattle.io_model.specs.Terminal.{Terminal, Arrives, ReadAttempted, WriteAttempted, BreaksOffEcho, Attempted, IsOutputCutShort, IsOutputWritten, LeavesDriver, read_attempt, is_refused}
+use Rattle.io_model.specs.Terminal.{Terminal, Arrives, TerminalReadAttempt, TerminalWriteAttempt, BreaksOffEcho, Attempted, IsOutputCutShort, IsOutputWritten, LeavesDriver, read_attempt, is_refused}
 use Rattle.io_model.specs.declared.io_call.IoCall.{IoCall}
 use Rattle.io_model.specs.Arrivals.{Desk, ArrivesFrom}
-use Rattle.io_model.specs.Attempts.{IoDoes, IoAttempts}
+use Rattle.io_model.specs.Attempts.{HasIoEffect, IoAttempts}
 use Rattle.io_model.specs.Io.{Io, terminal_at}
 use Rattle.proc_model.specs.Processes.{Processes}
 use Rattle.io_model.specs.Step.{Caller, IoEffect, IoStep, refused, comes, reads, writes}
@@ -46,7 +46,7 @@ observed-emptied (Some before) = refl
 gains-faults : (answer : Progress) (before now : TerminalState) → LeavesDriver answer before now → before.faults ≤ now.faults
 gains-faults answer before now driver = driver.never_falls
 
-gains-read : (request : Reading) (answer : Progress) (old new : Terminal) (before now : TerminalState) → ReadAttempted request answer old new before now → OnlyGains before now
+gains-read : (request : Reading) (answer : Progress) (old new : Terminal) (before now : TerminalState) → TerminalReadAttempt request answer old new before now → OnlyGains before now
 gains-read request answer old new before now it = record {
   keys = ([], sym it.driver.keys);
   faults = gains-faults answer before now it.driver;
@@ -58,7 +58,7 @@ gains-read request answer old new before now it = record {
     put false whole = ap (λ put. is_some put) whole.echo ∙ observed-with before.put _
 
 gains-write : (process : Pid) (bytes : List ℕ) (count : ℕ) (answer : Progress) (old new : Terminal)
-    (before now : TerminalState) → WriteAttempted process bytes count answer old new before now → OnlyGains before now
+    (before now : TerminalState) → TerminalWriteAttempt process bytes count answer old new before now → OnlyGains before now
 gains-write process bytes count answer old new before now it = record {
   keys = ([], sym it.driver.keys);
   faults = gains-faults answer before now it.driver;
@@ -131,7 +131,7 @@ gain-broken tick count old new terminal answer terms arrive device =
 
 -- ---- an attempt of a call
 
-gain-does : (step : IoStep) (caller : Caller) (io : Io) (effect : IoEffect) (before after : List TerminalState) → IoDoes step caller io effect before after → TerminalsOnlyGain before after
+gain-does : (step : IoStep) (caller : Caller) (io : Io) (effect : IoEffect) (before after : List TerminalState) → HasIoEffect step caller io effect before after → TerminalsOnlyGain before after
 gain-does (refused number) caller io effect before after (is, same) = subst (TerminalsOnlyGain before) (sym same) (gain-same before)
 gain-does (comes it) caller io effect before after (is, same) = subst (TerminalsOnlyGain before) (sym same) (gain-same before)
 gain-does (reads read) caller io effect before after does =

@@ -1,6 +1,6 @@
 -- Modules made from their parts (System Programmer's Manual, "Memory module structure").
-use Rattle.os9_base.specs.Name.{marked_name}
 use Rattle.std.specs.Prelude.{ℕ, ◌<◌, ◌+◌, ◌-◌, ◌/◌, ◌%◌, ◌==◌, bit_xor, Bool, List, [], ◌∷◌, ◌++◌, length, fold, if◌then◌else◌}
+use Rattle.os9_base.specs.Name.{marked_name}
 use Rattle.proc_model.specs.CrcModel.{crc_of}
 use Rattle.proc_model.specs.declared.module.ModuleInfo.{ModuleInfo}
 use Rattle.module_format.specs.declared.maker.Header.{Header}

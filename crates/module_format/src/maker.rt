@@ -1,5 +1,5 @@
-ghost use Rattle.proc_model.specs.UserBytes.{word_bytes};
 ghost use Rattle.std.specs.Prelude.{◌≡◌, ◌≤◌, ◌<◌, ◌+◌, ◌-◌, ◌++◌, ◌∷◌, [], length, IfOk, slice_range};
+ghost use Rattle.proc_model.specs.UserBytes.{word_bytes};
 ghost use Rattle.os9_base.specs.Name.{IsName, marked_name};
 ghost use Rattle.os9_base.specs.declared.limits.TheConstants.{MOST_GROUP_BYTES};
 ghost use Rattle.proc_model.specs.Module.{IsModule, info_at};

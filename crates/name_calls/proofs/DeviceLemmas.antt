@@ -9,7 +9,7 @@ use Rattle.os9_base.specs.declared.registers.TimePacket.{TimePacket}
 use Rattle.os9_outer.specs.TerminalState.{TerminalState}
 use Rattle.proc_model.specs.CallResult.{CallResult}
 use Rattle.proc_model.specs.Processes.{Processes}
-use Rattle.io_model.specs.Attempts.{IoDoes, caller_of, io_after, io_step}
+use Rattle.io_model.specs.Attempts.{HasIoEffect, caller_of, io_after, io_step}
 use Rattle.io_model.specs.Io.{Io}
 use Rattle.io_model.specs.Step.{IoEffect, IoStep}
 use Rattle.io_model.specs.declared.io_call.IoCall.{IoCall}
@@ -53,8 +53,8 @@ device-ends most call m was now p state views drives end processes io records te
     record {
       effect = on_files p was effect;
       does = goes-as-io step (asker_of m p now) was (deed (length was.drives) was.io) effect terms terms refl
-          (subst (λ (before : Io). IoDoes (deed (length was.drives) before) (caller_of m p) before effect terms terms) (sym stands.io)
-          (subst (λ (count : ℕ). IoDoes (deed count state.io) (caller_of m p) state.io effect terms terms) (sym many) it.attempt.does));
+          (subst (λ (before : Io). HasIoEffect (deed (length was.drives) before) (caller_of m p) before effect terms terms) (sym stands.io)
+          (subst (λ (count : ℕ). HasIoEffect (deed count state.io) (caller_of m p) state.io effect terms terms) (sym many) it.attempt.does));
       comes = subst (λ (result : CallResult). ReturnsCallEnd m p result end processes) it.attempt.result_is it.comes;
       stands =
           inl (stands-with_records (record state { io = io }) views (with_io was (io_after p effect)) (with_waiting was.records p None) records

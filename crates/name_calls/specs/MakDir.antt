@@ -17,7 +17,7 @@ use Rattle.name_calls.specs.declared.naming.LastLocated.{LastLocated}
 abbrev pub makes_it : Asker → Files → NamedBy → FileStep
 makes_it asker files it = makes_in asker files it.list it.name it.directory
 
--- the asker makes it for this user, with the attributes and at the time of this request
+-- the asker makes it for this user, with the attributes and at the time of this attempt
 pub record MakesFor (by : Requester) (user : ℕ) (asker : Asker) : Type 0 where
   pub user_is : asker.user ≡ user
   pub attributes_are : asker.caller.regs.b ≡ by.regs.b

@@ -15,7 +15,8 @@ is_stored_character c = nat_le 33 c && nat_le c 126 && not (c == 47)
 abbrev pub low_bits : ℕ → ℕ
 low_bits byte = byte % 128
 
--- a name with bit 7 on its last character, as a module header and a directory entry have it
+-- a name with bit 7 on its last character (OS-9 Technical Reference, "Directories", DIR.NM; System Programmer's Manual,
+-- module headers)
 abbrev pub marked_name : List ℕ → List ℕ
 marked_name [] = []
 marked_name (c ∷ []) = (c + 128) ∷ []

@@ -7,7 +7,7 @@ use Rattle.os9_base.specs.declared.registers.TimePacket.{TimePacket}
 use Rattle.os9_outer.specs.Stream.{stream_with}
 use Rattle.os9_outer.specs.TerminalState.{TerminalState, ChangesOneTerminal}
 use Rattle.proc_model.specs.CallResult.{CallResult}
-use Rattle.io_model.specs.Terminal.{BreaksOffEcho as BreaksOffRead, IsOutputCutShort, ReadAttempted, Terminal, WriteAttempted}
+use Rattle.io_model.specs.Terminal.{BreaksOffEcho as BreaksOffRead, IsOutputCutShort, TerminalReadAttempt, Terminal, TerminalWriteAttempt}
 use Rattle.io_model.specs.declared.terminal.Progress.TheVariants.{NoMemory}
 use Rattle.io_model.specs.declared.terminal.Reading.{Reading}
 use Rattle.io_model.specs.Attempts.{caller_of}
@@ -44,7 +44,7 @@ observed-with : (put : Option (List ℕ)) (bytes : List ℕ) → is_some (stream
 observed-with None bytes = refl
 observed-with (Some before) bytes = refl
 
-read-gains : (request : Reading) (old new : Terminal) (before now : TerminalState) → ReadAttempted request NoMemory old new before now → OnlyGains before now
+read-gains : (request : Reading) (old new : Terminal) (before now : TerminalState) → TerminalReadAttempt request NoMemory old new before now → OnlyGains before now
 read-gains request old new before now it =
     let broken : BreaksOffRead request old new before now = it.outcome in
     record {
@@ -53,7 +53,8 @@ read-gains request old new before now it =
       observed = ap (λ put. is_some put) broken.echo ∙ observed-with before.put _;
     }
 
-write-gains : (process : Pid) (bytes : List ℕ) (count : ℕ) (old new : Terminal) (before now : TerminalState) → WriteAttempted process bytes count NoMemory old new before now → OnlyGains before now
+write-gains : (process : Pid) (bytes : List ℕ) (count : ℕ) (old new : Terminal) (before now : TerminalState)
+    → TerminalWriteAttempt process bytes count NoMemory old new before now → OnlyGains before now
 write-gains process bytes count old new before now it =
     let cut : IsOutputCutShort process bytes old new before now = it.outcome in
     record {

@@ -21,7 +21,7 @@ use Rattle.os9_debug.specs.declared.position.Position.{Position}
 use Rattle.os9_debug.specs.Counts.{NoneFell}
 use Rattle.os9_debug.specs.Machine.{CanStart, HasNoBytes, HasStart, InCourse, boot_of}
 use Rattle.os9_debug.specs.Moves.{FailsToMove, FailsToStart, HasShown, IsPositionOf, LeadsBack, MayFailSo, MovesOn}
-use Rattle.os9_debug.specs.Session.{CanFail, PrintsAll, PrintsFrontInCourse, DebugSessionCall, ShowsTheCourse, StopsDebugSession, position_behind}
+use Rattle.os9_debug.specs.Session.{CanFail, PrintsAll, PrintsFirstOfCourse, DebugSessionCall, ShowsTheCourse, StopsDebugSession, position_behind}
 use Rattle.os9_debug.specs.declared.machine.Machine.{Machine}
 use Rattle.os9_debug.specs.declared.machine.SessionFault.{SessionFault}
 use Rattle.os9_debug.specs.declared.machine.SessionFault.TheVariants.{Refused, TerminalFailed, OutputFailed, NoMemory}
@@ -177,7 +177,7 @@ module _ (machine : Machine) (commands : List Command) (before : World) (between
   pub so-far-part : {Value : Type 0} (value : Value) (command : Command) (new : Position) (line : List ℕ)
       (after : World) → drop i commands ≡ command ∷ drop (i + 1) commands → MovesOn machine command position new
       (Ok value) between after.devices → HasShown machine command position new line between after.devices
-      → GainsPrefix now line after.out → InCourse machine before.devices after.devices (PrintsFrontInCourse machine commands
+      → GainsPrefix now line after.out → InCourse machine before.devices after.devices (PrintsFirstOfCourse machine commands
       before after)
   so-far-part value command new line after next moved shown gained = λ bare unfailed course is.
       let (line_is, place) = shown before.devices can at bare unfailed course is in
@@ -189,7 +189,7 @@ module _ (machine : Machine) (commands : List Command) (before : World) (between
       (after : World) → drop i commands ≡ command ∷ drop (i + 1) commands → MovesOn machine command position new
       (Ok value) between after.devices → HasShown machine command position new line between after.devices
       → GainsPrefix now line after.out → line ≢ [] → InCourse machine before.devices after.devices
-      (λ course. PrintsFrontInCourse machine commands before after course × (printed_from course 0 commands ≢ []))
+      (λ course. PrintsFirstOfCourse machine commands before after course × (printed_from course 0 commands ≢ []))
   so-far-breaks value command new line after next moved shown gained more = λ bare unfailed course is.
       let (line_is, place) = shown before.devices can at bare unfailed course is in (
         so-far-part value command new line after next moved shown gained bare unfailed course is,
@@ -273,7 +273,7 @@ module _ (machine : Machine) (commands : List Command) (before after : World) (f
   }
 
   pub session-output : {Value : Type 0} → FailsToWrite before after → HasStart machine before.devices
-      → InCourse machine before.devices after.devices (λ course. PrintsFrontInCourse machine commands before after course ×
+      → InCourse machine before.devices after.devices (λ course. PrintsFirstOfCourse machine commands before after course ×
       (printed_from course 0 commands ≢ [])) → DebugSessionCall {Value = Value} machine commands (Err OutputFailed) before
       after
   session-output failed begun prints = record {

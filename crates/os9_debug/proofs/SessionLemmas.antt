@@ -26,7 +26,7 @@ use Rattle.os9_debug.specs.declared.command.Command.{Command}
 use Rattle.os9_debug.specs.Devices.{Unfailed}
 use Rattle.os9_debug.specs.Counts.{FailedOnce, RoseOnce, TerminalRose}
 use Rattle.os9_debug.specs.Machine.{CanStart, HasKeyTick, InCourse}
-use Rattle.os9_debug.specs.Session.{FailsToPrint, PrintsFrontInCourse, PrintsSome, DebugSessionCall, StopsDebugSession}
+use Rattle.os9_debug.specs.Session.{FailsToPrint, PrintsFirstOfCourse, PrintsSome, DebugSessionCall, StopsDebugSession}
 use Rattle.os9_debug.specs.declared.machine.Machine.{Machine}
 use Rattle.os9_debug.specs.declared.machine.SessionFault.{SessionFault}
 use Rattle.os9_debug.specs.declared.machine.SessionFault.TheVariants.{Refused, TerminalFailed, OutputFailed, NoMemory}
@@ -102,11 +102,11 @@ module _ (machine : Machine) (commands : List Command) (before mid : World) (lef
   in-course fact holds = λ bare none course is. holds bare (unfailed none) course is
 
   prints-some : PrintsSome machine commands before mid → PrintsSome machine commands before after
-  prints-some it = (it.0, in-course (PrintsFrontInCourse machine commands before mid) it.1)
+  prints-some it = (it.0, in-course (PrintsFirstOfCourse machine commands before mid) it.1)
 
   fails-to-print : FailsToPrint machine commands before mid → FailsToPrint machine commands before after
   fails-to-print it =
-      (it.0, in-course (λ course. PrintsFrontInCourse machine commands before mid course × (printed_from course 0 commands ≢ [])) it.1)
+      (it.0, in-course (λ course. PrintsFirstOfCourse machine commands before mid course × (printed_from course 0 commands ≢ [])) it.1)
 
   unless-kept : (mid.out ≡ before.out) ⊎ PrintsSome machine commands before mid → (after.out ≡ before.out) ⊎ PrintsSome machine commands before after
   unless-kept (inl same) = inl same

@@ -25,22 +25,22 @@ PrintsAll machine commands before after = InCourse machine before.devices after.
     after.out ≡ stream_with before.out (printed_from course 0 commands))
 
 -- the output gained the first of it
-abbrev pub PrintsFrontInCourse : Machine → List Command → World → World → Course → Type 0
-PrintsFrontInCourse machine commands before after course =
+abbrev pub PrintsFirstOfCourse : Machine → List Command → World → World → Course → Type 0
+PrintsFirstOfCourse machine commands before after course =
     GainsPrefix before.out (printed_from course 0 commands) after.out
 
 -- the machine starts, and the output gained the first of it
 abbrev pub PrintsSome : Machine → List Command → World → World → Type 0
 PrintsSome machine commands before after =
     HasStart machine before.devices
-    × InCourse machine before.devices after.devices (PrintsFrontInCourse machine commands before after)
+    × InCourse machine before.devices after.devices (PrintsFirstOfCourse machine commands before after)
 
 -- the machine starts, the commands show something, and the output gained the first of it
 abbrev pub FailsToPrint : Machine → List Command → World → World → Type 0
 FailsToPrint machine commands before after =
     HasStart machine before.devices
     × InCourse machine before.devices after.devices (λ course.
-    PrintsFrontInCourse machine commands before after course × (printed_from course 0 commands ≢ []))
+    PrintsFirstOfCourse machine commands before after course × (printed_from course 0 commands ≢ []))
 
 -- the position to which the commands lead, one after another from the first position
 abbrev pub position_behind : Course → List Command → ℕ

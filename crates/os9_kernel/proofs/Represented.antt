@@ -1,8 +1,8 @@
 -- What the processes of a kernel keep, since they represent those of a machine.
-use Rattle.proc_state.proofs.Entered.{some-machine}
 use Rattle.std.proofs.Common.{◌≡◌, ℕ, ◌<◌, false, None, List, length, get_or, set, sym, ap, ◌∙◌, arith}
 use Rattle.std.specs.Prelude.{slice_index_or}
 use Rattle.std.proofs.lemmas.List.{get_or-set_same, length-set}
+use Rattle.proc_state.proofs.Entered.{some-machine}
 use Rattle.os9_base.specs.declared.registers.Regs.{Regs}
 use Rattle.proc_model.specs.declared.own.Own.{Own}
 use Rattle.proc_model.specs.Records.{IsLiving}

@@ -98,11 +98,10 @@ module _ (old : Kernel) (before : Outside) (s : State) (tied : Represents old be
 
   pub tick-breaks : (polled : ℕ) (between : Desk) (now : Io) (after : List TerminalState)
       → ArrivesFrom (ticks old + 1) 0 polled (desk raised old.machine.files.io before.terms) between
-      → PollBreaks (ticks old + 1) (0 + polled) between now after → BreaksTick s after
+      → PollBreaks (ticks old + 1) polled between now after → BreaksTick s after
   tick-breaks polled between now after arrives breaks =
-      let first : 0 + polled ≡ polled = omega arith in
-      let here : PollBreaks (s.processes.tick + 1) polled between now after = subst (λ n. PollBreaks n polled between now
-      after) tick-is (subst (λ n. PollBreaks (ticks old + 1) n between now after) first breaks) in record {
+      let here : PollBreaks (s.processes.tick + 1) polled between now after =
+      subst (λ n. PollBreaks n polled between now after) tick-is breaks in record {
         count = polled;
         desk = between;
         arrivals =

@@ -22,7 +22,7 @@ outside of_drives of_terms devices =
     record { drives = drives_seen of_drives devices; terms = terminals_seen of_terms devices }
 
 -- what holds between the devices before a call and after it, as
--- `OnDevices (λ before after. HasEvent self.old self.new before after result) BlockDriver-box CharDriver-box
+-- `OnDevices (λ before after. KernelEvent self.old self.new before after result) BlockDriver-box CharDriver-box
 -- devices.old devices.new`
 abbrev pub OnDevices : {Disk Line : Type 0} {Drive : Disk → Type 0} {Terminal : Line → Type 0}
     → (Outside → Outside → Type 0)

@@ -100,7 +100,7 @@ pub one_read : (media : Option (List ℕ)) (before : DriveCounts) (count lsn : �
     (sector : List ℕ) (now : Option (List ℕ)) (after : DriveCounts) (next : ℕ) (news : List ℕ) → IsMapRead media before count bytes mid half
     → lsn ≡ count + 1 → next ≡ count + 1 → sector ≡ sector_at mid lsn → now ≡ mid → MovesCounts None 1 half after → AccessesMade 1 half.calls after.calls
     → news ≡ bytes ++ sector → IsMapRead media before next news now after
-one_read media before count lsn bytes mid half sector now after next news read is step sector_is mounted_part counts made more =
+one_read media before count lsn bytes mid half sector now after next news read is step sector_is kept counts made more =
     let whole : sector ≡ sector_at media lsn = sector_is ∙ ap (λ m. sector_at m lsn) read.same in
     let all : IsMapRead media before (count + 1) (bytes ++ sector) now after = record {
       bytes_are = ap (λ b. bytes ++ b) whole ∙ ap (λ b. b ++ sector_at media lsn) read.bytes_are ∙ map_more media count lsn is;

@@ -37,11 +37,11 @@ pub record IsIdentOf (media : Option (List ℕ)) (ident : Ident) : Type 0 where
 abbrev pub IsMapOf : Option (List ℕ) → ClusterMap → Type 0
 IsMapOf media map = (image : List ℕ) → media ≡ Some image → AgreesOnMap map image
 
--- the kept part of a mounted volume
+-- the mounted part of a volume: its sizes and its map, which are in memory
 abbrev pub mounted_part : Volume → MountedPart
 mounted_part volume = record { sizes = geometry_of volume.ident; map = volume.map }
 
--- the kept part is that of the volume that the media holds
+-- the mounted part is that of the volume that the media holds
 pub record IsVolumeOf (media : Option (List ℕ)) (volume : Volume) : Type 0 where
   pub holds : HoldsVolume media
   pub agrees : Agrees (mounted_part volume) holds.image
@@ -69,7 +69,8 @@ OnVolume media fact = (v : DiskVolume) → RepresentsVolume media v → fact v
 abbrev pub IsSoundMedia : Option (List ℕ) → Type 0
 IsSoundMedia media = (v : DiskVolume) × RepresentsVolume media v
 
--- the volume is mounted: its kept part and each sector in its cache are those of the media, which represents a volume
+-- the volume is mounted: its mounted part and each sector in its cache are those of the media, which represents a
+-- volume
 pub record IsMounted (volume : Volume) (media : Option (List ℕ)) : Type 0 where
   pub content : DiskVolume
   pub on : RepresentsVolume media content

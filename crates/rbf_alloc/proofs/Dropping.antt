@@ -97,14 +97,14 @@ one_before gone place c = either (gone c) (nat_lt (c / 2048) place) (c / 2048 ==
 
 -- the sectors of the map before this one have been written
 pub record IsDropSoFar (gone : ℕ → Bool) (place : ℕ) (kept kept_now : MountedPart) (media mid : Option (List ℕ)) (first half : DriveCounts) : Type 0 where
-  pub cleared : (v : DiskVolume) (old : List ℕ) → media ≡ Some old → Vol old v → MayClear v old gone → Agrees mounted_part old → AreMarksCleared v old (before gone place) mid kept_now
+  pub cleared : (v : DiskVolume) (old : List ℕ) → media ≡ Some old → Vol old v → MayClear v old gone → Agrees kept old → AreMarksCleared v old (before gone place) mid kept_now
   pub sizes : kept_now.sizes ≡ kept.sizes
   pub moved : MovesCounts None (below (has_mark_of kept.sizes gone) place) first half
 
 -- none has been
 pub drop_begins : (gone : ℕ → Bool) (kept kept_now : MountedPart) (media mid : Option (List ℕ)) (first : DriveCounts) → mid ≡ media → kept_now ≡ kept
-    → IsDropSoFar gone 0 mounted_part kept_now media mid first first
-drop_begins gone mounted_part kept_now media mid first same still = record {
+    → IsDropSoFar gone 0 kept kept_now media mid first first
+drop_begins gone kept kept_now media mid first same still = record {
   cleared = λ v old is vol may agrees. record {
     now = old;
     is = same ∙ is;
@@ -118,19 +118,19 @@ drop_begins gone mounted_part kept_now media mid first same still = record {
 }
 
 module _ (gone : ℕ → Bool) (place : ℕ) (kept kept_now : MountedPart) (media mid : Option (List ℕ))
-    (first half : DriveCounts) (far : IsDropSoFar gone place mounted_part kept_now media mid first half) where
-  clearing : (v : DiskVolume) (old : List ℕ) → media ≡ Some old → Vol old v → MayClear v old gone → Agrees mounted_part old
+    (first half : DriveCounts) (far : IsDropSoFar gone place kept kept_now media mid first half) where
+  clearing : (v : DiskVolume) (old : List ℕ) → media ≡ Some old → Vol old v → MayClear v old gone → Agrees kept old
       → place < map_sectors (image_geometry old) → IsClearing v old (before gone place) gone place mid kept_now
   clearing v old is vol may agrees within = record { vol = vol; may = may; far = far.cleared v old is vol may agrees; fresh = λ c there. not_yet gone place c there; within = within }
 
   pub drop_goes_on : (v : DiskVolume) (old : List ℕ) → media ≡ Some old → Vol old v → MayClear v old gone
-      → Agrees mounted_part old → place < map_sectors (image_geometry old) → MayGoOn gone place mid kept_now
+      → Agrees kept old → place < map_sectors (image_geometry old) → MayGoOn gone place mid kept_now
   drop_goes_on v old is vol may agrees within = record { volume = v; old = old; cleared = before gone place; is = clearing v old is vol may agrees within }
 
   pub drop_more : (now : Option (List ℕ)) (kept_then : MountedPart) (after : DriveCounts)
       → place < map_sectors kept.sizes → ClearsNext gone place mid now kept_now kept_then → kept_then.sizes ≡ kept_now.sizes
       → ((c : ℕ) → gone c ≡ true → c < cluster_count kept.sizes) → MovesCounts None 1 half after → (NoneHere gone place → MovesCounts None 0 half after)
-      → IsDropSoFar gone (place + 1) mounted_part kept_then media now first after
+      → IsDropSoFar gone (place + 1) kept kept_then media now first after
   drop_more now kept_then after within next sizes in_volume counts none = record {
     cleared = λ v old is vol may agrees.
         let low : place < map_sectors (image_geometry old) = subst (λ h. place < map_sectors h) agrees.sizes_are within in

@@ -10,7 +10,7 @@ use Rattle.rbf_map.proofs.Marks.{length-clear_below}
 use Rattle.rbf_model.specs.ClusterMap.{ClusterMap, mark, MayTake, map_free_clusters}
 use Rattle.rbf_change.specs.Growth.{uses, MayGain, free_beside, with_clusters, Gains}
 use Rattle.rbf_map.specs.Runs.{is_clear, IsChosenCluster}
-use Rattle.rbf_alloc.specs.Gained.{AreSizes, AreApart, SameMap, last_cluster, GainsOne, IsOneFull, IsGain, IsChosenFor, AreChosen, IsChosenGain, IsTooMany, cluster_at, clusters_from, AreMapPlaces, ReturnsOne, is_written, IsGivenBack}
+use Rattle.rbf_alloc.specs.Gained.{AreSizes, AreApart, SameMap, last_cluster, GainsOne, IsOneFull, IsGain, IsChosenFor, AreChosen, IsChosenGain, IsTooMany, cluster_at, clusters_from, AreMapped, ReturnsOne, is_written, IsGivenBack}
 use Rattle.rbf_alloc.proofs.Clear.{free_is, has_more, one_fewer, clear_more, no_marks, more_marks}
 use Rattle.rbf_alloc.proofs.Chosen.{may_gain, chosen_for, chosen_more, uses_more, with_more, gains_more, gained_free, has_free, length-with, cluster_there, clusters_are}
 
@@ -86,7 +86,7 @@ and_or false false c = refl
 
 -- the places of gained clusters
 module _ (k j : ℕ) (old now : ClusterMap) (before segments : List (ℕ × ℕ)) (gain : IsGain k j old now before segments) (positive : 1 ≤ k) where
-  pub places_gained : old.whole * k ≤ 524280 → j ≤ length (map_free_clusters old) → (first : ℕ) → first ≡ length (sectors_of before) → first ≤ 48 * 65535 → AreMapPlaces k now segments first j
+  pub places_gained : old.whole * k ≤ 524280 → j ≤ length (map_free_clusters old) → (first : ℕ) → first ≡ length (sectors_of before) → first ≤ 48 * 65535 → AreMapped k now segments first j
   places_gained most enough first is few = record {
     fits =
         let free = length-clear_below old.bytes old.whole in
@@ -192,7 +192,7 @@ module _ (k count j : ℕ) (old now : ClusterMap) (before segments : List (ℕ �
   }
 
   -- the places of what was gained
-  pub places_of : (first : ℕ) → first ≡ length (sectors_of before) → first ≤ 48 * 65535 → AreMapPlaces k now segments first j
+  pub places_of : (first : ℕ) → first ≡ length (sectors_of before) → first ≤ 48 * 65535 → AreMapped k now segments first j
   places_of first is few =
       places_gained k j old now before segments far.gain far.sizes.some
       (let most = far.sizes.sectors in let whole = far.gain.marks.whole in subst (λ w. w * k ≤ 524280) whole most)
@@ -279,8 +279,8 @@ sizes_same k old new same sizes = record {
 }
 
 pub places_same : (k : ℕ) (old new : ClusterMap) (before after : List (ℕ × ℕ)) (first count : ℕ) → SameMap old new
-    → after ≡ before → AreMapPlaces k old before first count → AreMapPlaces k new after first count
-places_same k old new before after first count same list places = subst (λ xs. AreMapPlaces k new xs first count) (sym list) (record {
+    → after ≡ before → AreMapped k old before first count → AreMapped k new after first count
+places_same k old new before after first count same list places = subst (λ xs. AreMapped k new xs first count) (sym list) (record {
   within = places.within;
   fits = places.fits;
   in_map = λ i low. let below = places.in_map i low in let whole = same.whole in omega arith;

@@ -28,7 +28,7 @@ use Rattle.rbf_access.specs.Mounted.{mounted_part, RepresentsVolume, IsMounted}
 use Rattle.rbf_access.proofs.Counting.{counts_most}
 use Rattle.rbf_access.proofs.MapMarks.{below, below_of, below_all, mark_there}
 use Rattle.rbf_map.specs.Runs.{is_clear}
-use Rattle.rbf_alloc.specs.Gained.{AreSizes, AreApart, SameMap, IsGain, IsChosenGain, IsTooMany, AreMapPlaces, cluster_at, clusters_from, is_written, IsGivenBack}
+use Rattle.rbf_alloc.specs.Gained.{AreSizes, AreApart, SameMap, IsGain, IsChosenGain, IsTooMany, AreMapped, cluster_at, clusters_from, is_written, IsGivenBack}
 use Rattle.rbf_alloc.specs.Marked.{is_new_mark, IsAhead, IsMarkedTo, IsMarkedOn, AllWritten, AreWanted, unwritten}
 use Rattle.rbf_alloc.specs.Grown.{ChangesMap, IsChosenGrowth, IsGrown, GrowthEnds, is_gained}
 use Rattle.rbf_alloc.proofs.Clear.{clear_is, free_is}
@@ -207,7 +207,7 @@ module _ (volume : Volume) (image : List ℕ) (v : DiskVolume) (vol : Vol image 
         subst (λ n. IsChosenGrowth n count (is_free_in v) before taken) k_is (subst (λ free. IsChosenGrowth k count free before taken) free_is_clear one)
 
     -- the marks of the clusters of these places are in the map, and the places are new ones
-    module _ (first : ℕ) (places : AreMapPlaces k map1 after first count) (those : clusters_from k after first count ≡ taken) where
+    module _ (first : ℕ) (places : AreMapped k map1 after first count) (those : clusters_from k after first count ≡ taken) where
       abbrev cluster_of_place : ℕ → ℕ
       cluster_of_place i = cluster_at k after (first + i * k)
 

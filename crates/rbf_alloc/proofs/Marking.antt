@@ -1,12 +1,12 @@
 -- A sector of the map that is written to the media.
-use Rattle.rbf_model.specs.Disk.{disk_of}
 use Rattle.std.proofs.Common.{◌≡◌, ◌≢◌, ℕ, ◌+◌, ◌-◌, ◌*◌, ◌/◌, ◌%◌, ◌<◌, ◌≤◌, Bool, true, false, not, ◌==◌, ◌&&◌, ◌||◌, Option, List, length, get_or, set, refl, sym, ap, ◌∙◌, subst, ⊎_elim, arith, slice_index, eqb-true, eq-eqb}
 use Rattle.std.specs.Prelude.{if◌then◌else◌}
 use Rattle.std.specs.Int.{bit_at}
-use mathlib.Core.Path.{fun_ext}
 use Rattle.std.proofs.Math.Nat.{mul-le-mul_left, mul-le-mul_right}
 use Rattle.std.proofs.lemmas.Bool.{and_parts, false_from_ne_true, cases_eq}
 use Rattle.std.proofs.lemmas.List.{get_or-set_same, get_or-set_other}
+use Rattle.rbf_model.specs.Disk.{disk_of}
+use mathlib.Core.Path.{fun_ext}
 use Rattle.os9_outer.specs.Drive.{sector_count, with_sector}
 use Rattle.rbf_model.specs.Geometry.{Geometry, image_geometry, geometry, sector, map_sectors}
 use Rattle.rbf_model.specs.Space.{is_whole, is_marked}

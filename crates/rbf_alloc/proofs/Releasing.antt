@@ -1,11 +1,11 @@
 -- A sector of the map is written without the marks of clusters that are given back.
-use Rattle.rbf_model.specs.Disk.{disk_of}
 use Rattle.std.proofs.Common.{◌≡◌, ◌≢◌, ℕ, ◌+◌, ◌-◌, ◌*◌, ◌/◌, ◌%◌, ◌<◌, ◌≤◌, Bool, true, false, not, ◌==◌, ◌&&◌, ◌||◌, Option, List, length, inl, inr, refl, sym, ap, ◌∙◌, subst, ⊎_elim, arith, slice_index, eqb-true, eq-eqb}
 use Rattle.std.specs.Prelude.{if◌then◌else◌, MatchOption, Some, None, is_some}
 use Rattle.std.specs.Int.{bit_at}
-use mathlib.Core.Path.{fun_ext}
 use Rattle.std.proofs.Math.Nat.{mul-le-mul_left}
 use Rattle.std.proofs.lemmas.Bool.{false≢true, and_parts, and_from, not_from_false, false_from_ne_true, cases_eq, cases_Bool}
+use Rattle.rbf_model.specs.Disk.{disk_of}
+use mathlib.Core.Path.{fun_ext}
 use Rattle.os9_outer.specs.Drive.{sector_count, with_sector}
 use Rattle.rbf_model.specs.Geometry.{Geometry, image_geometry, geometry, sector, map_sectors}
 use Rattle.rbf_model.specs.Space.{is_whole, is_marked, cluster_count, Unused}

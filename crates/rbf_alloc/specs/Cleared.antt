@@ -1,4 +1,4 @@
--- Clusters that are given back: their marks are cleared on the media and in the kept part of the volume.
+-- Clusters that are given back: their marks are cleared on the media and in the mounted part of the volume.
 use Rattle.std.specs.Prelude.{◌≡◌, ℕ, ◌*◌, ◌/◌, ◌<◌, ◌&&◌, ◌||◌, nat_lt, Bool, true, false, not, List, Option, Some, Result, Ok, Err}
 use Rattle.rbf_model.specs.Geometry.{image_geometry, sector, map_sectors}
 use Rattle.rbf_model.specs.Space.{is_marked, cluster_count, Unused}
@@ -15,8 +15,8 @@ pub record MayClear (v : DiskVolume) (image : List ℕ) (gone : ℕ → Bool) : 
   pub unused : (c : ℕ) → gone c ≡ true → Unused (shape v) v.files c
   pub in_volume : (c : ℕ) → gone c ≡ true → c < cluster_count (shape v)
 
--- the marks of these clusters have been cleared on the media, and the kept part agrees with it; only sectors of the map
--- have changed
+-- the marks of these clusters have been cleared on the media, and the mounted part agrees with it; only sectors of the
+-- map have changed
 pub record AreMarksCleared (v : DiskVolume) (old : List ℕ) (cleared : ℕ
     → Bool) (media : Option (List ℕ)) (kept : MountedPart)
     : Type 0 where

@@ -95,7 +95,7 @@ abbrev pub clusters_from : ℕ → List (ℕ × ℕ) → ℕ → ℕ → List �
 clusters_from k segments first count = map (λ i. cluster_at k segments (first + i * k)) (range_with_len 0 count)
 
 -- the segments have all of these places, and their clusters are in the map
-pub record AreMapPlaces (k : ℕ) (kept : ClusterMap) (segments : List (ℕ × ℕ)) (first count : ℕ) : Type 0 where
+pub record AreMapped (k : ℕ) (kept : ClusterMap) (segments : List (ℕ × ℕ)) (first count : ℕ) : Type 0 where
   pub within : first + count * k ≤ length (sectors_of segments)
   pub fits : first + count * k < 2 ^ 32
   pub in_map : (i : ℕ) → i < count → cluster_at k segments (first + i * k) < kept.whole

@@ -17,7 +17,7 @@ use Rattle.rbf_alloc.specs.Gained.{is_written, cluster_at}
 abbrev pub is_new_mark : DiskVolume → ClusterMap → ℕ → Bool
 is_new_mark v map c = is_free_in v c && (mark map.bytes c == 1)
 
--- the kept volume is that of an image, but its map has additional marks of free clusters
+-- the mounted part is that of an image, but its map has additional marks of free clusters
 pub record IsAhead (v : DiskVolume) (image : List ℕ) (kept : MountedPart) : Type 0 where
   pub vol : Vol image v
   pub sizes_are : kept.sizes ≡ image_geometry image

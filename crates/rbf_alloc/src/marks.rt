@@ -5,7 +5,7 @@ ghost use Rattle.rbf_access.specs.Cached.{IsCacheOf};
 ghost use Rattle.rbf_access.specs.Drive.{Counts};
 ghost use Rattle.rbf_access.specs.Faults.{file_fault};
 ghost use Rattle.rbf_access.specs.Mounted.{mounted_part, IsSoundMedia};
-ghost use Rattle.rbf_alloc.specs.Gained.{AreMapPlaces, AreSizes, is_written, clusters_from};
+ghost use Rattle.rbf_alloc.specs.Gained.{AreMapped, AreSizes, is_written, clusters_from};
 ghost use Rattle.rbf_alloc.specs.Marked.{WritesMapSector, NewMarks, IsMarking, AllWritten, AreWanted, unwritten};
 
 use crate::returned::{ClusterRange, cluster_of};
@@ -22,7 +22,7 @@ pub fn write_marks(
     written: &mut [bool; 256],
 ) -> Result<(), FileFault>
     requires marking { IsMarking (mounted_part v.old) (media d.old) written.old }
-    requires places { AreMapPlaces v.old.ident.cluster v.old.map segs.now range.first range.count }
+    requires places { AreMapped v.old.ident.cluster v.old.map segs.now range.first range.count }
     requires cached { IsCacheOf (media d.old) v.old.cache }
     ensures on { NewMarks (media d.old) (media d.new) (mounted_part v.old) written.old written.new }
     ensures all { OnOk result (AllWritten

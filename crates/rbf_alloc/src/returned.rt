@@ -1,6 +1,6 @@
 ghost use Rattle.std.specs.Prelude.{◌≡◌, ℕ, ◌+◌, ◌*◌, ◌<◌, ◌≤◌, length};
 ghost use Rattle.rbf_model.specs.Segments.{sectors_of};
-ghost use Rattle.rbf_alloc.specs.Gained.{AreSizes, AreMapPlaces, ReturnsOne, IsGivenBack, cluster_at};
+ghost use Rattle.rbf_alloc.specs.Gained.{AreSizes, AreMapped, ReturnsOne, IsGivenBack, cluster_at};
 
 use rbf_map::RbfMap;
 use rbf_segs::Segs;
@@ -17,7 +17,7 @@ pub struct ClusterRange {
 /// was written.
 pub fn give_back(map: &mut RbfMap, k: u16, segs: &Segs, range: ClusterRange, written: &[bool; 256])
     requires sizes { AreSizes k map.old }
-    requires places { AreMapPlaces k map.old segs.now range.first range.count }
+    requires places { AreMapped k map.old segs.now range.first range.count }
     ensures { IsGivenBack k segs.now range.first range.count written.now map.old map.new }
 {
     for i in 0..range.count {

@@ -1,6 +1,6 @@
 -- Each lawful write leaves an image that represents the volume that it says.
-use Rattle.rbf_model.specs.Disk.{disk_of}
 use Rattle.std.proofs.Common.{◌≡◌, ℕ, List, length, Some, None, ap, sym, subst}
+use Rattle.rbf_model.specs.Disk.{disk_of}
 use Rattle.rbf_model.specs.Geometry.{geometry, image_geometry, sector}
 use Rattle.rbf_model.specs.File.{file_from, file_at}
 use Rattle.rbf_model.specs.Volume.{DiskVolume, Vol}

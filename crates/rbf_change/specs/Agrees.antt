@@ -1,4 +1,4 @@
--- The kept part of a mounted volume, and when it is that of the media.
+-- What is in memory of a mounted volume, and when it is that of the media.
 use Rattle.std.specs.Prelude.{◌≡◌, ℕ, ◌*◌, ◌/◌, ◌<◌, ◌==◌, List, length}
 use Rattle.rbf_model.specs.Geometry.{Geometry, image_geometry, sector, map_sectors}
 use Rattle.rbf_model.specs.Space.{is_marked, cluster_count}
@@ -16,7 +16,7 @@ pub record AgreesOnMap (map : ClusterMap) (image : List ℕ) : Type 0 where
   pub sectors : length map.bytes ≡ 256 * map_sectors (image_geometry image)
   pub marks : (c : ℕ) → c < 8 * length map.bytes → is_marked (sector image) c ≡ (mark map.bytes c == 1)
 
--- the kept volume is that of an image
+-- the mounted part is that of an image
 pub record Agrees (kept : MountedPart) (image : List ℕ) : Type 0 where
   pub sizes_are : kept.sizes ≡ image_geometry image
   pub map : AgreesOnMap kept.map image

@@ -1,6 +1,6 @@
 -- The lawful writes of one sector, as one kind of step, and lists of them.
-use Rattle.rbf_model.specs.Disk.{disk_of}
 use Rattle.std.specs.Prelude.{◌≡◌, ℕ, ◌&&◌, ◌||◌, not, Bool, List, length, Some, None}
+use Rattle.rbf_model.specs.Disk.{disk_of}
 use Rattle.rbf_model.specs.Geometry.{sector}
 use Rattle.rbf_model.specs.File.{DiskFile, file_from, file_at}
 use Rattle.rbf_model.specs.Volume.{DiskVolume}

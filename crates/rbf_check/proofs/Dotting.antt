@@ -1,9 +1,9 @@
 -- Directories that begin with themselves and their parents.
-use Rattle.rbf_model.specs.Disk.{disk_of}
 use Rattle.std.proofs.Common.{◌≡◌, ◌≢◌, ◌⊎◌, ℕ, ◌+◌, ◌*◌, ◌<◌, ◌≤◌, Bool, true, false, List, [], length, take, drop, get_or, set, replicate, Option, Some, None, refl, sym, ap, ◌∙◌, subst, inl, inr, ⊎_elim, arith}
 use Rattle.std.specs.Prelude.{Contains, MatchBool}
 use Rattle.std.proofs.lemmas.Bool.{cases_lt, cases_eq, cases_Bool, false≢true}
 use Rattle.std.proofs.lemmas.List.{get_or_default, get_or-set_same, get_or-set_other, length-set, drop_all}
+use Rattle.rbf_model.specs.Disk.{disk_of}
 use Rattle.os9_base.specs.Name.{stored_name}
 use Rattle.rbf_model.specs.Segments.{has}
 use Rattle.rbf_model.specs.Fields.{directory_entry, entry_name_field, descriptor_field}

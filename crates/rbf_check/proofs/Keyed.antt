@@ -1,5 +1,4 @@
 -- The keys of names, and entries whose names differ.
-use Rattle.rbf_model.specs.Disk.{disk_of}
 use Rattle.std.proofs.Common.{◌≡◌, ℕ, zero, suc, ◌+◌, ◌*◌, ◌<◌, ◌≤◌, ◌&&◌, Bool, true, false, cond, List, length, map, get_or, set, replicate, Option, Some, None, refl, sym, ap, ◌∙◌, subst, inl, inr, ⊎_elim, leb, leb-true, ◌==◌, eq-eqb, eqb-true, take, arith}
 use Rattle.std.specs.Ordering.{nat_cmp, is_eq}
 use Rattle.std.specs.Cmp.Lexicographic.{slice_cmp}
@@ -10,6 +9,7 @@ use Rattle.std.proofs.lemmas.Bool.{cases_lt, cases_Bool, cond-true, cond-false, 
 use Rattle.std.proofs.lemmas.List.{get_or-set_same, get_or-set_other, length-set, ext_get_or, get_or-map, get_or-take, length-map}
 use Rattle.std.specs.declared.cmp.Ordering.{Ordering}
 use Rattle.std.specs.declared.cmp.Ordering.TheVariants.{Less, Equal, Greater}
+use Rattle.rbf_model.specs.Disk.{disk_of}
 use Rattle.os9_base.specs.Name.{stored_name, lower, SameName, IsName}
 use Rattle.rbf_model.specs.Fields.{directory_entry, entry_name_field}
 use Rattle.rbf_model.specs.Geometry.{Geometry}

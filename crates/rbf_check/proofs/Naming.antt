@@ -1,9 +1,9 @@
 -- Descriptors that are named again.
-use Rattle.rbf_model.specs.Disk.{disk_of}
 use Rattle.std.proofs.Common.{◌≡◌, ◌⊎◌, ℕ, ◌+◌, ◌<◌, ◌≤◌, List, All, length, get_or, Option, Some, None, refl, sym, ap, ◌∙◌, subst, inl, inr, ⊎_elim, arith}
 use Rattle.std.specs.Prelude.{Contains}
 use Rattle.std.proofs.lemmas.Bool.{cases_lt, cases_eq}
 use Rattle.std.proofs.lemmas.List.{get_or_default}
+use Rattle.rbf_model.specs.Disk.{disk_of}
 use Rattle.rbf_model.specs.Geometry.{Geometry, IsNumber, IsHeader}
 use Rattle.rbf_model.specs.Tree.{Links}
 use Rattle.rbf_model.specs.Faults.{Breaks}

@@ -1,10 +1,10 @@
 -- What a survey says of the volume of its image.
-use Rattle.rbf_model.specs.Disk.{disk_of, IsDisk}
 use Rattle.std.proofs.Common.{◌≡◌, ◌≢◌, ◌⊎◌, ℕ, ◌+◌, ◌*◌, ◌&&◌, not, ◌<◌, ◌≤◌, true, List, All, length, get_or, drop, Option, Some, None, refl, sym, ap, ◌∙◌, subst, inl, inr, ⊎_elim, arith, leb-true}
 use Rattle.std.specs.Prelude.{filter}
 use Rattle.std.specs.Int.{div_ceil}
 use Rattle.std.specs.List.{range_with_len}
 use Rattle.std.proofs.lemmas.Bool.{cond-true, cond-false, false_from_ne_true, and_parts}
+use Rattle.rbf_model.specs.Disk.{disk_of, IsDisk}
 use Rattle.rbf_model.specs.Fields.{directory_entry, entry_name_field, segments_field}
 use Rattle.rbf_model.specs.Geometry.{Geometry, IsHeader, IsNumber, LieWithin, is_within, image_geometry, sector}
 use Rattle.rbf_model.specs.Segments.{has}

@@ -1,8 +1,9 @@
 -- The least fault, and what holds where there is none.
-use Rattle.rbf_model.specs.Disk.{disk_of}
 use Rattle.std.proofs.Common.{◌≡◌, ◌⊎◌, ℕ, ◌+◌, ◌*◌, ◌/◌, ◌<◌, ◌≤◌, List, get_or, Option, Some, None, refl, sym, ◌∙◌, subst, inl, inr, ⊎_elim, arith, ap}
 use Rattle.std.specs.Prelude.{Result, Ok, Err, MatchOption, IfErr, IsErrAnd}
 use Rattle.std.proofs.lemmas.Bool.{cases_lt, cases_eq, cases_Bool}
+use Rattle.std.proofs.lemmas.Option.{slice_get-get_or}
+use Rattle.rbf_model.specs.Disk.{disk_of}
 use Rattle.rbf_check.specs.declared.faults.CheckError.{CheckError}
 use Rattle.rbf_check.specs.declared.faults.CheckError.TheVariants.{Fault, OutOfMemory}
 use Rattle.rbf_model.specs.Fields.{directory_entry, entry_name_field, descriptor_field, segments_field, size_field}
@@ -10,7 +11,6 @@ use Rattle.rbf_model.specs.Geometry.{Geometry, IsNumber, IsHeader, HasMap, HasHe
 use Rattle.rbf_model.specs.File.{file_at, is_directory, is_directory_size, has_room}
 use Rattle.rbf_model.specs.Space.{is_marked, owned}
 use Rattle.rbf_model.specs.Tree.{HasEntry, HasEntryNames}
-use Rattle.std.proofs.lemmas.Option.{slice_get-get_or}
 use Rattle.rbf_model.specs.Faults.{Breaks, IsFault, ImageBreaks}
 use Rattle.rbf_model.specs.Search.{IsReachedOn, searchable_bytes}
 use Rattle.rbf_model.specs.Keeps.{Keeps}

@@ -1,11 +1,11 @@
 -- The tree of an image that was surveyed.
-use Rattle.rbf_model.specs.Disk.{disk_of}
 use Rattle.std.proofs.Common.{◌≡◌, ℕ, ◌+◌, ◌*◌, ◌==◌, Bool, false, not, List, [], ◌∷◌, All, length, map, drop, refl, sym, ap, ap₂, ◌∙◌, subst}
 use Rattle.std.specs.Prelude.{count_by, if◌then◌else◌}
 use Rattle.std.specs.Int.{bit_at}
 use Rattle.std.specs.Option.{option_map_or}
 use Rattle.std.proofs.lemmas.List.Sums.{sum_by-cons}
 use Rattle.std.proofs.lemmas.List.Elements.{All-head, All-tail}
+use Rattle.rbf_model.specs.Disk.{disk_of}
 use Rattle.rbf_model.specs.Geometry.{Geometry, image_geometry, sector}
 use Rattle.rbf_model.specs.File.{is_directory}
 use Rattle.rbf_model.specs.Volume.{DiskVolume, free_clusters, lost_clusters}

@@ -1,7 +1,7 @@
 -- Clusters that are in use.
-use Rattle.rbf_model.specs.Disk.{Disk}
 use Rattle.std.specs.Prelude.{◌≡◌, ℕ, ◌+◌, ◌/◌, ◌==◌, ◌||◌, Bool, false, List, length, get_or, if◌then◌else◌}
 use Rattle.std.specs.List.{list_any}
+use Rattle.rbf_model.specs.Disk.{Disk}
 use Rattle.rbf_model.specs.Geometry.{Geometry, map_sectors}
 use Rattle.rbf_model.specs.File.{file_at}
 use Rattle.rbf_model.specs.Space.{has_cluster}

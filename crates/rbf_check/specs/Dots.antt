@@ -1,6 +1,6 @@
 -- The first two entries of a directory, for rule 7.
-use Rattle.rbf_model.specs.Disk.{Disk}
 use Rattle.std.specs.Prelude.{◌≡◌, ◌≢◌, ◌⊎◌, ℕ, true, false, Bool, List, length, get_or, Some}
+use Rattle.rbf_model.specs.Disk.{Disk}
 use Rattle.os9_base.specs.Name.{stored_name}
 use Rattle.rbf_model.specs.Fields.{directory_entry}
 use Rattle.rbf_model.specs.Geometry.{IsNumber}

@@ -1,9 +1,9 @@
 -- The names of a directory, compared with the case of letters ignored, for rule 8.
-use Rattle.rbf_model.specs.Disk.{Disk}
 use Rattle.std.specs.Prelude.{◌≡◌, ◌⊎◌, ℕ, ◌<◌, ◌≤◌, true, List, length, get_or, Some}
 use Rattle.std.specs.Ordering.{nat_cmp}
 use Rattle.std.specs.Cmp.Lexicographic.{slice_cmp}
 use Rattle.std.specs.BTreeSet.{BTreeSet, contains}
+use Rattle.rbf_model.specs.Disk.{Disk}
 use Rattle.os9_base.specs.Name.{lower, SameName}
 use Rattle.rbf_model.specs.Fields.{directory_entry, entry_name_field}
 use Rattle.rbf_model.specs.Search.{searchable_bytes}

@@ -1,8 +1,8 @@
 -- The volume of a surveyed image.
-use Rattle.rbf_sector_rules.specs.Files.{found_numbers}
-use Rattle.rbf_sector_rules.specs.Reading.{disk_on}
 use Rattle.std.specs.Prelude.{◌≡◌, ℕ, ◌*◌, List, drop, map, filter, is_some, All}
 use Rattle.std.specs.List.{range_with_len}
+use Rattle.rbf_sector_rules.specs.Files.{found_numbers}
+use Rattle.rbf_sector_rules.specs.Reading.{disk_on}
 use Rattle.rbf_model.specs.Volume.{DiskVolume}
 use Rattle.rbf_model.specs.Search.{volume_of}
 use Rattle.rbf_check.specs.declared.survey.Survey.{Survey}

@@ -1,7 +1,7 @@
-ghost use Rattle.rbf_sector_rules.specs.Files.{IsFileOn, found_numbers};
-ghost use Rattle.rbf_sector_rules.specs.Reading.{disk_on};
 ghost use Rattle.std.specs.Prelude.{◌≡◌, ◌+◌, ◌<◌, ◌≤◌, ◌==◌, All, IfOk, length, if◌then◌else◌};
 ghost use Rattle.std.specs.List.{range_with_len};
+ghost use Rattle.rbf_sector_rules.specs.Files.{IsFileOn, found_numbers};
+ghost use Rattle.rbf_sector_rules.specs.Reading.{disk_on};
 ghost use Rattle.rbf_model.specs.Geometry.{map_sectors, sector as sector_of};
 ghost use Rattle.rbf_model.specs.Segments.{sectors_of};
 ghost use Rattle.rbf_model.specs.File.{file_at};

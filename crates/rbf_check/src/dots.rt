@@ -1,5 +1,5 @@
-ghost use Rattle.rbf_model.specs.Decides.{Decides};
 ghost use Rattle.std.specs.Prelude.{◌≡◌, ◌<◌, ℕ, ◌+◌, ◌*◌, ◌≤◌, IfOk, length};
+ghost use Rattle.rbf_model.specs.Decides.{Decides};
 ghost use Rattle.rbf_model.specs.Geometry.{sector as sector_of};
 ghost use Rattle.rbf_model.specs.File as model;
 ghost use Rattle.rbf_model.specs.File.{file_at};

@@ -1,5 +1,5 @@
-ghost use Rattle.rbf_model.specs.Decides.{Decides};
 ghost use Rattle.std.specs.Prelude.{◌≡◌, Some};
+ghost use Rattle.rbf_model.specs.Decides.{Decides};
 ghost use Rattle.os9_base.specs.Name.{stored_name};
 
 use os9_base::name::{Name, header_name};

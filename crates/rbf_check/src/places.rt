@@ -1,5 +1,5 @@
-ghost use Rattle.rbf_sector_rules.specs.Linked.{IsLinkOn, linked_entry};
 ghost use Rattle.std.specs.Prelude.{◌≡◌, ◌<◌, All, IfOk, IfSome, None, Some};
+ghost use Rattle.rbf_sector_rules.specs.Linked.{IsLinkOn, linked_entry};
 ghost use Rattle.rbf_model.specs.Fields.{directory_entry, entry_name_field};
 ghost use Rattle.rbf_model.specs.Geometry.{sector as sector_of};
 ghost use Rattle.rbf_model.specs.File.{file_at};

@@ -1,6 +1,6 @@
+ghost use Rattle.std.specs.Prelude.{◌≡◌, ◌+◌, ◌/◌, ◌<◌, ◌&&◌, not, IfOk, length};
 ghost use Rattle.rbf_sector_rules.specs.Files.{found_numbers};
 ghost use Rattle.rbf_sector_rules.specs.Reading.{disk_on};
-ghost use Rattle.std.specs.Prelude.{◌≡◌, ◌+◌, ◌/◌, ◌<◌, ◌&&◌, not, IfOk, length};
 ghost use Rattle.rbf_model.specs.Geometry.{sector as sector_of};
 ghost use Rattle.rbf_model.specs.Space as model;
 ghost use Rattle.rbf_model.specs.Volume.{free_clusters, lost_clusters};

@@ -1,5 +1,4 @@
 -- An entry that is appended to a directory: what the media represents at each answer.
-use Rattle.rbf_model.specs.Disk.{disk_of}
 use Rattle.std.proofs.Common.{◌≡◌, ◌≢◌, ℕ, ◌+◌, ◌-◌, ◌*◌, ◌/◌, ◌%◌, ◌<◌, ◌≤◌, Bool, true, false, ◌==◌, ◌||◌, Option, Some, IsSome, Err, List, [], ◌∷◌, ◌++◌, length, take, drop, get_or, inl, inr, refl, sym, ap, ◌∙◌, subst, ⊎_elim, arith, eq-eqb, eqb-true, le-leb, length-append, length-take, append_assoc}
 use Rattle.std.specs.Prelude.{flat_map, replicate}
 use Rattle.std.specs.Int.{bit_at}
@@ -7,6 +6,7 @@ use Rattle.std.proofs.Math.Nat.{lt-div-mul-add, mul-le-mul_left}
 use Rattle.std.proofs.lemmas.Bool.{or_left, or_right, both_ways, false_from_ne_true, cond-false, cases_lt}
 use Rattle.std.proofs.lemmas.List.{append-nil, take_all, drop_all, take-append-le, take-take, get_or_append_left, get_or-append_right}
 use Rattle.std.proofs.lemmas.Option.{same_Some}
+use Rattle.rbf_model.specs.Disk.{disk_of}
 use Rattle.os9_outer.specs.Drive.{sector_count as drive_sectors, sector_at, with_sector}
 use Rattle.rbf_model.specs.Fields.{directory_entry, descriptor_field, segments_field, size_field}
 use Rattle.rbf_model.specs.File.{DiskFile, file_from, file_at, is_directory, has_room, segment_bytes}

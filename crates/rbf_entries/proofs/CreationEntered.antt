@@ -1,11 +1,11 @@
 -- A new file without contents that is entered into a directory: what the media represents at each answer.
-use Rattle.rbf_model.specs.Disk.{image_disk}
 use Rattle.std.proofs.Common.{◌≡◌, ◌≢◌, ℕ, ◌+◌, ◌*◌, ◌/◌, ◌%◌, ◌<◌, ◌≤◌, Bool, true, false, not, ◌==◌, ◌&&◌, ◌||◌, Option, Some, None, List, ◌∷◌, length, take, inl, inr, ◌⊎◌, refl, sym, ap, ◌∙◌, subst, ⊎_elim, arith, eq-eqb, eqb-true}
 use Rattle.std.specs.Prelude.{if◌then◌else◌, filter}
 use Rattle.std.specs.List.{range_with_len}
-use mathlib.Core.Path.{fun_ext}
 use Rattle.std.proofs.lemmas.Bool.{or_left, or_right, or_cases, both_ways}
 use Rattle.std.proofs.lemmas.Option.{same_Some, none-some}
+use Rattle.rbf_model.specs.Disk.{image_disk}
+use mathlib.Core.Path.{fun_ext}
 use Rattle.os9_base.specs.Name.{IsName}
 use Rattle.os9_base.specs.declared.registers.TimePacket.{TimePacket}
 use Rattle.os9_outer.specs.Drive.{sector_at}

@@ -1,10 +1,10 @@
 -- A directory that has gained clusters which are lost in the volume: a descriptor with their sectors.
-use Rattle.rbf_model.specs.Disk.{disk_of}
 use Rattle.std.proofs.Common.{◌≡◌, ℕ, ◌*◌, ◌/◌, ◌≤◌, Bool, true, false, ◌==◌, ◌||◌, Some, List, [], ◌∷◌, ◌++◌, take, refl, sym, ap, ap₂, ◌∙◌, subst, ⊎_elim, eq-eqb}
 use Rattle.std.specs.Prelude.{flat_map, if◌then◌else◌}
 use Rattle.std.specs.List.{range_with_len}
-use mathlib.Core.Path.{fun_ext}
 use Rattle.std.proofs.lemmas.Bool.{or_left, or_right, both_ways, false_from_ne_true, cases_Bool}
+use Rattle.rbf_model.specs.Disk.{disk_of}
+use mathlib.Core.Path.{fun_ext}
 use Rattle.rbf_model.specs.Fields.{size_field, segments_field}
 use Rattle.rbf_model.specs.Geometry.{Geometry, image_geometry, sector, LieWithin}
 use Rattle.rbf_model.specs.Segments.{sectors_of, has, AreDistinct}

@@ -1,14 +1,15 @@
 -- A new file: its cluster is taken, and its descriptor written.
-use Rattle.rbf_model.specs.Disk.{disk_of, image_disk}
 use Rattle.std.proofs.Common.{◌≡◌, ◌≢◌, ℕ, zero, suc, ◌+◌, ◌-◌, ◌*◌, ◌/◌, ◌<◌, ◌≤◌, Bool, true, false, not, ◌==◌, ◌&&◌, ◌||◌, Option, Some, IsSome, Result, Ok, Err, List, [], ◌∷◌, length, take, inr, refl, sym, ap, ◌∙◌, subst, ⊎_elim, arith, eq-eqb, eqb-true, leb-true, le-leb}
 use Rattle.std.specs.Prelude.{OnErr, IsNone, nat_le, slice_get, if◌then◌else◌}
 use Rattle.std.specs.Int.{bit_at}
 use Rattle.std.proofs.lemmas.List.{append-nil}
 use Rattle.std.proofs.lemmas.List.Elements.{All-nil, All-cons}
-use mathlib.Core.Path.{fun_ext}
 use Rattle.std.proofs.Math.Nat.{mul-div_cancel, mul-le-mul_left, div-eq_of_lt}
 use Rattle.std.proofs.lemmas.Bool.{and_parts, and_from, or_left, or_right, or_cases, both_ways, false≢true, cases_Bool}
 use Rattle.std.proofs.lemmas.Option.{same_Some}
+use Rattle.std.specs.List.{range_with_len}
+use Rattle.rbf_model.specs.Disk.{disk_of, image_disk}
+use mathlib.Core.Path.{fun_ext}
 use Rattle.os9_base.specs.declared.registers.TimePacket.{TimePacket}
 use Rattle.os9_outer.specs.Drive.{sector_count, with_sector}
 use Rattle.rbf_model.specs.Fields.{segments_field, size_field}
@@ -27,7 +28,6 @@ use Rattle.rbf_model.proofs.ImageLaws.{unseen_image}
 use Rattle.rbf_model.proofs.Lifted.{sector_put}
 use Rattle.rbf_model.proofs.Owners.{cluster_positive, clusters_of_own, owns_own, root_file}
 use Rattle.rbf_model.proofs.Segments.{has_range, range_has, has_cases}
-use Rattle.std.specs.List.{range_with_len}
 use Rattle.rbf_model.proofs.Space.{cluster_from_owns}
 use Rattle.rbf_change.specs.Calls.{shape, cluster_size, free_total, is_free_in, minute_of, day_of}
 use Rattle.rbf_change.specs.Faults.{MayLose}

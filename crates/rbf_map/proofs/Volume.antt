@@ -1,10 +1,10 @@
 -- The marks and the free clusters of a map, beside those of the volume whose map it is.
-use Rattle.rbf_model.specs.Disk.{disk_of}
 use Rattle.std.proofs.Common.{◌≡◌, ◌↔◌, ℕ, ◌+◌, ◌-◌, ◌*◌, ◌/◌, ◌%◌, ◌<◌, ◌≤◌, zero, suc, Bool, true, false, cond, not, ◌==◌, List, [], ◌∷◌, filter, refl, sym, ap, ◌∙◌, ⊎_elim, arith, slice_index, eq-eqb, leb-true, le-leb}
 use Rattle.std.specs.Int.{bit_at}
 use Rattle.std.specs.List.{range_with_len}
 use Rattle.std.proofs.Math.Nat.{le-div_iff_mul-le}
 use Rattle.std.proofs.lemmas.Bool.{false_from_ne_true, both_ways, and_parts, and_from, not-true}
+use Rattle.rbf_model.specs.Disk.{disk_of}
 use Rattle.rbf_model.specs.Geometry.{Geometry}
 use Rattle.rbf_model.specs.Space.{is_whole, is_marked, map_byte, cluster_count}
 use Rattle.rbf_model.specs.Volume.{DiskVolume, Sound, is_free, free_clusters}

@@ -1,8 +1,8 @@
 -- A write of a directory's descriptor with which a file comes into the volume.
-use Rattle.rbf_model.specs.Disk.{disk_of}
 use Rattle.std.proofs.Common.{◌≡◌, ◌≢◌, ℕ, ◌+◌, ◌%◌, ◌≤◌, ◌==◌, true, List, length, Some, None, refl, sym, ap, ◌∙◌, subst, ⊎_elim, arith, length-append, leb-true, le-leb, eqb-true, eq-eqb}
 use Rattle.std.proofs.lemmas.Bool.{false_from_ne_true, or_left, cases_eq, and_parts, and_from}
 use Rattle.std.proofs.lemmas.Option.{same_Some, none-some}
+use Rattle.rbf_model.specs.Disk.{disk_of}
 use Rattle.rbf_model.specs.Fields.{directory_entry, is_used}
 use Rattle.rbf_model.specs.Geometry.{Geometry}
 use Rattle.rbf_model.specs.Segments.{has, sectors_of}

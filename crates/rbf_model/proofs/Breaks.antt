@@ -1,9 +1,9 @@
 -- Where no rule is broken there is no breach of one.
-use Rattle.rbf_model.specs.Disk.{disk_of}
 use Rattle.std.proofs.Common.{◌≡◌, ℕ, true, List, sym, ◌∙◌}
 use Rattle.std.proofs.lemmas.Bool.{both_ways}
 use Rattle.std.proofs.lemmas.List.Elements.{All-contains}
 use Rattle.std.proofs.lemmas.Option.{slice_get_within, get_or_from_slice_get}
+use Rattle.rbf_model.specs.Disk.{disk_of}
 use Rattle.rbf_model.specs.Fields.{segments_field}
 use Rattle.rbf_model.specs.File.{file_at}
 use Rattle.rbf_model.specs.Space.{owned}

@@ -1,10 +1,10 @@
 -- A disk on which no rule is broken stands for the volume of what is found on it.
-use Rattle.rbf_model.specs.Disk.{disk_of, IsDisk}
 use Rattle.std.proofs.Common.{◌≡◌, ◌↔◌, ℕ, Bool, true, false, not, ◌&&◌, List, length, Option, Some, None, refl, sym, ap, ◌∙◌, subst, ⊎_elim}
 use Rattle.std.specs.Prelude.{if◌then◌else◌}
 use Rattle.std.specs.List.{list_any}
 use Rattle.std.proofs.lemmas.Bool.{cond-true, cond-false, cases_Bool, both_ways, not-true, not_from_false, false_from_ne_true}
 use Rattle.std.proofs.lemmas.Option.{cond_some}
+use Rattle.rbf_model.specs.Disk.{disk_of, IsDisk}
 use Rattle.rbf_model.specs.Fields.{size_field, segments_field}
 use Rattle.rbf_model.specs.Geometry.{LieWithin, Geometry, IsHeader, IsNumber}
 use Rattle.rbf_model.specs.Segments.{AreDistinct, has}

@@ -1,9 +1,9 @@
 -- The directories that a volume shows are those that can be searched.
-use Rattle.rbf_model.specs.Disk.{disk_of}
 use Rattle.std.proofs.Common.{◌≡◌, ℕ, true, false, List, [], Some, sym, ◌∙◌, ⊎_elim}
 use Rattle.std.specs.List.{list_all}
 use Rattle.std.proofs.lemmas.Bool.{cond-true, cond-false, cases_Bool}
 use Rattle.std.proofs.lemmas.List.Sums.{list_all-from_AllPass}
+use Rattle.rbf_model.specs.Disk.{disk_of}
 use Rattle.rbf_model.specs.Fields.{size_field, segments_field}
 use Rattle.rbf_model.specs.Geometry.{LieWithin, Geometry, is_within}
 use Rattle.rbf_model.specs.File.{file_at, is_directory, is_directory_size, has_room}

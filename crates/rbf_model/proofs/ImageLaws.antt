@@ -1,6 +1,6 @@
 -- The laws of a sector write, over images.
-use Rattle.rbf_model.specs.Disk.{disk_of}
 use Rattle.std.proofs.Common.{◌≡◌, ℕ, ◌<◌, ◌≤◌, ◌&&◌, ◌||◌, not, Bool, List, length, Some, None, refl, arith}
+use Rattle.rbf_model.specs.Disk.{disk_of}
 use Rattle.rbf_model.specs.Geometry.{image_geometry, sector}
 use Rattle.rbf_model.specs.File.{DiskFile, file_from, file_at}
 use Rattle.rbf_model.specs.Volume.{DiskVolume, Vol}

@@ -1,9 +1,9 @@
 -- From disks to images: an image with other bytes in one sector.
-use Rattle.rbf_model.specs.Disk.{disk_of}
 use Rattle.std.proofs.Common.{◌≡◌, ◌≢◌, ℕ, ◌+◌, ◌*◌, ◌<◌, ◌≤◌, List, ◌++◌, length, take, drop, sym, ap, ◌∙◌, subst, ⊎_elim, arith}
-use mathlib.Core.Path.{fun_ext}
 use Rattle.std.proofs.Math.Nat.{mul-le-mul_left}
 use Rattle.std.proofs.lemmas.Bool.{cases_eq}
+use Rattle.rbf_model.specs.Disk.{disk_of}
+use mathlib.Core.Path.{fun_ext}
 use Rattle.rbf_model.specs.Geometry.{geometry, sector, IsHeader}
 use Rattle.rbf_model.specs.Volume.{DiskVolume, Sound, Vol}
 use Rattle.rbf_model.specs.Writes.{put, put_at, put_sector}

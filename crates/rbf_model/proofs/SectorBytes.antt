@@ -1,10 +1,10 @@
 -- Where the bytes and entries of a file stand in its sectors.
-use Rattle.rbf_model.specs.Disk.{disk_of}
 use Rattle.std.proofs.Common.{◌≡◌, ℕ, zero, suc, ◌+◌, ◌-◌, ◌*◌, ◌/◌, ◌%◌, ◌<◌, ◌≤◌, true, ◌==◌, List, [], ◌∷◌, ◌++◌, length, take, drop, get_or, Some, refl, sym, ap, ◌∙◌, arith, eq-eqb, length-take, take-take, drop-drop}
 use Rattle.std.specs.Prelude.{flat_map}
 use Rattle.std.proofs.lemmas.Bool.{or_left, or_right}
 use Rattle.std.proofs.lemmas.List.{take_at, get_or-take, get_or-drop, drop-take}
 use Rattle.std.proofs.Math.Seq.{drop-append-add}
+use Rattle.rbf_model.specs.Disk.{disk_of}
 use Rattle.rbf_model.specs.Fields.{directory_entry, size_field, segments_field}
 use Rattle.rbf_model.specs.Geometry.{Geometry, sector}
 use Rattle.rbf_model.specs.Segments.{has, sectors_of}

@@ -1,11 +1,11 @@
 -- The sectors of a segment list, and the bytes in them.
-use Rattle.rbf_model.specs.Disk.{disk_of, IsDisk}
 use Rattle.std.proofs.Common.{◌≡◌, ◌≢◌, ◌⊎◌, ℕ, zero, suc, ◌+◌, ◌*◌, ◌<◌, ◌≤◌, true, ◌==◌, List, [], ◌∷◌, ◌++◌, length, take, refl, sym, ◌∙◌, ⊎_elim, arith, length-append, length-take, eqb-true, eq-eqb, leb-true}
 use Rattle.std.specs.Prelude.{flat_map}
 use Rattle.std.specs.List.{range_with_len}
 use Rattle.std.proofs.lemmas.Bool.{or_cases, or_left, or_right, false≢true, and_parts, cases_eq}
 use Rattle.std.proofs.lemmas.List.Folds.{list_any-append}
 use Rattle.std.proofs.lemmas.List.Elements.{All-head, All-tail}
+use Rattle.rbf_model.specs.Disk.{disk_of, IsDisk}
 use Rattle.rbf_model.specs.Geometry.{LieWithin, Geometry, is_within}
 use Rattle.rbf_model.specs.Segments.{segment_sectors, sectors_of, has}
 use Rattle.rbf_model.specs.File.{segment_bytes, has_room}

@@ -1,6 +1,6 @@
 -- What a write leaves of the files that it does not reach.
-use Rattle.rbf_model.specs.Disk.{disk_of, IsDisk}
 use Rattle.std.proofs.Common.{◌≡◌, ◌≢◌, ℕ, ◌≤◌, true, false, List, length, Some, sym, ◌∙◌, subst, arith}
+use Rattle.rbf_model.specs.Disk.{disk_of, IsDisk}
 use Rattle.rbf_model.specs.Fields.{size_field, segments_field}
 use Rattle.rbf_model.specs.Geometry.{Geometry}
 use Rattle.rbf_model.specs.Segments.{has, sectors_of}

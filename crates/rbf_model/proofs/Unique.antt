@@ -1,8 +1,8 @@
 -- An image stands for one volume at most.
-use Rattle.rbf_model.specs.Disk.{disk_of}
 use Rattle.std.proofs.Common.{◌≡◌, ◌↔◌, ℕ, List, Option, Some, None, IsSome, refl, sym, ap, ◌∙◌, subst, true}
 use Rattle.std.proofs.lemmas.Bool.{false≢true}
 use Rattle.std.proofs.lemmas.Bool.Decides.{same_from_decides}
+use Rattle.rbf_model.specs.Disk.{disk_of}
 use mathlib.Core.Path.{fun_ext}
 use Rattle.rbf_model.specs.Geometry.{Geometry, geometry, sector}
 use Rattle.rbf_model.specs.File.{file_at}

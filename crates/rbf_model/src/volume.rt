@@ -1,8 +1,8 @@
 //! The volume of an image, as laws over all images.
 
-ghost use Rattle.rbf_model.specs.Disk.{image_disk};
 ghost use Rattle.std.specs.Prelude.{◌≡◌, ℕ, List, filter, not, ◌&&◌, Bool, IsSome};
 ghost use Rattle.std.specs.List.{range_with_len};
+ghost use Rattle.rbf_model.specs.Disk.{image_disk};
 ghost use Rattle.rbf_model.specs.Geometry.{image_geometry, sector, HasHeader};
 ghost use Rattle.rbf_model.specs.Space.{is_whole, is_marked, cluster_count};
 ghost use Rattle.rbf_model.specs.Volume.{DiskVolume, Vol, free_clusters};

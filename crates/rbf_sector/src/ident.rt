@@ -1,5 +1,5 @@
-ghost use Rattle.rbf_model.specs.Decides.{Decides};
 ghost use Rattle.std.specs.Prelude.{◌≡◌, ◌+◌, ◌≤◌};
+ghost use Rattle.rbf_model.specs.Decides.{Decides};
 ghost use Rattle.rbf_model.specs.Fields.{total_field, map_bytes_field, cluster_field, root_field, boot_field, boot_size_field};
 ghost use Rattle.rbf_model.specs.Geometry.{IsHeader, HasMap, map_sectors};
 ghost use Rattle.rbf_sector.specs.Ident.{geometry_of};

@@ -1,14 +1,14 @@
 -- The owners that are found, gone over one after the other for rule 4.
-use Rattle.rbf_model.specs.Disk.{disk_of}
 use Rattle.std.proofs.Common.{◌≡◌, ◌⊎◌, ℕ, zero, suc, ◌+◌, ◌*◌, ◌/◌, ◌<◌, ◌≤◌, true, List, [], ◌∷◌, length, get_or, None, sym, ap, ◌∙◌, subst, inl, inr, ⊎_elim, arith, Some}
 use Rattle.std.proofs.Math.Nat.{div-mul-le_self}
 use Rattle.std.proofs.lemmas.Bool.{cases_lt}
 use Rattle.std.proofs.lemmas.List.{get_or_default}
+use Rattle.std.proofs.lemmas.Option.{slice_get-get_or}
+use Rattle.rbf_model.specs.Disk.{disk_of}
 use Rattle.rbf_model.specs.Geometry.{Geometry, IsHeader, HasMap}
 use Rattle.rbf_model.specs.Segments.{has}
 use Rattle.rbf_model.specs.File.{file_at}
 use Rattle.rbf_model.specs.Space.{owns, has_cluster}
-use Rattle.std.proofs.lemmas.Option.{slice_get-get_or}
 use Rattle.rbf_model.specs.Faults.{Breaks}
 use Rattle.rbf_model.specs.Search.{IsListOfReached, IsReachedOn}
 use Rattle.rbf_model.specs.Faults.Breaks.{used_twice, shared}

@@ -1,7 +1,7 @@
 -- What a breach of each of the rules 3, 4, 7, 8 and 9 is.
-use Rattle.rbf_model.specs.Disk.{disk_of}
 use Rattle.std.proofs.Common.{◌≡◌, ◌≢◌, ◌⊎◌, ℕ, ◌*◌, ◌/◌, ◌<◌, true, false, List, length, get_or, refl, inl, inr, arith}
 use Rattle.std.proofs.lemmas.Option.{slice_get_within, get_or_from_slice_get}
+use Rattle.rbf_model.specs.Disk.{disk_of}
 use Rattle.rbf_model.specs.Geometry.{Geometry, IsNumber}
 use Rattle.rbf_model.specs.File.{file_at, is_directory}
 use Rattle.rbf_model.specs.Space.{is_marked, owned, owns, has_cluster}

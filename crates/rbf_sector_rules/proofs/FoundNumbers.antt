@@ -1,6 +1,6 @@
 -- The numbers of descriptors that are found.
-use Rattle.rbf_model.specs.Disk.{disk_of}
 use Rattle.std.proofs.Common.{ℕ, ◌<◌, List, length, get_or}
+use Rattle.rbf_model.specs.Disk.{disk_of}
 use Rattle.rbf_model.specs.Geometry.{Geometry, sector, IsNumber}
 use Rattle.rbf_model.specs.Search.{IsListOfReached, IsReachedOn, searchable_bytes}
 use Rattle.rbf_model.proofs.Bytes.{has_place}

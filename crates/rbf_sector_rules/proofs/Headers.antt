@@ -1,7 +1,7 @@
 -- What is read of the first sectors of an image: its header, and the marks of its map.
-use Rattle.rbf_model.specs.Disk.{disk_of, IsDisk}
 use Rattle.std.proofs.Common.{◌≡◌, ℕ, ◌+◌, ◌-◌, ◌/◌, ◌%◌, ◌==◌, List, get_or, sym, ap, subst}
 use Rattle.std.specs.Int.{bit_at}
+use Rattle.rbf_model.specs.Disk.{disk_of, IsDisk}
 use Rattle.rbf_model.specs.Geometry.{Geometry, sector, IsHeader}
 use Rattle.rbf_model.specs.Space.{is_marked}
 use Rattle.rbf_model.proofs.Images.{is_disk}

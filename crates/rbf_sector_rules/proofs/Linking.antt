@@ -1,9 +1,9 @@
 -- Links that are listed.
-use Rattle.rbf_model.specs.Disk.{disk_of}
 use Rattle.std.proofs.Common.{◌≡◌, ◌⊎◌, ℕ, ◌+◌, ◌*◌, ◌<◌, ◌≤◌, List, [], ◌∷◌, ◌++◌, length, get_or, refl, sym, ap, ◌∙◌, subst, inl, inr, ⊎_elim, length-append, arith}
 use Rattle.std.specs.Prelude.{Contains}
 use Rattle.std.proofs.lemmas.Bool.{cases_lt}
 use Rattle.std.proofs.lemmas.List.{get_or_append_left, get_or-append-add, get_or_default}
+use Rattle.rbf_model.specs.Disk.{disk_of}
 use Rattle.rbf_model.specs.Geometry.{Geometry, IsNumber}
 use Rattle.rbf_model.specs.Segments.{has}
 use Rattle.rbf_model.specs.Tree.{EntryNames, Links}

@@ -1,6 +1,6 @@
 -- The descriptors that break a rule by themselves.
-use Rattle.rbf_model.specs.Disk.{disk_of}
 use Rattle.std.proofs.Common.{◌≡◌, ℕ, true, List, length, get_or, Option, refl, sym, ap, ◌∙◌, subst, inl, inr, arith}
+use Rattle.rbf_model.specs.Disk.{disk_of}
 use Rattle.rbf_model.specs.Geometry.{Geometry}
 use Rattle.rbf_model.specs.File.{file_at, is_directory}
 use Rattle.rbf_model.specs.Segments.{has}

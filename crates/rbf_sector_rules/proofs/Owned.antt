@@ -1,9 +1,9 @@
 -- The sectors of owners, which are within the volume.
-use Rattle.rbf_model.specs.Disk.{disk_of}
 use Rattle.std.proofs.Common.{◌≡◌, ℕ, ◌+◌, ◌<◌, ◌≤◌, true, List, All, get_or, sym, ap, ◌∙◌, subst, ⊎_elim}
 use Rattle.std.proofs.lemmas.Bool.{cases_Bool}
 use Rattle.std.proofs.lemmas.List.{get_or_default}
 use Rattle.std.proofs.lemmas.List.Elements.{All-from_get_or}
+use Rattle.rbf_model.specs.Disk.{disk_of}
 use Rattle.rbf_model.specs.Fields.{segments_field}
 use Rattle.rbf_model.specs.Geometry.{Geometry, sector, is_within, LieWithin, IsHeader, HasMap}
 use Rattle.rbf_model.specs.Segments.{sectors_of, has}

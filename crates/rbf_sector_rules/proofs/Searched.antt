@@ -1,17 +1,17 @@
 -- The entries of a directory that can be searched.
-use Rattle.rbf_model.specs.Disk.{disk_of, IsDisk}
 use Rattle.std.proofs.Common.{◌≡◌, ℕ, ◌+◌, ◌*◌, ◌/◌, ◌%◌, ◌<◌, ◌≤◌, Bool, true, false, List, [], length, take, drop, get_or, Some, refl, sym, ap, ◌∙◌, ⊎_elim, arith, leb, eqb, leb-true, ◌==◌, ◌&&◌, if◌then◌else◌}
 use Rattle.std.specs.List.{list_all, slice_get}
 use Rattle.std.specs.Int.{bit_at}
 use Rattle.std.proofs.lemmas.Bool.Decides.{nat_tests}
 use Rattle.std.proofs.lemmas.Bool.{and_parts, cond-true, cond-false, cases_Bool, false≢true}
 use Rattle.std.proofs.lemmas.List.Sums.{AllPass-from_list_all}
+use Rattle.std.proofs.lemmas.Option.{slice_get-get_or}
+use Rattle.rbf_model.specs.Disk.{disk_of, IsDisk}
 use Rattle.rbf_model.specs.Fields.{attributes_field, directory_entry, size_field, segments_field}
 use Rattle.rbf_model.specs.Geometry.{Geometry, geometry, sector, LieWithin, is_within}
 use Rattle.rbf_model.specs.File.{file_at, segment_bytes, is_directory, is_directory_size, has_room}
 use Rattle.rbf_model.specs.Search.{is_searchable, searchable_bytes}
 use Rattle.rbf_model.specs.Segments.{sectors_of, has}
-use Rattle.std.proofs.lemmas.Option.{slice_get-get_or}
 use Rattle.rbf_sector_rules.specs.declared.directory.Directory.{Directory}
 use Rattle.rbf_sector.specs.Ident.{geometry_of}
 use Rattle.rbf_sector_rules.specs.declared.image.IdentifiedImage.{IdentifiedImage}

@@ -1,6 +1,6 @@
 -- A search whose positions are read one after the other.
-use Rattle.rbf_model.specs.Disk.{disk_of}
 use Rattle.std.proofs.Common.{◌≡◌, ◌⊎◌, ℕ, ◌+◌, ◌*◌, true, List, length, sym, ap, ◌∙◌, subst, ⊎_elim, arith}
+use Rattle.rbf_model.specs.Disk.{disk_of}
 use Rattle.rbf_model.specs.Geometry.{Geometry, IsNumber}
 use Rattle.rbf_model.specs.Segments.{has}
 use Rattle.rbf_sector_rules.specs.declared.unread.Unread.{Unread}

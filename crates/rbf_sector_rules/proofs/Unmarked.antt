@@ -1,7 +1,7 @@
 -- The sectors whose clusters are not marked.
-use Rattle.rbf_model.specs.Disk.{disk_of}
 use Rattle.std.proofs.Common.{◌≡◌, ◌⊎◌, ℕ, ◌+◌, ◌<◌, true, List, [], ◌++◌, length, take, get_or, Option, None, subst, inl, inr, ⊎_elim}
 use Rattle.std.proofs.lemmas.Bool.{false≢true}
+use Rattle.rbf_model.specs.Disk.{disk_of}
 use Rattle.rbf_model.specs.Geometry.{Geometry}
 use Rattle.rbf_model.specs.Segments.{segment_sectors, sectors_of, has}
 use Rattle.rbf_model.specs.Space.{owns}

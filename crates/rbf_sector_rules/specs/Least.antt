@@ -1,6 +1,6 @@
 -- The least of the numbers that have a property.
-use Rattle.rbf_model.specs.Disk.{Disk}
 use Rattle.std.specs.Prelude.{◌≡◌, ◌⊎◌, ℕ, ◌<◌, ◌≤◌, min, Option, Some, None, MatchOption}
+use Rattle.rbf_model.specs.Disk.{Disk}
 use Rattle.rbf_model.specs.Faults.{Breaks}
 
 -- it is the least number with the property, and none if no number has the property

@@ -1,6 +1,6 @@
 -- The links of the reached directories: their used entries after the first two, which name descriptors.
-use Rattle.rbf_model.specs.Disk.{Disk}
 use Rattle.std.specs.Prelude.{◌≡◌, ◌⊎◌, ℕ, ◌<◌, List, Contains}
+use Rattle.rbf_model.specs.Disk.{Disk}
 use Rattle.rbf_model.specs.Fields.{directory_entry}
 use Rattle.rbf_model.specs.Geometry.{Geometry, IsNumber}
 use Rattle.rbf_model.specs.Tree.{EntryNames, Links}

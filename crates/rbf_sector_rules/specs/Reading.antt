@@ -1,8 +1,8 @@
 -- The descriptors and directories that are read from an identified image.
-use Rattle.rbf_model.specs.Disk.{Disk, disk_of}
 use Rattle.std.specs.Prelude.{◌≡◌, ℕ, ◌*◌, ◌<◌, ◌==◌, ◌&&◌, Bool, List, length}
 use Rattle.std.specs.List.{list_all}
 use Rattle.std.specs.Int.{bit_at}
+use Rattle.rbf_model.specs.Disk.{Disk, disk_of}
 use Rattle.rbf_model.specs.Fields.{segments_field}
 use Rattle.rbf_model.specs.Geometry.{Geometry, is_within, sector}
 use Rattle.rbf_model.specs.File.{has_room, is_directory_size}

@@ -1,7 +1,7 @@
 -- The rules that a descriptor breaks by itself.
-use Rattle.rbf_model.specs.Disk.{Disk}
 use Rattle.std.specs.Prelude.{◌≡◌, ◌⊎◌, ℕ, List, true, false}
 use Rattle.std.specs.List.{list_all}
+use Rattle.rbf_model.specs.Disk.{Disk}
 use Rattle.rbf_model.specs.Fields.{size_field, segments_field, directory_entry, is_used, descriptor_field}
 use Rattle.rbf_model.specs.Geometry.{Geometry, IsNumber, is_within}
 use Rattle.rbf_model.specs.File.{file_at, is_directory, is_directory_size, has_room}

@@ -1,6 +1,6 @@
 -- The sectors that a reached file uses, for rules 3 and 4.
-use Rattle.rbf_model.specs.Disk.{Disk}
 use Rattle.std.specs.Prelude.{◌≡◌, ℕ, ◌/◌, true, false, List}
+use Rattle.rbf_model.specs.Disk.{Disk}
 use Rattle.rbf_model.specs.Segments.{has}
 use Rattle.rbf_model.specs.File.{file_at}
 use Rattle.rbf_model.specs.Space.{is_marked, owned}

@@ -1,6 +1,6 @@
 -- The search for the reached descriptors.
-use Rattle.rbf_model.specs.Disk.{Disk}
 use Rattle.std.specs.Prelude.{◌≡◌, ℕ, ◌+◌, ◌*◌, true, length}
+use Rattle.rbf_model.specs.Disk.{Disk}
 use Rattle.rbf_model.specs.Geometry.{IsNumber}
 use Rattle.rbf_model.specs.Segments.{has}
 use Rattle.rbf_sector_rules.specs.declared.walk.Search.{Search}

@@ -1,5 +1,5 @@
-ghost use Rattle.rbf_model.specs.Decides.{Decides};
 ghost use Rattle.std.specs.Prelude.{◌≡◌, ℕ, ◌⊎◌, ◌+◌, ◌*◌, ◌<◌, ◌≤◌, length, min, not, MatchOption};
+ghost use Rattle.rbf_model.specs.Decides.{Decides};
 ghost use Rattle.rbf_model.specs.Fields.{directory_entry, descriptor_field, segments_field, size_field};
 ghost use Rattle.rbf_model.specs.File.{has_room};
 ghost use Rattle.rbf_model.specs.Geometry.{IsNumber, sector as sector_of};

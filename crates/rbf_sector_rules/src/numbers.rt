@@ -1,7 +1,7 @@
+ghost use Rattle.std.specs.Prelude.{◌≡◌, ℕ, ◌+◌, ◌*◌, ◌<◌, ◌≤◌, false, IfOk, length};
 ghost use Rattle.rbf_model.specs.Decides.{Decides};
 ghost use Rattle.rbf_model.specs.Fields as model;
 ghost use Rattle.rbf_model.specs.Geometry.{sector as sector_of};
-ghost use Rattle.std.specs.Prelude.{◌≡◌, ℕ, ◌+◌, ◌*◌, ◌<◌, ◌≤◌, false, IfOk, length};
 ghost use Rattle.rbf_sector.specs.Ident.{geometry_of};
 ghost use Rattle.rbf_sector_rules.specs.Positions.{entry_at_position};
 ghost use Rattle.rbf_sector_rules.specs.Files.{IsFileOn, AreFiles};

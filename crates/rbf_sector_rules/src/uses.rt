@@ -1,6 +1,6 @@
-ghost use Rattle.rbf_model.specs.Decides.{Decides};
 ghost use Rattle.std.specs.Prelude.{◌≡◌, ◌≢◌, ℕ, ◌+◌, ◌*◌, ◌/◌, ◌<◌, ◌≤◌, [], ◌∷◌, All, IfOk, MatchBool, Some, None, length, slice_index_or, slice_set};
 ghost use Rattle.std.specs.List.{range_with_len};
+ghost use Rattle.rbf_model.specs.Decides.{Decides};
 ghost use Rattle.rbf_model.specs.Segments.{sectors_of};
 ghost use Rattle.rbf_segs.specs.Segments.{IsSegment};
 ghost use Rattle.rbf_sector_rules.specs.Given.{IsPlaceGiven};

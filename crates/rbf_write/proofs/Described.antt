@@ -1,11 +1,11 @@
 -- A file's descriptor that is written over, where it may have gained clusters.
-use Rattle.rbf_model.specs.Disk.{disk_of}
 use Rattle.std.proofs.Common.{◌≡◌, ℕ, ◌+◌, ◌-◌, ◌*◌, ◌/◌, ◌%◌, ◌≤◌, Bool, true, false, ◌==◌, ◌||◌, Some, List, [], ◌∷◌, ◌++◌, length, refl, sym, ap, ◌∙◌, subst, ⊎_elim, arith, slice_index}
 use Rattle.std.specs.Prelude.{if◌then◌else◌}
 use Rattle.std.specs.Int.{bit_at}
 use Rattle.std.specs.List.{list_any}
-use mathlib.Core.Path.{fun_ext}
 use Rattle.std.proofs.lemmas.Bool.{or_left, or_right, both_ways, false_from_ne_true, cases_Bool}
+use Rattle.rbf_model.specs.Disk.{disk_of}
+use mathlib.Core.Path.{fun_ext}
 use Rattle.rbf_model.specs.Fields.{size_field, segments_field}
 use Rattle.rbf_model.specs.Geometry.{Geometry, geometry, image_geometry, sector, map_sectors, LieWithin}
 use Rattle.rbf_model.specs.Segments.{sectors_of, has, AreDistinct}

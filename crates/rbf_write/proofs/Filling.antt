@@ -84,8 +84,8 @@ module _ (segments : List (ℕ × ℕ)) (size at : ℕ) (from : List ℕ) (room 
         (laid_then u n file segments size known old mid after bytes laid place low lays.bytes lays.whole written)
 
   pub none_filled : (first : ℕ) (kept : MountedPart) (held : List Sector) (before : DriveCounts) → IsCacheOf old held
-      → first ≡ min size at / 256 → IsFillSoFar segments size at from first first mounted_part mounted_part old old held before before
-  none_filled first mounted_part held before cached is = record {
+      → first ≡ min size at / 256 → IsFillSoFar segments size at from first first kept kept old old held before before
+  none_filled first kept held before cached is = record {
     laid = λ u n file on known. first_laid u n file on known first is;
     same = refl;
     cached = cached;
@@ -93,7 +93,7 @@ module _ (segments : List (ℕ × ℕ)) (size at : ℕ) (from : List ℕ) (room 
   }
 
   module _ (first place : ℕ) (kept kept_now : MountedPart) (mid : Option (List ℕ)) (held : List Sector)
-      (before half : DriveCounts) (far : IsFillSoFar segments size at from first place mounted_part kept_now old mid held before
+      (before half : DriveCounts) (far : IsFillSoFar segments size at from first place kept kept_now old mid held before
       half) where
     -- the next sector is on the drive
     pub place_on : (lsn : ℕ) → place < length (sectors_of segments) → slice_get (sectors_of segments) place ≡ Some lsn → HasData old segments size → lsn < sector_count mid
@@ -112,7 +112,7 @@ module _ (segments : List (ℕ × ℕ)) (size at : ℕ) (from : List ℕ) (room 
     pub more_filled : (lsn : ℕ) (now_kept : MountedPart) (after : Option (List ℕ)) (news : List Sector) (then_counts : DriveCounts)
         → first ≤ place → place < length (sectors_of segments) → slice_get (sectors_of segments) place ≡ Some lsn
         → LaysSector size at from (256 * place) lsn mid after → now_kept ≡ kept_now → IsCacheOf after news → MovesCounts None 2 half then_counts
-        → IsFillSoFar segments size at from first (place + 1) mounted_part now_kept old after news before then_counts
+        → IsFillSoFar segments size at from first (place + 1) kept now_kept old after news before then_counts
     more_filled lsn now_kept after news then_counts begun low there lays same cached counts = record {
       laid = λ u n file on known. next_laid u n file on known mid after place lsn low there lays (far.laid u n file on known);
       same = same ∙ far.same;
@@ -165,10 +165,10 @@ pub first_as : (segments : List (ℕ × ℕ)) (size at : ℕ) (from : List ℕ)
     → at + length from ≤ 256 * length (sectors_of segments)
     → (old : Option (List ℕ)) (first place : ℕ) (kept : MountedPart) (held : List Sector) (before : DriveCounts)
     → IsCacheOf old held
-    → first ≡ min size at / 256 → place ≡ first → IsFillSoFar segments size at from first place mounted_part mounted_part old old held before before
-first_as segments size at from room old first place mounted_part held before cached is same =
-    subst (λ p. IsFillSoFar segments size at from first p mounted_part mounted_part old old held before before)
-    (sym same) (none_filled segments size at from room old first mounted_part held before cached is)
+    → first ≡ min size at / 256 → place ≡ first → IsFillSoFar segments size at from first place kept kept old old held before before
+first_as segments size at from room old first place kept held before cached is same =
+    subst (λ p. IsFillSoFar segments size at from first p kept kept old old held before before)
+    (sym same) (none_filled segments size at from room old first kept held before cached is)
 
 -- a volume stays mounted where a file has been laid over
 pub laid_mounted : (old volume : Volume) (before after : Option (List ℕ)) (u : DiskVolume) (n : ℕ) (file : DiskFile) (segments : List (ℕ × ℕ)) (size : ℕ) (bytes : List ℕ)

@@ -14,7 +14,7 @@ use Rattle.rbf_change.specs.Calls.{Changes, SizesFile, WritesFile, cluster_size,
 use Rattle.rbf_change.specs.Contents.{written}
 use Rattle.rbf_change.specs.Growth.{IsChoice, clusters_needed, with_clusters}
 use Rattle.rbf_change.specs.Names.{freed_entry, place_of}
-use Rattle.io_model.specs.Attempts.{IoDoes}
+use Rattle.io_model.specs.Attempts.{HasIoEffect}
 use Rattle.io_model.specs.Step.{IoEffect, IoEnd, IoStep, answers, fails}
 use Rattle.file_rules.specs.Change.{Change, FindsNoPlace, AppliesChange, MayBeTooLong, writes, sizes, sets_attributes, creates, makes_directory, deletes}
 use Rattle.file_rules.specs.Files.{Asker, DriveState, Files, drive_at, volume_at}

@@ -12,10 +12,10 @@ use Rattle.proc_model.specs.CallResult.{CallResult}
 use Rattle.proc_model.specs.Processes.{Processes}
 use Rattle.proc_model.specs.Ready.{Act, attempts, delivers, executes, act_of}
 use Rattle.proc_model.specs.declared.proc_call.ProcCall.TheVariants as Call
-use Rattle.io_model.specs.Terminal.{IsOutputCutShort, IsOutputWritten, ReadAttempted, Terminal, WriteAttempted}
+use Rattle.io_model.specs.Terminal.{IsOutputCutShort, IsOutputWritten, TerminalReadAttempt, Terminal, TerminalWriteAttempt}
 use Rattle.io_model.specs.declared.terminal.Progress.{Progress}
 use Rattle.io_model.specs.declared.terminal.Reading.{Reading}
-use Rattle.io_model.specs.Attempts.{IoDoes}
+use Rattle.io_model.specs.Attempts.{HasIoEffect}
 use Rattle.io_model.specs.Io.{Io, terminal_at}
 use Rattle.io_model.specs.Step.{Caller, IoEffect, IoStep, TerminalRead, TerminalWrite, comes, reads, refused, writes}
 use Rattle.io_model.specs.Terminals.{ReadsTerminal, WritesTerminal, request_of}
@@ -37,7 +37,7 @@ abbrev keyed : TerminalState → List Key → TerminalState
 keyed terminal keys = record terminal { keys = keys }
 
 reads-keyed : (request : Reading) (answer : Progress) (old new : Terminal) (before now : TerminalState)
-    (keys : List Key) → ReadAttempted request answer old new before now → ReadAttempted request answer old new (keyed before keys)
+    (keys : List Key) → TerminalReadAttempt request answer old new before now → TerminalReadAttempt request answer old new (keyed before keys)
     (keyed now keys)
 reads-keyed request (Progress.Done count) old new before now keys it = record {
   outcome = record { answer_is = it.outcome.answer_is; terminal = it.outcome.terminal; echo = it.outcome.echo };
@@ -100,7 +100,7 @@ reads-keyed request Progress.NoMemory old new before now keys it = record {
 }
 
 module _ (process : Pid) (put : List ℕ) (count : ℕ) (old new : Terminal) (before now : TerminalState) (keys : List Key) where
-  writes-keyed : (answer : Progress) → WriteAttempted process put count answer old new before now → WriteAttempted process put count answer old new (keyed before keys) (keyed now keys)
+  writes-keyed : (answer : Progress) → TerminalWriteAttempt process put count answer old new before now → TerminalWriteAttempt process put count answer old new (keyed before keys) (keyed now keys)
   writes-keyed (Progress.Done n) it = record {
     outcome = record {
       answer_is = it.outcome.answer_is;
@@ -212,22 +212,22 @@ module _ (later : ℕ) (rests : List UnsharedKeys) (before after others : List T
             (keeps old now changed))) is;
       }
 
-  does-too : (step : IoStep) (caller : Caller) (io : Io) (effect : IoEffect) → IoDoes step caller io effect before after → Too later rests after (IoDoes step caller io effect others)
+  does-too : (step : IoStep) (caller : Caller) (io : Io) (effect : IoEffect) → HasIoEffect step caller io effect before after → Too later rests after (HasIoEffect step caller io effect others)
   does-too (refused number) caller io effect (is, same) =
       record { terms = others; comes = (is, refl); same = too-same later rests before after others all same }
   does-too (comes it) caller io effect (is, same) =
       record { terms = others; comes = (is, refl); same = too-same later rests before after others all same }
   does-too (reads read) caller io effect it =
-      let too : Too later rests after (ChangesOneTerminal (ReadAttempted (request_of caller read) it.answer
+      let too : Too later rests after (ChangesOneTerminal (TerminalReadAttempt (request_of caller read) it.answer
       (terminal_at io read.terminal) it.new) read.terminal others) = change-too read.terminal
-      (ReadAttempted (request_of caller read) it.answer (terminal_at io read.terminal) it.new)
+      (TerminalReadAttempt (request_of caller read) it.answer (terminal_at io read.terminal) it.new)
       (λ old now changed. changed.driver.keys) (λ old now keys changed. reads-keyed (request_of caller read)
       it.answer (terminal_at io read.terminal) it.new old now keys changed) it.device in
       record { terms = too.terms; comes = record { answer = it.answer; new = it.new; end = it.end; device = too.comes; ends = it.ends; effect_is = it.effect_is }; same = too.same }
   does-too (writes write) caller io effect it =
-      let too : Too later rests after (ChangesOneTerminal (WriteAttempted caller.process write.put write.count it.answer
+      let too : Too later rests after (ChangesOneTerminal (TerminalWriteAttempt caller.process write.put write.count it.answer
       (terminal_at io write.terminal) it.new) write.terminal others) = change-too write.terminal
-      (WriteAttempted caller.process write.put write.count it.answer (terminal_at io write.terminal) it.new)
+      (TerminalWriteAttempt caller.process write.put write.count it.answer (terminal_at io write.terminal) it.new)
       (λ old now changed. changed.driver.keys) (λ old now keys changed. writes-keyed caller.process write.put
       write.count (terminal_at io write.terminal) it.new old now keys it.answer changed) it.device in
       record { terms = too.terms; comes = record { answer = it.answer; new = it.new; end = it.end; device = too.comes; ends = it.ends; effect_is = it.effect_is }; same = too.same }
@@ -236,7 +236,7 @@ module _ (later : ℕ) (rests : List UnsharedKeys) (before after others : List T
   deed-too (leaves_so it) asker files effect (is, same) =
       record { terms = others; comes = (is, refl); same = too-same later rests before after others all same }
   deed-too (as_io step) asker files effect (it, does, is) =
-      let too : Too later rests after (IoDoes step asker.caller files.io it others) = does-too step asker.caller files.io it does in
+      let too : Too later rests after (HasIoEffect step asker.caller files.io it others) = does-too step asker.caller files.io it does in
       record { terms = too.terms; comes = (it, too.comes, is); same = too.same }
   deed-too (changes it) asker files effect (is, same) =
       record { terms = others; comes = (is, refl); same = too-same later rests before after others all same }

@@ -12,7 +12,7 @@ use Rattle.os9_outer.specs.Stream.{stream_with, GainsPart}
 use Rattle.os9_outer.specs.Terminal.{due_byte}
 use Rattle.os9_outer.specs.TerminalState.{TerminalState, ChangesOneTerminal}
 use Rattle.os9_outer.specs.declared.terminal.Key.{Key}
-use Rattle.io_model.specs.Terminal.{Arrives, ReadAttempted, RoseTimes, Terminal, WriteAttempted}
+use Rattle.io_model.specs.Terminal.{Arrives, TerminalReadAttempt, RoseTimes, Terminal, TerminalWriteAttempt}
 use Rattle.os9_base.specs.declared.registers.Pid.{Pid}
 use Rattle.io_model.specs.declared.keys.TheConstants.{BELL}
 use Rattle.io_model.specs.declared.terminal.Arrival.{Arrival}

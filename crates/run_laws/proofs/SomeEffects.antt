@@ -9,14 +9,14 @@ use Rattle.cpu_model.specs.Step.{Done}
 use Rattle.proc_model.specs.CallResult.{ends}
 use Rattle.io_model.specs.Edit.{Typing}
 use Rattle.io_model.specs.Path.{desc_of, slot_of}
-use Rattle.io_model.specs.Terminal.{Terminal, ReadAttempted, attempt_by, is_taken, kept_waiting, read_attempt, typed, typed_attempt, used_by}
+use Rattle.io_model.specs.Terminal.{Terminal, TerminalReadAttempt, attempt_by, is_taken, kept_waiting, read_attempt, typed, typed_attempt, used_by}
 use Rattle.io_model.specs.declared.edit.LineEnd.{LineEnd}
 use Rattle.io_model.specs.declared.edit.LineEnd.TheVariants.{EndOfFile, Line}
 use Rattle.io_model.specs.declared.path.Desc.{Desc}
 use Rattle.io_model.specs.declared.path.SysPath.{SysPath}
 use Rattle.io_model.specs.declared.terminal.Progress.{Progress}
 use Rattle.io_model.specs.declared.terminal.Reading.{Reading}
-use Rattle.io_model.specs.Attempts.{IoDoes}
+use Rattle.io_model.specs.Attempts.{HasIoEffect}
 use Rattle.io_model.specs.Io.{Io, OpenPath, open_path, terminal_at, with_terminal}
 use Rattle.io_model.specs.Pipes.{count_regs}
 use Rattle.io_model.specs.Step.{Caller, IoEffect, IoEnd, IoStep, answers, fails, keeps, refused, comes, reads, writes, leaves, TerminalRead}
@@ -69,7 +69,7 @@ module _ (request : Reading) (t : Terminal) (before : TerminalState) where
   abbrev read-given : TerminalState
   read-given = given before (read_attempt request t).echo
 
-  reads-so : (answer : Progress) → IsPlain answer → (read_attempt request t).answer ≡ answer → ReadAttempted request answer t
+  reads-so : (answer : Progress) → IsPlain answer → (read_attempt request t).answer ≡ answer → TerminalReadAttempt request answer t
       (read_attempt request t).terminal before (given before (read_attempt request t).echo)
   reads-so (Progress.Done count) plain is = record {
     outcome = record { answer_is = sym is; terminal = refl; echo = refl };
@@ -102,7 +102,7 @@ some-read-end caller read Progress.NoMemory plain = absurd plain
 pub record SomeEffect (step : IoStep) (caller : Caller) (io : Io) (before : List TerminalState) : Type 0 where
   pub effect : IoEffect
   pub after : List TerminalState
-  pub does : IoDoes step caller io effect before after
+  pub does : HasIoEffect step caller io effect before after
   pub counts : fault_counts after ≡ fault_counts before
 
 -- what an attempt reads or writes is there

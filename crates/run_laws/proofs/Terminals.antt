@@ -11,14 +11,14 @@ use Rattle.os9_outer.specs.Stream.{stream_with}
 use Rattle.os9_outer.specs.Terminal.{due_byte}
 use Rattle.os9_outer.specs.TerminalState.{TerminalState, fault_counts}
 use Rattle.os9_outer.specs.declared.terminal.Key.{Key}
-use Rattle.io_model.specs.Terminal.{Terminal, Arrives, ReadAttempted, RoseTimes, WriteAttempted, dropped_count, first_signal, key_bytes, read_attempt, typed_bytes, used_by}
+use Rattle.io_model.specs.Terminal.{Terminal, Arrives, TerminalReadAttempt, RoseTimes, TerminalWriteAttempt, dropped_count, first_signal, key_bytes, read_attempt, typed_bytes, used_by}
 use Rattle.io_model.specs.declared.keys.TheConstants.{BELL}
 use Rattle.io_model.specs.declared.terminal.Arrival.{Arrival}
 use Rattle.io_model.specs.declared.terminal.Progress.{Progress}
 use Rattle.io_model.specs.declared.terminal.Reading.{Reading}
 use Rattle.io_model.specs.declared.terminal.TheConstants.{TYPE_AHEAD}
 use Rattle.io_model.specs.Arrivals.{ArrivesAt, ArrivesFrom, Desk, after_key_signal}
-use Rattle.io_model.specs.Attempts.{IoDoes}
+use Rattle.io_model.specs.Attempts.{HasIoEffect}
 use Rattle.io_model.specs.Io.{Io, terminal_at, with_terminal}
 use Rattle.io_model.specs.Step.{Caller, IoEffect, IoEnd, IoStep, answers, refused, comes, reads, writes, leaves, TerminalRead, TerminalWrite}
 use Rattle.io_model.specs.Terminals.{ReadsTerminal, WritesTerminal, read_ends, read_leaves, request_of, write_ends}
@@ -94,7 +94,7 @@ record ReadOnce (request : Reading) (answer : Progress) (old new : Terminal) (be
   pub driver : now ≡ given before (read_attempt request old).echo
 
 read-once : (request : Reading) (answer : Progress) (old new : Terminal) (before now : TerminalState)
-    → (answer ≡ Progress.NoMemory → ⊥) → NotFailed before now → ReadAttempted request answer old new before now
+    → (answer ≡ Progress.NoMemory → ⊥) → NotFailed before now → TerminalReadAttempt request answer old new before now
     → ReadOnce request answer old new before now
 read-once request (Progress.Done count) old new before now memory calm it =
     record { answer_is = it.outcome.answer_is; terminal = it.outcome.terminal; driver = given-is before now (read_attempt request old).echo it.driver.keys it.outcome.echo it.driver.faults }
@@ -171,7 +171,7 @@ module _ (caller : Caller) (io : Io) (before after others : List TerminalState) 
       not_failed =
           none-at before write.terminal it.device.0 it.device.1 it.device.2 (subst (NoneOf before) it.device.3 calm)
 
-      by_answer : (answer : Progress) → write_ends write answer ≡ Some it.end → WriteAttempted caller.process write.put
+      by_answer : (answer : Progress) → write_ends write answer ≡ Some it.end → TerminalWriteAttempt caller.process write.put
           write.count answer (terminal_at io write.terminal) it.new it.device.0 it.device.1 → WriteOf write effect
           then_terms
       by_answer (Progress.Done count) ends it_writes = record {
@@ -197,7 +197,7 @@ module _ (caller : Caller) (io : Io) (before after others : List TerminalState) 
         terminals = one.terms ∙ ap (λ (old : TerminalState). slice_set before write.terminal (given old write.put)) old ∙ sym two.terms;
       }
 
-  pub does-one : (step : IoStep) (effect other : IoEffect) → IoDoes step caller io effect before after → IoDoes step caller io other before others → OneEffect effect other after others
+  pub does-one : (step : IoStep) (effect other : IoEffect) → HasIoEffect step caller io effect before after → HasIoEffect step caller io other before others → OneEffect effect other after others
   does-one (refused number) effect other (is, same) (is_too, same_too) =
       record { effects = is ∙ sym is_too; terminals = same ∙ sym same_too }
   does-one (comes it) effect other (is, same) (is_too, same_too) =

@@ -1,11 +1,11 @@
 -- What an attempt, an end and a signal make of the keys of a terminal.
-use Rattle.io_model.specs.Read.{read_call}
 use Rattle.std.proofs.Common.{◌≡◌, ◌≢◌, ◌⊎◌, ℕ, zero, suc, ◌<◌, ◌==◌, Bool, true, false, Option, Some, None, List, [], ◌∷◌, ◌++◌, length, slice_get, slice_set, refl, sym, ap, ◌∙◌, subst, inl, inr, append_assoc}
 use Rattle.std.specs.Prelude.{slice_index_or, if◌then◌else◌}
 use Rattle.std.specs.Option.{option_map_or}
 use Rattle.std.proofs.lemmas.Bool.{cases_eq, cases_lt, eq-eqb, eqb-true}
 use Rattle.std.proofs.lemmas.List.{get_or-set_same, get_or-set_other, get_or_past, get_or-map, length-map, length-set}
 use Rattle.std.proofs.lemmas.Option.{none-some, same_Some}
+use Rattle.io_model.specs.Read.{read_call}
 use Rattle.os9_base.specs.Count.{Rose}
 use Rattle.os9_base.specs.declared.errors.TheConstants.{E_EOF, E_WRITE}
 use Rattle.os9_base.specs.declared.registers.Pid.{Pid}
@@ -14,7 +14,7 @@ use Rattle.os9_outer.specs.declared.terminal.Key.{Key}
 use Rattle.io_model.specs.Edit.{Edited, Editing, Typing, after_key, cleared, goes_on, typing, used_up}
 use Rattle.io_model.proofs.EditLemmas.{typing-append, uses-all, uses-front}
 use Rattle.io_model.specs.Path.{closed_desc, paths_after_close, slot_of}
-use Rattle.io_model.specs.Terminal.{Terminal, Attempted, BreaksOffEcho, ReadAttempted, WriteAttempted, attempt_by, forgotten, is_process, is_taken, key_effect, kept_waiting, new_terminal, read_attempt, reader, released, stored_bytes, typed, typed_attempt, without_reading}
+use Rattle.io_model.specs.Terminal.{Terminal, Attempted, BreaksOffEcho, TerminalReadAttempt, TerminalWriteAttempt, attempt_by, forgotten, is_process, is_taken, key_effect, kept_waiting, new_terminal, read_attempt, reader, released, stored_bytes, typed, typed_attempt, without_reading}
 use Rattle.io_model.specs.declared.edit.LineEnd.{LineEnd}
 use Rattle.io_model.specs.declared.edit.LineEnd.TheVariants.{EndOfFile, Line}
 use Rattle.io_model.specs.declared.path.Desc.{Desc}
@@ -26,7 +26,7 @@ use Rattle.io_model.specs.declared.terminal.Progress.{Progress}
 use Rattle.io_model.specs.declared.terminal.ReadKind.{ReadKind}
 use Rattle.io_model.specs.declared.terminal.ReadKind.TheVariants.{Bytes, WholeLine}
 use Rattle.io_model.specs.declared.terminal.Reading.{Reading}
-use Rattle.io_model.specs.Attempts.{IoDoes}
+use Rattle.io_model.specs.Attempts.{HasIoEffect}
 use Rattle.io_model.specs.Close.{after_close, without_path, without_target}
 use Rattle.io_model.specs.Codes.{direction_of_call}
 use Rattle.io_model.specs.Io.{Io, OpenPath, open_path, terminal_at, with_paths, with_terminal}
@@ -384,7 +384,7 @@ module _ (Fails : Type 0) (caller : Caller) (read : TerminalRead) (old new : Ter
       by_turn false is answered at stores_them = inr (typed-uses bytes is answered at stores_them)
 
   read-uses : (answer : Progress) (before now : TerminalState) → (Rose before.faults now.faults → Fails)
-      → ReadAttempted asked answer old new before now → read_ends caller read answer ≡ Some end
+      → TerminalReadAttempt asked answer old new before now → read_ends caller read answer ≡ Some end
       → Came (stored_bytes answer asked old)
   read-uses (Progress.Done count) before now failed it answered =
       whole-uses (Progress.Done count) before now (read_attempt asked old).stored it.outcome answered refl
@@ -485,7 +485,7 @@ terminal-in m n is = ap number_in is
 
 write-left : (write : TerminalWrite) (end : IoEnd) (Cause : Type 0) → (process : Pid) (answer : Progress)
     (old new : Terminal) (before now : TerminalState) → (end ≡ fails E_WRITE → Rose before.faults now.faults → Cause)
-    → write_ends write answer ≡ Some end → WriteAttempted process write.put write.count answer old new before now
+    → write_ends write answer ≡ Some end → TerminalWriteAttempt process write.put write.count answer old new before now
     → TermLeft Cause old new
 write-left write end Cause process (Progress.Done count) old new before now causes is it = record {
   ahead = ap (λ (t : Terminal). t.ahead) it.outcome.terminal;
@@ -516,7 +516,7 @@ module _ (call : IoCall) (caller : Caller) (io : Io) (n : ℕ) (within : n < len
       subst (λ (effect : IoEffect). Moved call caller io n before after effect) (sym it.effect_is)
       (by_uses (read-uses (Failed before after read.terminal) caller read (terminal_at io read.terminal) it.new
       it.end it.answer it.device.0 it.device.1
-      (rose-one (ReadAttempted (request_of caller read) it.answer (terminal_at io read.terminal) it.new) read.terminal
+      (rose-one (TerminalReadAttempt (request_of caller read) it.answer (terminal_at io read.terminal) it.new) read.terminal
       before after it.device) it.device.4 it.ends))
     where
       put : n ≡ read.terminal → terminal_at (with_terminal io read.terminal it.new) n ≡ it.new
@@ -585,7 +585,7 @@ module _ (call : IoCall) (caller : Caller) (io : Io) (n : ℕ) (within : n < len
       by_uses (inr (keys, uses)) = by_place keys uses (cases_eq n read.terminal)
 
   pub does-moves : (step : IoStep) (effect : IoEffect) → StepGives call (λ (new : Io). new.terminals ≡ io.terminals)
-      caller io step → StepReads call caller io step → StepWrites call caller io step → IoDoes step caller io effect
+      caller io step → StepReads call caller io step → StepWrites call caller io step → HasIoEffect step caller io effect
       before after → Moved call caller io n before after effect
   does-moves (refused number) effect gives facts on (is, same) = inl (
     left-same (WriteRefused call caller io effect.end before after n) n io effect.io (ap (λ (effect : IoEffect). effect.io.terminals) is),
@@ -607,7 +607,7 @@ module _ (call : IoCall) (caller : Caller) (io : Io) (n : ℕ) (within : n < len
           gives.0,
           on,
           refuses_it,
-          rose-one (WriteAttempted caller.process write.put write.count
+          rose-one (TerminalWriteAttempt caller.process write.put write.count
               it.answer (terminal_at io write.terminal) it.new) write.terminal before after it.device failed,
         )) it.ends
         it.device.4)),
@@ -615,11 +615,11 @@ module _ (call : IoCall) (caller : Caller) (io : Io) (n : ℕ) (within : n < len
   )
 
   -- no key to come is taken
-  pub does-come : (step : IoStep) (effect : IoEffect) → IoDoes step caller io effect before after → come_of after n ≡ come_of before n
+  pub does-come : (step : IoStep) (effect : IoEffect) → HasIoEffect step caller io effect before after → come_of after n ≡ come_of before n
   does-come (refused number) effect (is, same) = ap (λ (terms : List TerminalState). come_of terms n) same
   does-come (comes it) effect (is, same) = ap (λ (terms : List TerminalState). come_of terms n) same
   does-come (reads read) effect it =
-      come-one (ReadAttempted (request_of caller read) it.answer (terminal_at io read.terminal) it.new) read.terminal n before after (λ old new reads_it. reads_it.driver.keys) it.device
+      come-one (TerminalReadAttempt (request_of caller read) it.answer (terminal_at io read.terminal) it.new) read.terminal n before after (λ old new reads_it. reads_it.driver.keys) it.device
   does-come (writes write) effect it =
-      come-one (WriteAttempted caller.process write.put write.count it.answer (terminal_at io write.terminal) it.new)
+      come-one (TerminalWriteAttempt caller.process write.put write.count it.answer (terminal_at io write.terminal) it.new)
       write.terminal n before after (λ old new writes_it. writes_it.driver.keys) it.device

@@ -1,8 +1,8 @@
 -- What becomes of the keys of a terminal in an event.
-use Rattle.io_model.specs.Read.{read_call}
 use Rattle.std.proofs.Common.{◌≡◌, ◌⊎◌, ℕ, ◌+◌, ◌≤◌, Some, None, Result, Ok, Err, List, [], ◌++◌, length, refl, sym, ap, ◌∙◌, subst, inl, inr, arith}
 use Rattle.std.proofs.lemmas.List.{length-append}
 use Rattle.std.proofs.lemmas.Option.{same_Some}
+use Rattle.io_model.specs.Read.{read_call}
 use Rattle.os9_base.specs.declared.errors.TheConstants.{E_WRITE}
 use Rattle.os9_outer.specs.TerminalState.{TerminalState}
 use Rattle.cpu_model.specs.Step.{Outcome, Done, Calls, Aborts}

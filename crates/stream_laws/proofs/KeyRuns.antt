@@ -15,7 +15,7 @@ use Rattle.file_rules.specs.Files.{Files}
 use Rattle.machine_model.specs.declared.ends.EventEnd.{EventEnd}
 use Rattle.machine_model.specs.declared.ends.SliceEnd.{SliceEnd}
 use Rattle.machine_model.specs.Console.{terminals_emptied}
-use Rattle.stream_laws.specs.Keys.{KeyMove, arrive, arrived_by, stay, use_up, EventKeys, KeyStepsFollow, HasAhead, IsKeyStep, KeyStep, KeysArrive, KeysPass, KeepsKeysToCome, after_event, ahead_at, ahead_moves, keys_to_come}
+use Rattle.stream_laws.specs.Keys.{KeyMove, arrive, arrived_by, stay, use_up, EventKeys, KeyStepsFollow, HasAhead, IsKeyStep, KeyStep, KeysArrive, KeysPass, KeepsAllButOrder, after_event, ahead_at, ahead_moves, keys_to_come}
 use Rattle.stream_laws.proofs.KeyAttempts.{come_of}
 use Rattle.stream_laws.proofs.KeyArrivals.{Polled, arrivals-polled, come-emptied}
 use Rattle.machine_model.proofs.Induction.{IsCarriedByMoves, along-run, along-slice}
@@ -53,17 +53,17 @@ tick-keys s t n (desk, arrives, is) has =
 
 -- ---- what stays from one step to the next
 
-stands-same : (s : State) → KeepsKeysToCome s s
+stands-same : (s : State) → KeepsAllButOrder s s
 stands-same s = record { io = refl; come = λ n. refl; processes = refl }
 
-stands-then : (s m t : State) → KeepsKeysToCome s m → KeepsKeysToCome m t → KeepsKeysToCome s t
+stands-then : (s m t : State) → KeepsAllButOrder s m → KeepsAllButOrder m t → KeepsAllButOrder s t
 stands-then s m t one two = record {
   io = two.io ∙ one.io;
   come = λ n. two.come n ∙ one.come n;
   processes = two.processes ∙ ap (λ (processes : Processes). let next : Processes = record processes { order = t.processes.order } in next) one.processes;
 }
 
-stands-choice : (s t : State) → Choose s t → KeepsKeysToCome s t
+stands-choice : (s t : State) → Choose s t → KeepsAllButOrder s t
 stands-choice s t is = record {
   io = ap (λ (t : State). t.files.io) is;
   come = λ n. ap (λ (t : State). keys_to_come t n) is;
@@ -74,7 +74,7 @@ stands-choice s t is = record {
     by_choice t is = ap (λ (t : State). t.processes) is
         ∙ ap (λ (order : List Turn). let next : Processes = record s.processes { order = order } in next) (sym (ap (λ (t : State). t.processes.order) is))
 
-follow-from : (s m : State) (steps : List KeyStep) (t : State) → KeepsKeysToCome s m → KeyStepsFollow m steps t → KeyStepsFollow s steps t
+follow-from : (s m : State) (steps : List KeyStep) (t : State) → KeepsAllButOrder s m → KeyStepsFollow m steps t → KeyStepsFollow s steps t
 follow-from s m [] t stands linked = stands-then s m t stands linked
 follow-from s m (it ∷ steps) t stands linked = (stands-then s m it.before stands linked.0, linked.1)
 
@@ -102,7 +102,7 @@ keeps-none : (n : ℕ) (s : State) → HasAhead n s → Keeps n s [] s
 keeps-none n s has = (passes n s [] s [] refl (stands-same s) tt refl refl, has)
 
 -- a state with the same keys
-keeps-from : (n : ℕ) (s m : State) (states : List State) (t : State) → KeepsKeysToCome s m → Keeps n m states t → Keeps n s states t
+keeps-from : (n : ℕ) (s m : State) (states : List State) (t : State) → KeepsAllButOrder s m → Keeps n m states t → Keeps n s states t
 keeps-from n s m states t stands (it, has) = (
   passes n s states t it.steps it.through (follow-from s m it.steps t stands it.linked) it.each (sym (stands.come n) ∙ it.come)
       (subst (λ (held : List ℕ). Flows (ahead_moves n it.steps) held (ahead_at t n)) (ap (λ (io : Io). (terminal_at io n).ahead) stands.io) it.flow),
@@ -134,7 +134,7 @@ keeps-event n s m states t end stay event stays (it, has) = (
 
 -- ---- slices and runs
 
-stands-emptied : (m : State) → KeepsKeysToCome m (record m { terms = terminals_emptied m.terms })
+stands-emptied : (m : State) → KeepsAllButOrder m (record m { terms = terminals_emptied m.terms })
 stands-emptied m = record { io = refl; come = λ n. come-emptied m.terms n; processes = refl }
 
 -- a state with the same input and output
@@ -149,7 +149,7 @@ module _ (n : ℕ) where
   Passes s states t = HasAhead n s → Keeps n s states t
 
   -- a state that stands as the one before it
-  passes-on : (s m t : State) (states : List State) → KeepsKeysToCome s m → Passes m states t → Passes s states t
+  passes-on : (s m t : State) (states : List State) → KeepsAllButOrder s m → Passes m states t → Passes s states t
   passes-on s m t states stands rest has =
       keeps-from n s m states t stands (rest (has-same n s m stands.io has))
 

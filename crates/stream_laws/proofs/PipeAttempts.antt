@@ -10,7 +10,7 @@ use Rattle.io_model.specs.declared.path.SysPath.{SysPath}
 use Rattle.io_model.specs.declared.path.Target.{Target}
 use Rattle.io_model.specs.declared.path.Target.TheVariants.{File, Folder, Term, Pipe}
 use Rattle.io_model.specs.declared.path.TheConstants.{PROCESS_PATHS}
-use Rattle.io_model.specs.Attempts.{IoDoes, result_by}
+use Rattle.io_model.specs.Attempts.{HasIoEffect, result_by}
 use Rattle.io_model.specs.Io.{Io, pipe_bytes}
 use Rattle.io_model.specs.Processes.{closed_below, closed_if_open, io_ended}
 use Rattle.io_model.specs.Step.{Caller, IoEffect, IoEnd, IoStep, answers, fails, keeps, refused, comes, reads, writes}
@@ -46,7 +46,7 @@ interrupted-left n io p = unfinished-left n io p (wait_target io p)
 -- ---- an attempt of a call on paths
 
 pub does-moves : (call : IoCall) (caller : Caller) (io : Io) (n : ℕ) (step : IoStep) (effect : IoEffect)
-    (before after : List TerminalState) → StepMoves call caller io n step → IoDoes step caller io effect before after
+    (before after : List TerminalState) → StepMoves call caller io n step → HasIoEffect step caller io effect before after
     → IsPipe io.pipes n → IsPipe effect.io.pipes n → Moved call caller io n effect
 does-moves call caller io n (refused number) effect before after moves (is, same) lives still =
     inl (subst (λ (effect : IoEffect). Leaves call caller io n effect) (sym is) (record { held = refl; ends = λ way coded on. (tt, refl) }))
@@ -59,7 +59,7 @@ does-moves call caller io n (writes write) effect before after moves does lives 
 
 -- and a pipe that was not there is empty, if it is there
 pub does-fresh : (call : IoCall) (caller : Caller) (io : Io) (n : ℕ) (step : IoStep) (effect : IoEffect)
-    (before after : List TerminalState) → StepMoves call caller io n step → IoDoes step caller io effect before after
+    (before after : List TerminalState) → StepMoves call caller io n step → HasIoEffect step caller io effect before after
     → IsAbsent call caller io n → StaysEmpty n effect.io
 does-fresh call caller io n (refused number) effect before after moves (is, same) absent =
     inl (ap (λ (effect : IoEffect). pipe_of effect.io.pipes n) is ∙ absent.none)

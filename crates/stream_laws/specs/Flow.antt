@@ -1,8 +1,8 @@
 -- What events move through a pipe (Level Two manual, "Pipes").
-use Rattle.call_laws.specs.Refusals.{sent_by}
 use Rattle.std.specs.Prelude.{◌≡◌, ◌≢◌, ℕ, ⊤, ◌+◌, ◌-◌, ◌<◌, Option, Some, None, List, [], ◌∷◌, ◌++◌, length, map, take, drop, if◌then◌else◌}
 use Rattle.std.specs.List.{AllByRecursion, filter_map, flat_map}
 use Rattle.std.specs.Option.{option_map_or}
+use Rattle.call_laws.specs.Refusals.{sent_by}
 use Rattle.os9_base.specs.declared.calls.TheConstants.{I_READ}
 use Rattle.os9_base.specs.declared.registers.Regs.{Regs}
 use Rattle.proc_model.specs.MemoryChanges.{stored}

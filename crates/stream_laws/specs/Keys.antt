@@ -1,8 +1,8 @@
 -- The use of the keys of a terminal (Level Two manual, SCF).
-use Rattle.io_model.specs.Read.{read_call}
 use Rattle.std.specs.Prelude.{◌≡◌, ◌≢◌, ◌⊎◌, ℕ, ◌-◌, ◌<◌, ◌≤◌, min, true, false, Option, Some, None, List, [], ◌∷◌, ◌++◌, length, slice_get, take}
 use Rattle.std.specs.List.{AllByRecursion, filter_map, flat_map}
 use Rattle.std.specs.Option.{option_map_or}
+use Rattle.io_model.specs.Read.{read_call}
 use Rattle.os9_base.specs.Count.{Rose}
 use Rattle.os9_base.specs.declared.errors.TheConstants.{E_EOF, E_WRITE}
 use Rattle.os9_base.specs.declared.registers.Regs.{Regs}
@@ -220,7 +220,7 @@ ahead_moves n steps = filter_map (λ it. through_ahead n it.before it.move) step
 -- What a run leaves unchanged from one step to the next: a choice, and the host, who takes the bytes that terminals
 -- were given, leave unchanged the kernel's input and output, the keys to come, and all of the processes except the
 -- order of choice.
-pub record KeepsKeysToCome (m s : State) : Type 0 where
+pub record KeepsAllButOrder (m s : State) : Type 0 where
   pub io : s.files.io ≡ m.files.io
   pub come : (n : ℕ) → keys_to_come s n ≡ keys_to_come m n
   pub processes : s.processes ≡ record m.processes { order = s.processes.order }
@@ -228,8 +228,8 @@ pub record KeepsKeysToCome (m s : State) : Type 0 where
 -- each of these steps begins in the state after the one before it, the first one in s, and t is the state after the
 -- last one
 abbrev pub KeyStepsFollow : State → List KeyStep → State → Type 0
-KeyStepsFollow s [] t = KeepsKeysToCome s t
-KeyStepsFollow s (it ∷ steps) t = KeepsKeysToCome s it.before × KeyStepsFollow it.after steps t
+KeyStepsFollow s [] t = KeepsAllButOrder s t
+KeyStepsFollow s (it ∷ steps) t = KeepsAllButOrder s it.before × KeyStepsFollow it.after steps t
 
 -- the state after a step, if that is an event
 abbrev pub after_event : KeyMove → State → Option State

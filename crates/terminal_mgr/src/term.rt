@@ -1,6 +1,6 @@
 ghost use Rattle.std.specs.Prelude.{◌≡◌, ◌<◌, ◌≤◌, IfOk, length};
 ghost use Rattle.io_model.specs.Line.{line_length, line_put};
-ghost use Rattle.io_model.specs.Terminal.{new_terminal, reader, released, forgotten, Arrives, ReadAttempted, WriteAttempted, IsSameCall, stored_over, stored_bytes};
+ghost use Rattle.io_model.specs.Terminal.{new_terminal, reader, released, forgotten, Arrives, TerminalReadAttempt, TerminalWriteAttempt, IsSameCall, stored_over, stored_bytes};
 ghost use Rattle.terminal_mgr.specs.Term.{lent_terminal_state, read_of};
 ghost use Rattle.io_model.specs.declared.terminal.ReadKind.TheVariants.{Bytes, WholeLine};
 
@@ -94,7 +94,7 @@ impl Term {
         requires most { most ≤ 256 }
         requires buffer { most ≤ length into.old }
         requires same { IsSameCall (read_of p Bytes most) self.old }
-        ensures read { ReadAttempted (read_of p Bytes most) result self.old self.new
+        ensures read { TerminalReadAttempt (read_of p Bytes most) result self.old self.new
             (lent_terminal_state CharDriver-dyn d.old) (lent_terminal_state CharDriver-dyn d.new) }
         ensures stored { into.new ≡ stored_over (stored_bytes result
             (read_of p Bytes most) self.old) into.old }
@@ -123,7 +123,7 @@ impl Term {
         requires most { most ≤ 256 }
         requires buffer { most ≤ length into.old }
         requires same { IsSameCall (read_of p WholeLine most) self.old }
-        ensures read { ReadAttempted (read_of p WholeLine most) result self.old self.new
+        ensures read { TerminalReadAttempt (read_of p WholeLine most) result self.old self.new
             (lent_terminal_state CharDriver-dyn d.old) (lent_terminal_state CharDriver-dyn d.new) }
         ensures stored { into.new ≡ stored_over (stored_bytes result
             (read_of p WholeLine most) self.old) into.old }
@@ -144,7 +144,7 @@ impl Term {
         requires most { request.most ≤ 256 }
         requires buffer { request.most ≤ length into.old }
         requires same { IsSameCall request self.old }
-        ensures read { ReadAttempted request result self.old self.new
+        ensures read { TerminalReadAttempt request result self.old self.new
             (lent_terminal_state CharDriver-dyn d.old) (lent_terminal_state CharDriver-dyn d.new) }
         ensures stored { into.new ≡ stored_over (stored_bytes result request self.old) into.old }
     {
@@ -161,7 +161,7 @@ impl Term {
     /// before it are out, and the unfinished read of any process is dropped.
     pub fn write(&mut self, p: Pid, bytes: &[u8], d: &mut dyn CharDriver) -> Progress
         requires { length bytes.now ≤ 65535 }
-        ensures { WriteAttempted p bytes.now (length bytes.now) result self.old self.new
+        ensures { TerminalWriteAttempt p bytes.now (length bytes.now) result self.old self.new
             (lent_terminal_state CharDriver-dyn d.old) (lent_terminal_state CharDriver-dyn d.new) }
     {
         self.user = Some(p);
@@ -178,8 +178,8 @@ impl Term {
     /// The returned count does not include the line feed. Otherwise as [`Term::write`].
     pub fn write_line(&mut self, p: Pid, bytes: &[u8], d: &mut dyn CharDriver) -> Progress
         requires { length bytes.now ≤ 65535 }
-        ensures { WriteAttempted p (line_put bytes.now) (line_length bytes.now) result self.old
-            self.new (lent_terminal_state CharDriver-dyn d.old)
+        ensures { TerminalWriteAttempt p (line_put bytes.now) (line_length bytes.now) result
+            self.old self.new (lent_terminal_state CharDriver-dyn d.old)
             (lent_terminal_state CharDriver-dyn d.new) }
     {
         self.user = Some(p);

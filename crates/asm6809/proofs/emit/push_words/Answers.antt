@@ -1,10 +1,10 @@
 -- Each part is the next of the text.
-use Rattle.proc_model.specs.UserBytes.{word_bytes}
 use Rattle.std.proofs.Common.{ℕ, List, ◌++◌, length, refl, ap, ◌∙◌, rules, tests}
 use Rattle.std.specs.List.{flat_map, slice_split}
 use Rattle.std.proofs.lemmas.List.{length_push}
 use Rattle.std.proofs.lemmas.Iterator.Consumers.{YieldsList-turn, YieldsList-end}
 use Rattle.std.proofs.lemmas.Iterator.Splits.{YieldsList-from_slice_split}
+use Rattle.proc_model.specs.UserBytes.{word_bytes}
 use Rattle.asm_model.specs.Characters.{is_comma}
 use Rattle.asm6809.specs.Bytes.{word_in}
 use Rattle.asm6809.proofs.PushLemmas.{pushed-next, pushed-all}

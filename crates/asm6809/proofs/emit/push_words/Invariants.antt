@@ -1,7 +1,7 @@
 -- The parts so far are put, and those that are left follow.
-use Rattle.proc_model.specs.UserBytes.{word_bytes}
 use Rattle.std.proofs.Common.{◌≡◌, ℕ, List, ◌++◌, length, drop}
 use Rattle.std.specs.List.{flat_map, slice_split}
+use Rattle.proc_model.specs.UserBytes.{word_bytes}
 use Rattle.asm_model.specs.Characters.{is_comma}
 use Rattle.asm6809.specs.Bytes.{word_in}
 use Rattle.asm6809.proofs.emit.push_words.Given as goal

@@ -1,6 +1,6 @@
-use Rattle.proc_model.specs.Memory.{with_modules}
 use Rattle.std.proofs.Common.{◌≡◌, ℕ, Err, subst, sym, true, arith}
 use Rattle.std.proofs.lemmas.Result.{err_from_is_err_and}
+use Rattle.proc_model.specs.Memory.{with_modules}
 use Rattle.proc_model.specs.Loading.{EntersModules, at_end, broken, refused, entered, with_module}
 use Rattle.proc_model.specs.Module.{step_from}
 use Rattle.proc_model.specs.declared.module.ModuleStep.TheVariants.{Module}

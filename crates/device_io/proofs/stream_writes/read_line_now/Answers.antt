@@ -1,6 +1,6 @@
-use Rattle.os9_base.specs.UserLines.{line_at}
 use Rattle.std.proofs.Common.{◌∙◌, ◌<◌, None, Option, ap, sym, subst}
 use Rattle.std.specs.Prelude.{IfSome}
+use Rattle.os9_base.specs.UserLines.{line_at}
 use Rattle.os9_base.specs.declared.registers.Regs.{Regs}
 use Rattle.proc_model.specs.Processes.{cells_at}
 use Rattle.io_model.specs.declared.pending.PendingCall.{PendingCall}

@@ -1,5 +1,5 @@
-use Rattle.io_model.specs.Step.{TerminalRead}
 use Rattle.std.proofs.Common.{take}
+use Rattle.io_model.specs.Step.{TerminalRead}
 use Rattle.io_state.specs.Terminals.{count_of}
 use Rattle.io_state.proofs.RequesterLemmas.{called-regs}
 use Rattle.device_io.proofs.DeviceLemmas.{tries-read}

@@ -1,6 +1,6 @@
+use Rattle.std.proofs.Common.{◌≡◌, ◌∙◌, ◌<◌, ℕ, Option, Some, None, List, length, option_map, take, ap, sym, subst, arith, length-take}
 use Rattle.proc_state.proofs.Entered.{some-machine}
 use Rattle.os9_base.specs.UserLines.{line_at}
-use Rattle.std.proofs.Common.{◌≡◌, ◌∙◌, ◌<◌, ℕ, Option, Some, None, List, length, option_map, take, ap, sym, subst, arith, length-take}
 use Rattle.proc_model.specs.Processes.{cells_at}
 use Rattle.device_io.proofs.LineLemmas.{line-is}
 use Rattle.lock_model.specs.Locks.{Locks, request_of}

@@ -1,5 +1,5 @@
-use Rattle.os9_base.specs.declared.call.CallEnd.{CallEnd}
 use Rattle.std.proofs.Common.{◌≡◌, ◌∙◌, true, false, is_some, take, subst, sym, ap}
+use Rattle.os9_base.specs.declared.call.CallEnd.{CallEnd}
 use Rattle.proc_model.specs.Processes.{cells_at, with_memory, with_regs_of}
 use Rattle.proc_model.specs.UserBytes.{user_bytes}
 use Rattle.proc_state.specs.Tie.{RepresentsProcesses}

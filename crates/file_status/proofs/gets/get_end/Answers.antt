@@ -1,6 +1,6 @@
-use Rattle.os9_base.specs.declared.call.CallEnd.{CallEnd}
 use Rattle.std.proofs.Common.{◌≡◌, true, false, nat_le, arith, ◌∙◌, ap}
 use Rattle.std.proofs.lemmas.Bool.Decides.{nat_tests}
+use Rattle.os9_base.specs.declared.call.CallEnd.{CallEnd}
 use Rattle.io_state.proofs.RequesterLemmas.{called-regs}
 use Rattle.file_status.proofs.GetLemmas.{end-failed, end-not-reached, end-reached}
 use Rattle.file_status.proofs.StandLemmas.{uncalled-by, with_disks}

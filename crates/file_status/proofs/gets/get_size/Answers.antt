@@ -1,5 +1,5 @@
-use Rattle.os9_base.specs.declared.call.CallEnd.{CallEnd}
 use Rattle.std.proofs.Common.{subst, ◌∙◌, ap}
+use Rattle.os9_base.specs.declared.call.CallEnd.{CallEnd}
 use Rattle.os9_base.specs.declared.registers.Regs.{Regs}
 use Rattle.proc_model.specs.Processes.{with_regs_of}
 use Rattle.proc_state.specs.Tie.{RepresentsProcesses}

@@ -1,5 +1,5 @@
-use Rattle.load_calls.proofs.OutcomeLemmas.{tried-ok, tried-refused}
 use Rattle.std.proofs.Common.{Err, Ok, refl}
+use Rattle.load_calls.proofs.OutcomeLemmas.{tried-ok, tried-refused}
 use Rattle.load_calls.proofs.entering.enter_file.Goals as goal
 
 pub returns-in-Err : goal.returns-in-Err

@@ -1,5 +1,5 @@
-use Rattle.proc_state.proofs.Entered.{some-machine}
 use Rattle.std.proofs.Common.{◌≡◌, ◌∙◌, refl, sym}
+use Rattle.proc_state.proofs.Entered.{some-machine}
 use Rattle.file_rules.specs.Attempts.{asker_of}
 use Rattle.file_state.specs.declared.state.FileState.{FileState}
 use Rattle.proc_model.specs.Processes.{user_at}

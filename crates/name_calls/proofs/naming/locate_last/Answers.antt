@@ -1,5 +1,5 @@
-use Rattle.proc_state.proofs.Entered.{some-machine}
 use Rattle.std.proofs.Common.{ℕ, ◌<◌, Option, refl, subst, vec_len}
+use Rattle.proc_state.proofs.Entered.{some-machine}
 use Rattle.proc_model.specs.Processes.{cells_at}
 use Rattle.guest_memory.specs.Tie.{cells_of}
 use Rattle.proc_state.proofs.Living.{IsProcess-living}

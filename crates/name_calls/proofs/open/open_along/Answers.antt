@@ -1,5 +1,5 @@
-use Rattle.proc_state.proofs.Entered.{some-machine}
 use Rattle.std.proofs.Common.{◌∙◌, None, Some, ap, refl}
+use Rattle.proc_state.proofs.Entered.{some-machine}
 use Rattle.os9_base.specs.declared.call.CallEnd.TheVariants.{Error}
 use Rattle.file_rules.specs.Attempts.{asker_of}
 use Rattle.file_rules.specs.Files.{with_drives}

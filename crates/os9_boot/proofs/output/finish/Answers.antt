@@ -1,5 +1,5 @@
-use Rattle.os9_words.specs.Notes.{Notes, notes_of}
 use Rattle.std.proofs.Common.{[], sym, subst}
+use Rattle.os9_words.specs.Notes.{Notes, notes_of}
 use Rattle.os9_boot.specs.VolLeft.{NotesOutputs}
 use Rattle.os9_boot.proofs.OutputLemmas.{noted-print, print-ends, prints-then}
 use Rattle.os9_boot.proofs.output.finish.Goals as goal

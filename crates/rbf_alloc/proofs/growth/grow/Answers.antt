@@ -8,7 +8,7 @@ use Rattle.rbf_change.specs.Calls.{shape, cluster_size}
 use Rattle.rbf_access.specs.MapMarks.{has_mark_of}
 use Rattle.rbf_access.proofs.Mounting.{free_total_is}
 use Rattle.rbf_alloc.specs.Grown.{IsGrown, is_gained}
-use Rattle.rbf_alloc.specs.Gained.{AreMapPlaces, AreSizes, IsGivenBack}
+use Rattle.rbf_alloc.specs.Gained.{AreMapped, AreSizes, IsGivenBack}
 use Rattle.rbf_alloc.specs.Marked.{AllWritten}
 use Rattle.rbf_alloc.proofs.Gaining.{places_gained, those_gained}
 use Rattle.rbf_alloc.proofs.Growing.{agrees_on, mounted_same, sizes_are, apart_is, too_many_is, marked_fresh, grown, grown_agrees, ended, back_agrees, mounted_where, full_is, if_some, sizes_after, enough_free, wanted_all, wanted_gained, wanted_calls, at_most_all, at_most_count, at_most_wanted}
@@ -76,7 +76,7 @@ give_back-requires-clause-places g c =
     let m = c.requires.mounted in
     let sizes = sizes_are c.args.volume.now m.on.image m.content m.on.vol m.agrees in
     let same = ap (λ (kv : MountedPart). kv.map) c.in-Err.ensures.volume_kept in
-    subst (λ n. AreMapPlaces c.args.volume.now.ident.cluster n c.in_ok-longer.longer c.sectors.result c.args.count) (sym same)
+    subst (λ n. AreMapped c.args.volume.now.ident.cluster n c.in_ok-longer.longer c.sectors.result c.args.count) (sym same)
     (places_gained c.args.volume.now.ident.cluster c.args.count c.args.volume.now.map c.gain.new.map c.args.segs.now c.in_ok-longer.longer c.in_ok-longer.ensures.ok.gain sizes.some sizes.sectors
     (enough_free _ _ _ _ c.in_ok-longer.ensures.full) c.sectors.result c.sectors.ensures.count c.sectors.ensures.few)
 

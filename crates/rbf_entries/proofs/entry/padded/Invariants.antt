@@ -1,5 +1,5 @@
-use Rattle.os9_base.specs.Name.{marked_name}
 use Rattle.std.proofs.Common.{◌≡◌, ◌-◌, take, ◌++◌, replicate}
+use Rattle.os9_base.specs.Name.{marked_name}
 use Rattle.rbf_entries.proofs.entry.padded.Given as goal
 
 abbrev pub invariant-loop-i : goal.invariant-loop-i

@@ -1,6 +1,6 @@
-use Rattle.rbf_model.specs.Disk.{disk_of}
 use Rattle.std.proofs.Common.{◌≡◌, ◌*◌, ◌<◌, List, ℕ, Some, None, length, get_or, arith}
 use Rattle.std.proofs.lemmas.Bool.{false≢true}
+use Rattle.rbf_model.specs.Disk.{disk_of}
 use Rattle.rbf_model.specs.Geometry.{sector}
 use Rattle.rbf_sector.specs.Ident.{geometry_of}
 use Rattle.rbf_sector_rules.specs.Reading.{listed}

@@ -1,6 +1,6 @@
+use Rattle.std.proofs.Common.{◌<◌}
 use Rattle.guest_memory.proofs.LinkCalls.{some_from, sound-link, tied-link}
 use Rattle.proc_model.specs.ModuleList.{module_entry_at}
-use Rattle.std.proofs.Common.{◌<◌}
 use Rattle.guest_memory.proofs.memory.Memory.link.Goals as goal
 
 pub invariant_of-self : goal.invariant_of-self

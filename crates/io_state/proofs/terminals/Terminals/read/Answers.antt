@@ -1,6 +1,6 @@
 use Rattle.std.proofs.Common.{◌≡◌, ◌∙◌, List, ap, get_or, arith}
 use Rattle.std.proofs.lemmas.List.{get_or_read}
-use Rattle.io_model.specs.Terminal.{Terminal, new_terminal, ReadAttempted, stored_bytes}
+use Rattle.io_model.specs.Terminal.{Terminal, new_terminal, TerminalReadAttempt, stored_bytes}
 use Rattle.io_state.proofs.TerminalLemmas.{terminal-changed}
 use Rattle.io_state.proofs.WaitLemmas.{stored-count, stored-front}
 use Rattle.io_state.specs.Terminals.{count_of}
@@ -8,7 +8,7 @@ use Rattle.io_state.proofs.terminals.Terminals.read.Goals as goal
 
 pub returns-clause-device : goal.returns-clause-device
 returns-clause-device g c =
-    terminal-changed _ (λ t u before after. ReadAttempted c.args.request c.read_in_box.result t u before after)
+    terminal-changed _ (λ t u before after. TerminalReadAttempt c.args.request c.read_in_box.result t u before after)
     c.self.inside.terms.items c.args.self.now c.args.devices.now.terms.items c.args.n c.index_mut.result.now
     c.read_in_box.new.term c.index_mut-2.result.now c.read_in_box.new.driver c.self.view_is
     (omega (arith, c.self.invariant, c.requires.terminal)) (omega (arith, c.args.devices.now.terms.ok.0))

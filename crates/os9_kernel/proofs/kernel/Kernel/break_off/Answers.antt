@@ -1,5 +1,5 @@
-use Rattle.proc_state.proofs.Entered.{some-machine}
 use Rattle.std.proofs.Common.{◌<◌, length, sym, ap, ◌∙◌, subst}
+use Rattle.proc_state.proofs.Entered.{some-machine}
 use Rattle.proc_model.specs.declared.record.Record.{Record}
 use Rattle.proc_model.specs.Records.{IsLiving, record_at}
 use Rattle.proc_model.specs.Processes.{Processes}

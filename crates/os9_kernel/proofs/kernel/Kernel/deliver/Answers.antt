@@ -1,6 +1,6 @@
-use Rattle.proc_state.proofs.Entered.{some-machine}
 use Rattle.std.proofs.Common.{◌≡◌, ◌<◌, ℕ, Some, false, None, Result, List, length, refl, sym, ap, ◌∙◌, subst, arith}
 use Rattle.std.specs.Prelude.{slice_index_or}
+use Rattle.proc_state.proofs.Entered.{some-machine}
 use Rattle.proc_model.specs.declared.own.Own.{Own}
 use Rattle.proc_model.specs.declared.record.Record.{Record}
 use Rattle.proc_model.specs.Records.{IsLiving, record_at, is_waiting}

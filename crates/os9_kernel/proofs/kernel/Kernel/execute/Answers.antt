@@ -1,5 +1,5 @@
-use Rattle.proc_state.proofs.Entered.{some-machine}
 use Rattle.std.proofs.Common.{◌≡◌, ◌≤◌, ◌<◌, ◌+◌, ◌-◌, ◌*◌, ℕ, Option, Some, List, inr, refl, sym, ap, ◌∙◌, subst, arith}
+use Rattle.proc_state.proofs.Entered.{some-machine}
 use Rattle.os9_base.specs.declared.registers.Regs.{Regs}
 use Rattle.cpu_model.specs.declared.stop.Stop.{Stop}
 use Rattle.cpu_model.specs.declared.stop.Stop.TheVariants.{Next, Call, Abort}

@@ -1,5 +1,5 @@
-use Rattle.proc_state.proofs.Entered.{some-machine}
 use Rattle.std.proofs.Common.{ap, ◌∙◌}
+use Rattle.proc_state.proofs.Entered.{some-machine}
 use Rattle.os9_base.specs.declared.registers.Regs.{Regs}
 use Rattle.proc_model.specs.Processes.{Processes}
 use Rattle.os9_kernel.specs.Paths.{number_in_a}

@@ -1,5 +1,5 @@
-use Rattle.proc_state.proofs.Entered.{some-machine}
 use Rattle.std.proofs.Common.{refl, sym, subst}
+use Rattle.proc_state.proofs.Entered.{some-machine}
 use Rattle.os9_base.specs.declared.errors.TheConstants.{E_UNKSVC}
 use Rattle.proc_model.specs.Attempts.{after_attempt, goes_on, refused_regs}
 use Rattle.proc_model.specs.CallResult.{refused}

@@ -1,5 +1,5 @@
-use Rattle.rbf_model.specs.Disk.{disk_of}
 use Rattle.std.proofs.Common.{◌-◌, ◌*◌, ◌≤◌}
+use Rattle.rbf_model.specs.Disk.{disk_of}
 use Rattle.rbf_model.specs.Geometry.{sector}
 use Rattle.rbf_sector.specs.Ident.{geometry_of}
 use Rattle.rbf_sector_rules.specs.Walk.{IsSearching}
